@@ -11,7 +11,8 @@ pub record Supply : Type 0 where
   pub calls : ℕ
   pub faults : ℕ
 
--- what a sink holds, how much it takes in all and a call, which calls fail, how many there were, and how often one failed
+-- what a sink holds, how much it takes in all and a call, which calls fail, how many there were, and how often one
+-- failed
 pub record Store : Type 0 where
   pub written : List ℕ
   pub room : ℕ
@@ -21,12 +22,24 @@ pub record Store : Type 0 where
   pub faults : ℕ
 
 abbrev pub supply_code : Coded Supply
-supply_code = code_by (List ℕ × (ℕ × (List ℕ × (ℕ × ℕ)))) (coded× (coded_list coded_ℕ) (coded× coded_ℕ (coded× (coded_list coded_ℕ) (coded× coded_ℕ coded_ℕ))))
-    (λ s. (s.left, (s.most, (s.fail, (s.calls, s.faults))))) (λ p. record { left = p.0; most = p.1.0; fail = p.1.1.0; calls = p.1.1.1.0; faults = p.1.1.1.1 }) (λ _. refl)
+supply_code = code_by (List ℕ × (ℕ × (List ℕ × (ℕ × ℕ))))
+    (coded× (coded_list coded_ℕ) (coded× coded_ℕ (coded× (coded_list coded_ℕ) (coded× coded_ℕ coded_ℕ))))
+    (λ s. (s.left, (s.most, (s.fail, (s.calls, s.faults)))))
+    (λ p. record { left = p.0; most = p.1.0; fail = p.1.1.0; calls = p.1.1.1.0; faults = p.1.1.1.1 }) (λ _. refl)
 
 abbrev pub store_code : Coded Store
-store_code = code_by (List ℕ × (ℕ × (ℕ × (List ℕ × (ℕ × ℕ))))) (coded× (coded_list coded_ℕ) (coded× coded_ℕ (coded× coded_ℕ (coded× (coded_list coded_ℕ) (coded× coded_ℕ coded_ℕ)))))
-    (λ s. (s.written, (s.room, (s.most, (s.fail, (s.calls, s.faults)))))) (λ p. record { written = p.0; room = p.1.0; most = p.1.1.0; fail = p.1.1.1.0; calls = p.1.1.1.1.0; faults = p.1.1.1.1.1 }) (λ _. refl)
+store_code = code_by (List ℕ × (ℕ × (ℕ × (List ℕ × (ℕ × ℕ)))))
+    (coded× (coded_list coded_ℕ) (coded× coded_ℕ
+    (coded× coded_ℕ (coded× (coded_list coded_ℕ) (coded× coded_ℕ coded_ℕ)))))
+    (λ s. (s.written, (s.room, (s.most, (s.fail, (s.calls, s.faults))))))
+    (λ p. record {
+      written = p.0;
+      room = p.1.0;
+      most = p.1.1.0;
+      fail = p.1.1.1.0;
+      calls = p.1.1.1.1.0;
+      faults = p.1.1.1.1.1;
+    }) (λ _. refl)
 
 -- one more call; the number stands still at its type's end
 abbrev pub next_call : ℕ → ℕ

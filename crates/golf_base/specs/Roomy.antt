@@ -10,7 +10,8 @@ pub record Roomy (T : Type 0) : Type 0 where
 -- it is stored as the pair of its fields
 abbrev pub roomy_code : {T : Type 0} → Coded T → Coded (Roomy T)
 roomy_code c =
-    code_by (List _ × ℕ) (coded× (coded_list c) coded_ℕ) (λ r. (r.items, r.spare)) (λ p. record { items = p.0; spare = p.1 }) (λ _. refl)
+    code_by (List _ × ℕ) (coded× (coded_list c) coded_ℕ) (λ r. (r.items, r.spare))
+    (λ p. record { items = p.0; spare = p.1 }) (λ _. refl)
 
 -- the same room, its items written over
 abbrev pub with_overwritten : {T : Type 0} → Roomy T → List T → Roomy T

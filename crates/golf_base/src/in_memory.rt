@@ -5,7 +5,8 @@ ghost use Rattle.std.specs.Prelude.{◌≡◌, ◌<◌, ◌≤◌, ◌↔◌, []
 ghost use Rattle.std.specs.Io.{ReadsAtMost, WritesAtMost};
 ghost use Rattle.std.specs.Io.KnownBytes.{ReadConsumes, WriteAppends};
 ghost use Rattle.golf_base.specs.Causes.{HasCause};
-ghost use Rattle.golf_base.specs.InMemory.{given, after_read, after_failed_read, taken, next_call, IsRefused, after_write, after_failed_write};
+ghost use Rattle.golf_base.specs.InMemory.{given, after_read, after_failed_read, taken, next_call, IsRefused};
+ghost use Rattle.golf_base.specs.InMemory.{after_write, after_failed_write};
 
 use crate::streams::{Failed, Sink, Source, one_more};
 use crate::{List, Memory};

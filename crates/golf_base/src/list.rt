@@ -1,6 +1,7 @@
 //! A vector that contracts see as the list of its items.
 
-ghost use Rattle.std.specs.Prelude.{◌≡◌, [], ◌∷◌, ◌++◌, ◌<◌, ◌↔◌, length, remove, replicate, slice_get, slice_set, Some, take, IsTrue, MatchOption, OnOk, OnErr};
+ghost use Rattle.std.specs.Prelude.{◌≡◌, [], ◌∷◌, ◌++◌, ◌<◌, ◌↔◌, length, remove, replicate, slice_get, slice_set};
+ghost use Rattle.std.specs.Prelude.{Some, take, IsTrue, MatchOption, OnOk, OnErr};
 ghost use Rattle.std.specs.Borrow.{Lends, sem, Array};
 ghost use Rattle.golf_base.specs.contracts.list.List.{the_row};
 ghost use Rattle.golf_base.specs.Overwritten.{overwritten};

@@ -1,6 +1,7 @@
 //! A vector of which contracts also see how many items it can take without memory.
 
-ghost use Rattle.std.specs.Prelude.{◌≡◌, [], ◌∷◌, ◌++◌, ◌+◌, ◌-◌, ◌<◌, ◌≤◌, ◌↔◌, length, remove, slice_get, take, IsTrue, MatchOption, OnOk, OnErr, IfOk};
+ghost use Rattle.std.specs.Prelude.{◌≡◌, [], ◌∷◌, ◌++◌, ◌+◌, ◌-◌, ◌<◌, ◌≤◌, ◌↔◌, length, remove, slice_get, take};
+ghost use Rattle.std.specs.Prelude.{IsTrue, MatchOption, OnOk, OnErr, IfOk};
 ghost use Rattle.std.specs.Borrow.{Lends, sem, Array};
 ghost use Rattle.golf_base.specs.contracts.room.Room.{the_row};
 ghost use Rattle.golf_base.specs.Roomy.{with_overwritten};

@@ -11,6 +11,8 @@ use Rattle.golf_base.specs.declared.ids.GoroutineId.{GoroutineId}
 tested : (x y : ℕ) → is_le (nat_cmp x y) ≡ true → x ≤ y
 tested x y e = grind (arith, tests)
 
-pub rising : (gs : List GoroutineId) (r : Bool) → r ≡ true → IsAllAdjacentAnswer (λ (x : GoroutineId) (y : GoroutineId) b. is_some_and is_le (Some (nat_cmp x.0 y.0)) ≡ b) gs r → IsNonDecreasingBy (λ (g : GoroutineId). g.0) gs
+pub rising : (gs : List GoroutineId) (r : Bool) → r ≡ true
+    → IsAllAdjacentAnswer (λ (x : GoroutineId) (y : GoroutineId) b. is_some_and is_le (Some (nat_cmp x.0 y.0)) ≡ b) gs r
+    → IsNonDecreasingBy (λ (g : GoroutineId). g.0) gs
 rising gs true e h = IsNonDecreasingBy-from_all_adjacent (λ (g : GoroutineId). g.0) gs (λ k d l. tested _ _ (h k d l))
 rising gs false e h = cc

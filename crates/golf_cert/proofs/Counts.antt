@@ -1,7 +1,8 @@
 -- Lists with the same numbers, each as often, are of one length; the computed places are each there once.
 -- For: `LeastComputed` (golf_cert/specs/Laws.antt) and `least_is_computed` (src/laws.rt)
 -- By: induction over the list of numbers
-use Rattle.std.proofs.Common.{◌≡◌, ℕ, zero, suc, ◌+◌, ◌≤◌, inl, inr, Bool, true, false, cond, List, [], ◌∷◌, ◌++◌, length, length-append, filter, sym, ap, subst, arith}
+use Rattle.std.proofs.Common.{◌≡◌, ℕ, zero, suc, ◌+◌, ◌≤◌, inl, inr, Bool, true, false, cond, List, [], ◌∷◌, ◌++◌}
+use Rattle.std.proofs.Common.{length, length-append, filter, sym, ap, subst, arith}
 use Rattle.std.specs.List.{range_with_len}
 use Rattle.std.proofs.lemmas.Bool.{cases_eq, cases_lt}
 use Rattle.golf_theory.specs.Membership.{In}
@@ -31,7 +32,14 @@ one_less a b xs x y h = elim (cases_eq x y) [
       let left = subst (λ (z : ℕ). times z (x ∷ xs) ≡ 1 + times z xs) same (times-cons_same x xs) in
       let right = subst (λ (z : ℕ). times z (x ∷ b) ≡ 1 + times z b) same (times-cons_same x b) in
       omega (arith, h, left, right, times-append y a (x ∷ b), times-append y a b)
-  | inr apart ↦ omega (arith, h, times-cons_other y x xs apart, times-cons_other y x b apart, times-append y a (x ∷ b), times-append y a b)
+  | inr apart ↦ omega (
+    arith,
+    h,
+    times-cons_other y x xs apart,
+    times-cons_other y x b apart,
+    times-append y a (x ∷ b),
+    times-append y a b,
+  )
 ]
 
 -- a list in which nothing stands more often is no longer
@@ -41,11 +49,16 @@ length-below (x ∷ xs) ys h =
     let r = around x ys (In-times x ys (omega (arith, h x, times-cons_same x xs))) in
     let a : List ℕ = r.0 in
     let b : List ℕ = r.1 in
-    let fewer = length-below xs (a ++ b) (λ y. one_less a b xs x y (subst (λ (zs : List ℕ). times y (x ∷ xs) ≤ times y zs) r.2 (h y))) in
+    let fewer = length-below xs (a ++ b) (λ y. one_less a b xs x y
+    (subst (λ (zs : List ℕ). times y (x ∷ xs) ≤ times y zs) r.2 (h y))) in
     omega (arith, fewer, length-append a b, length-append a (x ∷ b), ap length r.2)
 
 pub length-same : (xs ys : List ℕ) → ((y : ℕ) → times y xs ≡ times y ys) → length xs ≡ length ys
-length-same xs ys h = omega (arith, length-below xs ys (λ y. omega (arith, h y)), length-below ys xs (λ y. omega (arith, h y)))
+length-same xs ys h = omega (
+  arith,
+  length-below xs ys (λ y. omega (arith, h y)),
+  length-below ys xs (λ y. omega (arith, h y)),
+)
 
 -- ---- the computed places
 
@@ -56,7 +69,8 @@ filtered test y (x ∷ xs) =
     elim (test x) as (λ b. times y (cond b (x ∷ filter test xs) (filter test xs)) ≤ times y (x ∷ xs)) [
       | true ↦ elim (cases_eq x y) [
         | inl same ↦
-            let left = subst (λ (z : ℕ). times z (x ∷ filter test xs) ≡ 1 + times z (filter test xs)) same (times-cons_same x (filter test xs)) in
+            let left = subst (λ (z : ℕ). times z (x ∷ filter test xs) ≡ 1 + times z (filter test xs)) same
+            (times-cons_same x (filter test xs)) in
             let right = subst (λ (z : ℕ). times z (x ∷ xs) ≡ 1 + times z xs) same (times-cons_same x xs) in
             omega (arith, rest, left, right)
         | inr apart ↦ omega (arith, rest, times-cons_other y x (filter test xs) apart, times-cons_other y x xs apart)
@@ -89,7 +103,12 @@ range-once a (suc n) p =
 within-once : (g : GraphParts) (n p : ℕ) → times p (within g n) ≤ 1
 unfolding within
 within-once g zero p = omega arith
-within-once g (suc n) p = omega (arith, filtered (is_justified_next g (within g n)) p (range_with_len 0 (place_count g)), range-once 0 (place_count g) p)
+within-once g (suc n) p = omega (
+  arith,
+  filtered (is_justified_next g (within g n)) p
+      (range_with_len 0 (place_count g)),
+  range-once 0 (place_count g) p,
+)
 
 pub least_computed : LeastComputed
 unfolding least_in_order

@@ -1,7 +1,8 @@
 -- A walk from its beginning to its end.
 -- For: `IsUnderWay`, `HasLevels` (golf_cert/specs/Walking.antt) and `walk_through` (src/walk.rt)
 -- By: induction over the list of places of a way; otherwise what one more turn of the walk keeps
-use Rattle.std.proofs.Common.{◌≡◌, ℕ, suc, ◌+◌, ◌<◌, ◌≤◌, ◌⊎◌, inl, inr, List, [], ◌∷◌, length, get_or, replicate, refl, sym, ap, ◌∙◌, subst, arith, below_more, length-append}
+use Rattle.std.proofs.Common.{◌≡◌, ℕ, suc, ◌+◌, ◌<◌, ◌≤◌, ◌⊎◌, inl, inr, List, [], ◌∷◌, length, get_or, replicate, refl}
+use Rattle.std.proofs.Common.{sym, ap, ◌∙◌, subst, arith, below_more, length-append}
 use Rattle.std.proofs.lemmas.Bool.{cases_eq, cases_lt}
 use Rattle.std.proofs.lemmas.List.{get_or-replicate, get_or_past, length-replicate}
 use Rattle.golf_theory.specs.Membership.{In, Every}
@@ -36,15 +37,17 @@ pub record IsRelaxed (g : GraphParts) (w : Walk) : Type 0 where
   pub steps : (q p : ℕ) → 0 < level_of w q → Justifies g q p → (0 < level_of w p) × (level_of w p ≤ level_of w q + 1)
 
 -- are at most the length of any list
-pub relaxed_level : (g : GraphParts) (w : Walk) → IsRelaxed g w → (xs : List ℕ) → IsWay g xs → (p : ℕ) → In p xs → (0 < level_of w p) × (level_of w p ≤ length xs)
+pub relaxed_level : (g : GraphParts) (w : Walk) → IsRelaxed g w → (xs : List ℕ) → IsWay g xs → (p : ℕ) → In p xs
+    → (0 < level_of w p) × (level_of w p ≤ length xs)
 relaxed_level g w r [] d p h = absurd h
 relaxed_level g w r (x ∷ xs) d p (inr h) = let k = relaxed_level g w r xs d.1 p h in (k.0, omega (arith, k.1))
-relaxed_level g w r (x ∷ xs) d p (inl e) = subst (λ (y : ℕ). (0 < level_of w y) × (level_of w y ≤ length (x ∷ xs))) (sym e) (elim d.0 [
-  | inl root ↦ let one = r.roots x root in (omega (arith, one), omega (arith, one))
-  | inr t ↦
-      let k = relaxed_level g w r xs d.1 t.0 t.1 in
-      let s = r.steps t.0 x k.0 t.2 in (s.0, omega (arith, s.1, k.1))
-])
+relaxed_level g w r (x ∷ xs) d p (inl e) =
+    subst (λ (y : ℕ). (0 < level_of w y) × (level_of w y ≤ length (x ∷ xs))) (sym e) (elim d.0 [
+      | inl root ↦ let one = r.roots x root in (omega (arith, one), omega (arith, one))
+      | inr t ↦
+          let k = relaxed_level g w r xs d.1 t.0 t.1 in
+          let s = r.steps t.0 x k.0 t.2 in (s.0, omega (arith, s.1, k.1))
+    ])
 
 -- what is listed is a place, and stands once
 pub listed_below : (g : GraphParts) (w : Walk) → IsLevelled g w → (p : ℕ) → 0 < level_of w p → p < place_count g
@@ -82,9 +85,11 @@ order_short g w l =
 -- nothing has a level yet
 pub empty-steady : (g : GraphParts) (w : Walk) → w.levels ≡ replicate (place_count g) 0 → w.order ≡ [] → IsSteady g 1 w
 empty-steady g w levels order =
-    let zero : (p : ℕ) → level_of w p ≡ 0 = λ p. ap (λ (l : List ℕ). get_or l p 0) levels ∙ elim (cases_lt p (place_count g)) [
+    let zero : (p : ℕ) → level_of w p ≡ 0 = λ p. ap (λ (l : List ℕ). get_or l p 0) levels
+    ∙ elim (cases_lt p (place_count g)) [
       | inl low ↦ get_or-replicate (place_count g) p 0 0 low
-      | inr past ↦ get_or_past (replicate (place_count g) 0) p 0 (omega (arith, length-replicate {A = ℕ} (place_count g) 0))
+      | inr past ↦ get_or_past (replicate (place_count g) 0) p 0
+          (omega (arith, length-replicate {A = ℕ} (place_count g) 0))
     ] in
     record {
       levelled = record {
@@ -106,44 +111,68 @@ grown : (x y : Walk) → Grows x y → length x.order ≤ length y.order
 grown x y f = omega (arith, ap length f.added.1, length-append x.order f.added.0)
 
 -- the roots have the first level
-pub begins : (g : GraphParts) (w v : Walk) → IsInRange g → w.levels ≡ replicate (place_count g) 0 → w.order ≡ [] → v ≡ claimed_all 1 g.roots w → IsUnderWay g v 0
+pub begins : (g : GraphParts) (w v : Walk) → IsInRange g → w.levels ≡ replicate (place_count g) 0 → w.order ≡ []
+    → v ≡ claimed_all 1 g.roots w → IsUnderWay g v 0
 begins g w v fit levels order is =
-    let all : Every (λ p. (p < place_count g) × HasWay g p 1) g.roots = Every-from (λ p. (p < place_count g) × HasWay g p 1) g.roots (λ p h. (root_low g fit p h, HasWay-root g p h)) in
+    let all : Every (λ p. (p < place_count g) × HasWay g p 1) g.roots =
+    Every-from (λ p. (p < place_count g) × HasWay g p 1) g.roots (λ p h. (root_low g fit p h, HasWay-root g p h)) in
     let c = claim_all-steady g 1 (omega arith) g.roots w (empty-steady g w levels order) all in
     subst (λ (u : Walk). IsUnderWay g u 0) (sym is) record {
       levelled = c.0.levelled;
       within = omega arith;
       near = λ low p.
-          let has = listed_has g (claimed_all 1 g.roots w) c.0.levelled (get_or (claimed_all 1 g.roots w).order 0 0) (In-get_or (claimed_all 1 g.roots w).order 0 0 low) in
+          let has = listed_has g (claimed_all 1 g.roots w) c.0.levelled (get_or (claimed_all 1 g.roots w).order 0 0)
+          (In-get_or (claimed_all 1 g.roots w).order 0 0 low) in
           omega (arith, c.0.most p, has);
       roots = λ p h. omega (arith, c.2 p h, c.0.most p);
       done = λ k h. absurd (omega (arith, h));
     }
 
 -- the next place is scanned: all that it justifies is in these lists
-pub goes_on : {g : GraphParts} {a b : Walk} {turn p level : ℕ} (first second : List ℕ) → IsInRange g → IsUnderWay g a turn → turn < length a.order → get_or a.order turn 0 ≡ p → level ≡ level_of a p + 1
-    → ((q : ℕ) → Justifies g p q → In q first ⊎ In q second) → Every (Justifies g p) first → Every (Justifies g p) second
+pub goes_on : {g : GraphParts} {a b : Walk} {turn p level : ℕ} (first second : List ℕ) → IsInRange g
+    → IsUnderWay g a turn → turn < length a.order → get_or a.order turn 0 ≡ p → level ≡ level_of a p + 1
+    → ((q : ℕ) → Justifies g p q → In q first ⊎ In q second) → Every (Justifies g p) first
+    → Every (Justifies g p) second
     → b ≡ claimed_all level second (claimed_all level first a) → IsUnderWay g b (turn + 1)
 goes_on {g} {a} {b} {turn} {p} {level} first second fit u low at is parts left right result =
     let positive : 0 < level = omega (arith, is) in
-    let here : 0 < level_of a p = listed_has g a u.levelled p (subst (λ (x : ℕ). In x a.order) at (In-get_or a.order turn 0 low)) in
+    let here : 0 < level_of a p = listed_has g a u.levelled p
+    (subst (λ (x : ℕ). In x a.order) at (In-get_or a.order turn 0 low)) in
     let near : (q : ℕ) → level_of a q ≤ level = λ q. omega (arith, u.near low q, ap (level_of a) at, is) in
     let way : HasWay g p (level_of a p) = u.levelled.ways p here in
     let Fits : ℕ → Type 0 = λ q. (q < place_count g) × HasWay g q level in
-    let fits : (q : ℕ) → Justifies g p q → Fits q = λ q j. (Justifies-below g fit p q j, subst (HasWay g q) (sym is) (HasWay-step g p q (level_of a p) way j)) in
+    let fits : (q : ℕ) → Justifies g p q → Fits q =
+    λ q j. (Justifies-below g fit p q j, subst (HasWay g q) (sym is) (HasWay-step g p q (level_of a p) way j)) in
     let m : Walk = claimed_all level first a in
     let v : Walk = claimed_all level second m in
-    let f = claim_all-steady g level positive first a (record { levelled = u.levelled; most = near; room = omega (arith, is, u.levelled.small turn low, ap (level_of a) at) }) (Every-weaker (Justifies g p) Fits fits first left) in
+    let f = claim_all-steady g level positive first a
+    (record {
+      levelled = u.levelled;
+      most = near;
+      room = omega (arith, is, u.levelled.small turn low, ap (level_of a) at);
+    })
+    (Every-weaker (Justifies g p) Fits fits first left) in
     let s = claim_all-steady g level positive second m f.0 (Every-weaker (Justifies g p) Fits fits second right) in
-    let kept : (q : ℕ) → 0 < level_of a q → level_of v q ≡ level_of a q = λ q h. s.1.kept q (omega (arith, f.1.kept q h, h)) ∙ f.1.kept q h in
-    let placed : (k : ℕ) → k < length a.order → get_or v.order k 0 ≡ get_or a.order k 0 = λ k h. Grows-at m v k s.1 (omega (arith, h, grown a m f.1)) ∙ Grows-at a m k f.1 h in
-    let same_level : (k : ℕ) → k < length a.order → level_of v (get_or v.order k 0) ≡ level_of a (get_or a.order k 0) = λ k h.
-    ap (level_of v) (placed k h) ∙ kept (get_or a.order k 0) (listed_has g a u.levelled (get_or a.order k 0) (In-get_or a.order k 0 h)) in
+    let kept : (q : ℕ) → 0 < level_of a q → level_of v q ≡ level_of a q =
+    λ q h. s.1.kept q (omega (arith, f.1.kept q h, h)) ∙ f.1.kept q h in
+    let placed : (k : ℕ) → k < length a.order → get_or v.order k 0 ≡ get_or a.order k 0 =
+    λ k h. Grows-at m v k s.1 (omega (arith, h, grown a m f.1)) ∙ Grows-at a m k f.1 h in
+    let same_level : (k : ℕ) → k < length a.order → level_of v (get_or v.order k 0) ≡ level_of a (get_or a.order k 0) =
+    λ k h.
+    ap (level_of v) (placed k h) ∙ kept (get_or a.order k 0)
+    (listed_has g a u.levelled (get_or a.order k 0) (In-get_or a.order k 0 h)) in
     subst (λ (z : Walk). IsUnderWay g z (turn + 1)) (sym result) record {
       levelled = s.0.levelled;
       within = omega (arith, low, grown a m f.1, grown m v s.1);
       near = λ more q.
-          omega (arith, s.0.most q, s.0.levelled.rising turn (turn + 1) (omega arith) more, same_level turn low, ap (level_of a) at, is);
+          omega (
+            arith,
+            s.0.most q,
+            s.0.levelled.rising turn (turn + 1) (omega arith) more,
+            same_level turn low,
+            ap (level_of a) at,
+            is,
+          );
       roots = λ q h. kept q (omega (arith, u.roots q h)) ∙ u.roots q h;
       done = below_more _ _
           (λ k h q j.

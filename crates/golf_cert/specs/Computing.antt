@@ -1,5 +1,6 @@
 -- Levels and reasons, computed: by rounds over all places, and by the least place that passes a test.
-use Rattle.std.specs.Prelude.{◌-◌, ◌&&◌, ◌++◌, ℕ, zero, suc, Bool, not, List, [], ◌∷◌, Option, filter, find, option_map, unwrap_or}
+use Rattle.std.specs.Prelude.{◌-◌, ◌&&◌, ◌++◌, ℕ, zero, suc, Bool, not, List, [], ◌∷◌, Option, filter, find, option_map}
+use Rattle.std.specs.Prelude.{unwrap_or}
 use Rattle.std.specs.List.{range_with_len}
 use Rattle.golf_theory.specs.Membership.{is_in}
 use Rattle.golf_model.specs.declared.graph.GraphParts.{GraphParts}

@@ -42,7 +42,8 @@ pub record IsStepOf (g : GraphParts) (link : Link) (step : Step) : Type 0 where
 pub record HasLeading (g : GraphParts) (links : List Link) (bound : ℕ) (rows : List (List ℕ)) : Type 0 where
   pub row_count : length rows ≡ place_count g
   pub within : (n i : ℕ) → In i (row_of rows n) → i < bound
-  pub all : (i : ℕ) (link : Link) → i < bound → slice_get links i ≡ Some link → IsEdge g link → In i (row_of rows (source_of g link))
+  pub all : (i : ℕ) (link : Link) → i < bound → slice_get links i ≡ Some link → IsEdge g link
+      → In i (row_of rows (source_of g link))
 
 -- a link is entered in the row of the place that it leads from
 pub record Enters (g : GraphParts) (link : Link) (number : ℕ) (old new : List (List ℕ)) : Type 0 where
@@ -61,15 +62,18 @@ pub record Finds (g : GraphParts) (links : List Link) (from : ℕ) (numbers : Li
   pub size : length new ≡ length old
   pub kept : (i : ℕ) → IsSet old i → IsSet new i
   pub sound : (i : ℕ) → IsSet new i → IsSet old i ⊎ IsEdgeAt g links i
-  pub found : (i : ℕ) (link : Link) → In i numbers → slice_get links i ≡ Some link → IsEdge g link → source_of g link ≡ from → IsSet new i
+  pub found : (i : ℕ) (link : Link) → In i numbers → slice_get links i ≡ Some link → IsEdge g link
+      → source_of g link ≡ from → IsSet new i
 
 -- the links that lead from the first places are found
-pub record IsFinding (g : GraphParts) (links : List Link) (bound : ℕ) (stamps : List (Option ℕ)) (flags : List Bool) : Type 0 where
+pub record IsFinding (g : GraphParts) (links : List Link) (bound : ℕ) (stamps : List (Option ℕ))
+    (flags : List Bool) : Type 0 where
   pub stamp_count : length stamps ≡ place_count g
   pub flag_count : length flags ≡ length links
   pub stamps_below : (p x : ℕ) → parent_in stamps p ≡ Some x → x < bound
   pub sound : (i : ℕ) → IsSet flags i → IsEdgeAt g links i
-  pub found : (i : ℕ) (link : Link) → slice_get links i ≡ Some link → IsEdge g link → source_of g link < bound → IsSet flags i
+  pub found : (i : ℕ) (link : Link) → slice_get links i ≡ Some link → IsEdge g link → source_of g link < bound
+      → IsSet flags i
 
 -- a flag for each link, set exactly if the graph has it
 pub record HasEdges (g : GraphParts) (links : List Link) (flags : List Bool) : Type 0 where
@@ -79,4 +83,6 @@ pub record HasEdges (g : GraphParts) (links : List Link) (flags : List Bool) : T
 -- the flag of a link is set if the graph has it and it leads from the place; otherwise all flags stay
 abbrev pub FindsOne : GraphParts → List Link → ℕ → ℕ → List Bool → List Bool → Type 0
 FindsOne g links from number old new =
-    (link : Link) × (slice_get links number ≡ Some link) × (((new ≡ slice_set old number true) × IsEdge g link) ⊎ ((new ≡ old) × ((IsEdge g link × (source_of g link ≡ from)) → ⊥)))
+    (link : Link) × (slice_get links number ≡ Some link)
+    × (((new ≡ slice_set old number true) × IsEdge g link)
+    ⊎ ((new ≡ old) × ((IsEdge g link × (source_of g link ≡ from)) → ⊥)))

@@ -13,8 +13,11 @@ OneReason = (g : GraphParts) (p : ℕ) (a b : List ℕ) → IsReason g p a → I
 
 -- the computed list is the one reason of each place of the least closed set, and empty for all others
 abbrev pub ReasonsComputed : Type 0
-ReasonsComputed = (g : GraphParts) → IsInRange g → (p : ℕ) → ((places : List ℕ) → IsReason g p places ↔ (Least g p × (places ≡ reason_to g p))) × ((Least g p → ⊥) → reason_to g p ≡ [])
+ReasonsComputed = (g : GraphParts) → IsInRange g → (p : ℕ)
+    → ((places : List ℕ) → IsReason g p places ↔ (Least g p × (places ≡ reason_to g p)))
+    × ((Least g p → ⊥) → reason_to g p ≡ [])
 
 -- the computed list has the places of the least closed set, each once
 abbrev pub LeastComputed : Type 0
-LeastComputed = (g : GraphParts) → IsInRange g → (p : ℕ) → (In p (least_in_order g) ↔ Least g p) × (times p (least_in_order g) ≤ 1)
+LeastComputed = (g : GraphParts) → IsInRange g → (p : ℕ) → (In p (least_in_order g) ↔ Least g p)
+    × (times p (least_in_order g) ≤ 1)

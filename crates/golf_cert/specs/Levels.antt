@@ -21,11 +21,13 @@ pub record IsLeastBefore (g : GraphParts) (level next place : ℕ) : Type 0 wher
   pub justifies : Justifies g place next
   pub least : (other : ℕ) → IsLevel g other level → Justifies g other next → place ≤ other
 
--- the places of a list of least length that ends with the place: each but the last one is the least with its level that justifies the next one
+-- the places of a list of least length that ends with the place: each but the last one is the least with its level that
+-- justifies the next one
 pub record IsReason (g : GraphParts) (place : ℕ) (places : List ℕ) : Type 0 where
   pub level : IsLevel g place (length places)
   pub ends : (before : List ℕ) × (places ≡ before ++ place ∷ [])
-  pub before : (k : ℕ) → k + 1 < length places → IsLeastBefore g (k + 1) (slice_index places (k + 1)) (slice_index places k)
+  pub before : (k : ℕ) → k + 1 < length places
+      → IsLeastBefore g (k + 1) (slice_index places (k + 1)) (slice_index places k)
 
 -- no list that ends with the place is shorter
 abbrev pub IsShortest : GraphParts → ℕ → ℕ → Type 0

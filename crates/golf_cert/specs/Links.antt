@@ -3,7 +3,8 @@ use Rattle.std.specs.Prelude.{◌≡◌, ◌<◌, ◌⊎◌, ◌↔◌, ℕ, Lis
 use Rattle.golf_theory.specs.Membership.{In}
 use Rattle.golf_model.specs.declared.graph.GraphParts.{GraphParts}
 use Rattle.golf_model.specs.declared.graph.Marked.{Marked}
-use Rattle.golf_model.specs.Graph.{Justifies, Least, node_count, sleeper_count, sleeper_place, children_of, sleeper_waits, sleeper_references}
+use Rattle.golf_model.specs.Graph.{Justifies, Least, node_count, sleeper_count, sleeper_place, children_of}
+use Rattle.golf_model.specs.Graph.{sleeper_waits, sleeper_references}
 use Rattle.golf_marks.specs.Flags.{IsSet}
 use Rattle.golf_cert.specs.declared.links.Link.{Link}
 use Rattle.golf_cert.specs.declared.links.Verdict.{Verdict}
@@ -26,7 +27,8 @@ abbrev pub IsJustifiedAmong : GraphParts → (ℕ → Type 0) → Link → Type 
 IsJustifiedAmong g Placed (Root node) = In node g.roots
 IsJustifiedAmong g Placed (Child from to) = Placed from × In to (children_of g from)
 IsJustifiedAmong g Placed (Woken node sleeper) = Placed node × In node (sleeper_waits g sleeper)
-IsJustifiedAmong g Placed (Held sleeper node) = Placed (sleeper_place g sleeper) × In node (sleeper_references g sleeper)
+IsJustifiedAmong g Placed (Held sleeper node) = Placed (sleeper_place g sleeper)
+    × In node (sleeper_references g sleeper)
 
 -- if these places were placed before it
 abbrev pub IsJustifiedBy : GraphParts → List ℕ → Link → Type 0
@@ -34,7 +36,8 @@ IsJustifiedBy g before link = IsJustifiedAmong g (λ p. In p before) link
 
 -- the link of this number, from 0, is justified by those before it
 abbrev pub IsJustifiedAt : GraphParts → List Link → ℕ → Type 0
-IsJustifiedAt g links i = (link : Link) × (slice_get links i ≡ Some link) × IsJustifiedBy g (places_of g (take i links)) link
+IsJustifiedAt g links i = (link : Link) × (slice_get links i ≡ Some link)
+    × IsJustifiedBy g (places_of g (take i links)) link
 
 -- each link of a number below the bound is justified by those before it
 abbrev pub AreJustifiedBelow : GraphParts → List Link → ℕ → Type 0
@@ -56,7 +59,8 @@ IsClosed g places = IsClosedSet g (λ p. In p places)
 -- this entry is the first that is not justified; past the last one: all are, and a place is missing
 abbrev pub IsRefusedAt : GraphParts → List Link → ℕ → Type 0
 IsRefusedAt g links i =
-    ((i < length links) × AreJustifiedBelow g links i × (IsJustifiedAt g links i → ⊥)) ⊎ ((i ≡ length links) × AreJustified g links × (IsClosed g (places_of g links) → ⊥))
+    ((i < length links) × AreJustifiedBelow g links i × (IsJustifiedAt g links i → ⊥))
+    ⊎ ((i ≡ length links) × AreJustified g links × (IsClosed g (places_of g links) → ⊥))
 
 -- what a verdict tells of the links of a certificate
 pub record IsVerdictOn (g : GraphParts) (links : List Link) (verdict : Verdict) : Type 0 where

@@ -1,5 +1,6 @@
 -- For each place the least one of the level below that justifies it.
-use Rattle.std.specs.Prelude.{◌≡◌, ◌+◌, ◌<◌, ◌≤◌, ◌⊎◌, ◌==◌, ◌&&◌, ◌++◌, ℕ, List, [], ◌∷◌, cond, length, slice_index, slice_index_or, slice_set, Option, Some, None, is_none}
+use Rattle.std.specs.Prelude.{◌≡◌, ◌+◌, ◌<◌, ◌≤◌, ◌⊎◌, ◌==◌, ◌&&◌, ◌++◌, ℕ, List, [], ◌∷◌, cond, length, slice_index}
+use Rattle.std.specs.Prelude.{slice_index_or, slice_set, Option, Some, None, is_none}
 use Rattle.golf_theory.specs.Membership.{In}
 use Rattle.golf_model.specs.declared.graph.GraphParts.{GraphParts}
 use Rattle.golf_model.specs.Graph.{Justifies}
@@ -22,10 +23,13 @@ pub record IsParent (g : GraphParts) (levels : List ℕ) (parent place : ℕ) : 
   pub leads : Leads g levels parent place
   pub least : (other : ℕ) → Leads g levels other place → parent ≤ other
 
--- each place has its parent, as far as the places were gone through: those below this one, and of its own those that are done
-pub record HasParentsBelow (g : GraphParts) (levels : List ℕ) (bound : ℕ) (Done : ℕ → Type 0) (parents : List (Option ℕ)) : Type 0 where
+-- each place has its parent, as far as the places were gone through: those below this one, and of its own those that
+-- are done
+pub record HasParentsBelow (g : GraphParts) (levels : List ℕ) (bound : ℕ) (Done : ℕ → Type 0)
+    (parents : List (Option ℕ)) : Type 0 where
   pub size : length parents ≡ place_count g
-  pub none : (p : ℕ) → parent_in parents p ≡ None → (from : ℕ) → (from < bound) ⊎ ((from ≡ bound) × Done p) → Leads g levels from p → ⊥
+  pub none : (p : ℕ) → parent_in parents p ≡ None → (from : ℕ) → (from < bound) ⊎ ((from ≡ bound) × Done p)
+      → Leads g levels from p → ⊥
   pub some : (p parent : ℕ) → parent_in parents p ≡ Some parent → IsParent g levels parent p
 
 -- each place has its parent, if it has one
@@ -36,7 +40,8 @@ pub record HasParents (g : GraphParts) (levels : List ℕ) (parents : List (Opti
 
 -- a place becomes the parent of one of the next level that has none
 abbrev pub adopted : List ℕ → ℕ → ℕ → List (Option ℕ) → List (Option ℕ)
-adopted levels parent p parents = cond ((slice_index levels p == slice_index levels parent + 1) && is_none (parent_in parents p)) (slice_set parents p (Some parent)) parents
+adopted levels parent p parents = cond ((slice_index levels p == slice_index levels parent + 1)
+    && is_none (parent_in parents p)) (slice_set parents p (Some parent)) parents
 
 -- so it does of these, one after the other
 abbrev pub adopted_all : List ℕ → ℕ → List ℕ → List (Option ℕ) → List (Option ℕ)
@@ -45,8 +50,10 @@ adopted_all levels parent (p ∷ ps) parents = adopted_all levels parent ps (ado
 
 -- it is justified if all that lead to the place were placed before it
 abbrev pub IsLinkTo : GraphParts → List ℕ → ℕ → Link → Type 0
-IsLinkTo g levels place link = (before : List ℕ) → ((from : ℕ) → Leads g levels from place → In from before) → IsJustifiedBy g before link
+IsLinkTo g levels place link = (before : List ℕ) → ((from : ℕ) → Leads g levels from place → In from before)
+    → IsJustifiedBy g before link
 
 -- the links gain one that places the place, and is justified so
 abbrev pub AddsLink : GraphParts → List ℕ → ℕ → List Link → List Link → Type 0
-AddsLink g levels place old new = (link : Link) × (new ≡ old ++ link ∷ []) × (placed_by g link ≡ place) × IsLinkTo g levels place link
+AddsLink g levels place old new = (link : Link) × (new ≡ old ++ link ∷ []) × (placed_by g link ≡ place)
+    × IsLinkTo g levels place link

@@ -29,4 +29,5 @@ IsUnrooted (Held sleeper node) = Unit {0}
 -- nothing exactly if the link is not justified, else the place that it places
 abbrev pub TellsPlace : GraphParts → (ℕ → Type 0) → Link → Option ℕ → Type 0
 TellsPlace g Placed link found =
-    MatchOption found (IsJustifiedAmong g Placed link → ⊥) (λ place. (place ≡ placed_by g link) × (place < place_count g) × IsJustifiedAmong g Placed link)
+    MatchOption found (IsJustifiedAmong g Placed link → ⊥)
+    (λ place. (place ≡ placed_by g link) × (place < place_count g) × IsJustifiedAmong g Placed link)

@@ -1,6 +1,6 @@
 //! Certificates of markings.
 
-ghost use Rattle.std.specs.Prelude.{◌≡◌, ◌-◌, ◌<◌, ◌≤◌, ◌↔◌, ℕ, IfOk, OnOk, IsTrue, length, slice_index};
+ghost use Rattle.std.specs.Prelude.{◌^◌, ◌≡◌, ◌-◌, ◌<◌, ◌≤◌, ◌↔◌, ℕ, IfOk, OnOk, IsTrue, length, slice_index};
 ghost use Rattle.golf_theory.specs.Counting.{times};
 ghost use Rattle.golf_model.specs.Graph.{node_count, Least};
 ghost use Rattle.golf_marks.specs.Flags.{IsSet};
@@ -107,7 +107,7 @@ pub fn certify(alloc: Global, graph: &Graph, marked: &Marked) -> Result<Certific
     ensures placed { IfOk result (λ c. (p : ℕ) → Least graph.now p → times p (places_of graph.now c.links) ≡ 1) }
     ensures closed { IfOk result (λ c. IsClosed graph.now (places_of graph.now c.links)) }
     ensures count { IfOk result (λ c. length c.links ≡ length (least_in_order graph.now)) }
-    ensures few { IfOk result (λ c. length c.links < 4294967296) }
+    ensures few { IfOk result (λ c. length c.links < 2 ^ 32) }
 {
     let _places = places_in(graph);
     let rows = woken_rows(alloc, graph)?;

@@ -1,9 +1,11 @@
 //! Which links are edges of the graph, whatever was placed before them.
 
-ghost use Rattle.std.specs.Prelude.{◌≡◌, ◌+◌, ◌<◌, ◌↔◌, ℕ, IfOk, OnOk, MatchOption, IsTrue, length, slice_get, Some};
+ghost use Rattle.std.specs.Prelude.{◌^◌, ◌≡◌, ◌+◌, ◌<◌, ◌↔◌, ℕ, IfOk, OnOk, MatchOption, IsTrue, length, slice_get};
+ghost use Rattle.std.specs.Prelude.{Some};
 ghost use Rattle.golf_theory.specs.Membership.{Every};
 ghost use Rattle.golf_model.specs.Graph.{sleeper_count, Justifies};
-ghost use Rattle.golf_cert.specs.Edges.{source_of, IsEdge, IsStepOf, HasLeading, Enters, Stamps, Finds, FindsOne, IsFinding, HasEdges};
+ghost use Rattle.golf_cert.specs.Edges.{source_of, IsEdge, IsStepOf, HasLeading, Enters, Stamps, Finds, FindsOne};
+ghost use Rattle.golf_cert.specs.Edges.{IsFinding, HasEdges};
 ghost use Rattle.golf_cert.specs.Parents.{parent_in};
 ghost use Rattle.golf_cert.specs.Steps.{place_count, HasWoken};
 
@@ -97,7 +99,7 @@ fn enter(graph: &Graph, rows: &mut List<List<u32>>, number: u32, link: Link) -> 
 
 // For each place the numbers of the links that lead from it.
 fn leading_rows(alloc: Global, graph: &Graph, links: &[Link]) -> Result<List<List<u32>>, Memory>
-    requires { length links.now < 4294967296 }
+    requires { length links.now < 2 ^ 32 }
     ensures { IfOk result (HasLeading graph.now links.now (length links.now)) }
 {
     let mut rows = empty_rows(alloc, places_in(graph))?;
@@ -219,7 +221,7 @@ pub(crate) fn edge_flags(
     links: &[Link],
 ) -> Result<List<bool>, Memory>
     requires rows { HasWoken graph.now (sleeper_count graph.now) rows.now }
-    requires small { length links.now < 4294967296 }
+    requires small { length links.now < 2 ^ 32 }
     ensures { IfOk result (HasEdges graph.now links.now) }
 {
     let places = places_in(graph);

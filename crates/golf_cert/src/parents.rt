@@ -1,6 +1,6 @@
 //! For each place the least one of the level below that justifies it.
 
-ghost use Rattle.std.specs.Prelude.{◌≡◌, ◌+◌, ◌<◌, IfOk, length, slice_index};
+ghost use Rattle.std.specs.Prelude.{◌^◌, ◌≡◌, ◌+◌, ◌<◌, IfOk, length, slice_index};
 ghost use Rattle.golf_theory.specs.Membership.{Every};
 ghost use Rattle.golf_model.specs.Graph.{sleeper_count};
 ghost use Rattle.golf_cert.specs.Steps.{place_count, HasWoken};
@@ -18,7 +18,7 @@ fn adopt(parents: &mut List<Option<u32>>, levels: &[usize], parent: u32, place: 
     requires size { length parents.old ≡ length levels.now }
     requires parent { parent < length levels.now }
     requires place { place < length levels.now }
-    requires small { slice_index levels.now parent < 4294967296 }
+    requires small { slice_index levels.now parent < 2 ^ 32 }
     ensures { parents.new ≡ adopted levels.now parent place parents.old }
 {
     let next = next_level(levels, parent);
@@ -32,7 +32,7 @@ fn adopt_all(parents: &mut List<Option<u32>>, levels: &[usize], parent: u32, pla
     requires size { length parents.old ≡ length levels.now }
     requires parent { parent < length levels.now }
     requires places { Every (λ p. p < length levels.now) places.now }
-    requires small { slice_index levels.now parent < 4294967296 }
+    requires small { slice_index levels.now parent < 2 ^ 32 }
     ensures { parents.new ≡ adopted_all levels.now parent places.now parents.old }
 {
     for place in places {

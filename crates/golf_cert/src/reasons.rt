@@ -1,6 +1,7 @@
 //! Why sleepers are awake.
 
-ghost use Rattle.std.specs.Prelude.{◌≡◌, ◌+◌, ◌<◌, ◌↔◌, [], ◌∷◌, IfOk, IsSome, IfSome, MatchOption, length, slice_index};
+ghost use Rattle.std.specs.Prelude.{◌≡◌, ◌+◌, ◌<◌, ◌↔◌, [], ◌∷◌, IfOk, IsSome, IfSome, MatchOption, length};
+ghost use Rattle.std.specs.Prelude.{slice_index};
 ghost use Rattle.golf_model.specs.Graph.{sleeper_count, sleeper_place, Justifies, Least};
 ghost use Rattle.golf_cert.specs.Computing.{reason_in};
 ghost use Rattle.golf_cert.specs.Levels.{IsReason, IsShortest};

@@ -1,6 +1,6 @@
 //! What each place of a graph justifies, in two parts.
 
-ghost use Rattle.std.specs.Prelude.{◌≡◌, ◌+◌, ◌<◌, IfOk};
+ghost use Rattle.std.specs.Prelude.{◌^◌, ◌≡◌, ◌+◌, ◌<◌, IfOk};
 ghost use Rattle.golf_model.specs.Graph.{sleeper_count, IsInRange};
 ghost use Rattle.golf_rows.specs.Rows.{row_of};
 ghost use Rattle.golf_cert.specs.Steps.{place_count, referred_by, HasWoken};
@@ -13,7 +13,7 @@ use std::alloc::Global;
 /// How many places there are.
 pub(crate) fn places_in(graph: &Graph) -> u32
     ensures count { result ≡ place_count graph.now }
-    ensures small { place_count graph.now < 4294967296 }
+    ensures small { place_count graph.now < 2 ^ 32 }
     ensures in_range { IsInRange graph.now }
 {
     graph.nodes() + graph.sleepers()

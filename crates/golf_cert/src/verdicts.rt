@@ -1,6 +1,6 @@
 //! The check of certificates.
 
-ghost use Rattle.std.specs.Prelude.{◌≡◌, ◌<◌, ◌↔◌, ℕ, IfOk, MatchOption, IsTrue, length};
+ghost use Rattle.std.specs.Prelude.{◌^◌, ◌≡◌, ◌<◌, ◌↔◌, ℕ, IfOk, MatchOption, IsTrue, length};
 ghost use Rattle.golf_theory.specs.Membership.{In};
 ghost use Rattle.golf_model.specs.Graph.{sleeper_count};
 ghost use Rattle.golf_cert.specs.Edges.{IsEdge};
@@ -106,7 +106,7 @@ fn place_by(
 /// link that is not justified, from 0, or the count of all links if only a place is missing. The
 /// time is linear in the graph and the certificate. The only error is `Memory`.
 pub fn verify(alloc: Global, graph: &Graph, certificate: &Certificate) -> Result<Verdict, Memory>
-    requires { length certificate.now.links < 4294967296 }
+    requires { length certificate.now.links < 2 ^ 32 }
     ensures { IfOk result (IsVerdictOn graph.now certificate.now.links) }
 {
     let places = places_in(graph);

@@ -1,6 +1,6 @@
 //! The levels of all places, by a breadth first walk.
 
-ghost use Rattle.std.specs.Prelude.{◌≡◌, ◌+◌, ◌<◌, IfOk, OnOk, length, slice_get, slice_index};
+ghost use Rattle.std.specs.Prelude.{◌^◌, ◌≡◌, ◌+◌, ◌<◌, IfOk, OnOk, length, slice_get, slice_index};
 ghost use Rattle.golf_theory.specs.Membership.{Every};
 ghost use Rattle.golf_model.specs.Graph.{sleeper_count};
 ghost use Rattle.golf_rows.specs.Rows.{row_of};
@@ -24,7 +24,7 @@ pub(crate) struct Walk {
 /// The level of what a place justifies, unless it has a lower one.
 pub(crate) fn next_level(levels: &[usize], place: u32) -> usize
     requires place { place < length levels.now }
-    requires small { slice_index levels.now place < 4294967296 }
+    requires small { slice_index levels.now place < 2 ^ 32 }
     ensures { result ≡ slice_index levels.now place + 1 }
 {
     levels[place as usize] + 1

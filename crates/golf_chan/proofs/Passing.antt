@@ -12,8 +12,10 @@ use Rattle.golf_state.proofs.Doings.{does-is, actor_of}
 use Rattle.golf_state.proofs.Serving.{Beside, beside-put}
 
 module _ {g after : ℕ} {s : State} (st : Stands g after s) (line target taken : ℕ) (vs : List Value) where
-  pub gone-on : {u : State} → u ≡ does (λ a. stands a (went target taken vs a.frame)) g line s → u ≡ apply_all (stands (actor_of st line) (went target taken vs st.frame)) s
+  pub gone-on : {u : State} → u ≡ does (λ a. stands a (went target taken vs a.frame)) g line s
+      → u ≡ apply_all (stands (actor_of st line) (went target taken vs st.frame)) s
   gone-on is = is ∙ does-is g after s st (λ a. stands a (went target taken vs a.frame)) line
 
-  pub gone-beside : {u : State} → u ≡ does (λ a. stands a (went target taken vs a.frame)) g line s → (t : State) → t.goroutines ≡ u.goroutines → Beside s t
+  pub gone-beside : {u : State} → u ≡ does (λ a. stands a (went target taken vs a.frame)) g line s → (t : State)
+      → t.goroutines ≡ u.goroutines → Beside s t
   gone-beside is t same = beside-put g after s st t _ (same ∙ ap (λ (v : State). v.goroutines) (gone-on is))

@@ -23,7 +23,8 @@ width_of CaseKind.TakeOk = 1
 -- the case takes its operands off these, the top one first, or there are too few
 abbrev pub IsOfferOf : SelectCase → List Value → Option Offer → Type 0
 IsOfferOf k vs None = (os : List Offering) → take_case k k.kind (os, vs) ≡ None
-IsOfferOf k vs (Some x) = (os : List Offering) → take_case k k.kind (os, vs) ≡ Some (plain_offer x ∷ os, drop (width_of k.kind) vs)
+IsOfferOf k vs (Some x) = (os : List Offering)
+    → take_case k k.kind (os, vs) ≡ Some (plain_offer x ∷ os, drop (width_of k.kind) vs)
 
 -- all cases do
 abbrev pub AreOffersOf : List SelectCase → List Value → Option Offered → Type 0

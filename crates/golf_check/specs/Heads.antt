@@ -1,4 +1,5 @@
--- What the head of a function declares (Go specification, "Function declarations", "Method declarations"), what the answers for declarations tell, and the passes over the declarations of a file.
+-- What the head of a function declares (Go specification, "Function declarations", "Method declarations"), what the
+-- answers for declarations tell, and the passes over the declarations of a file.
 use Rattle.std.specs.Prelude.{◌≡◌, ℕ, List, ◌∷◌, ◌++◌, [], map, flat_map, Option, Some, None, Result}
 use Rattle.golf_syntax_trees.specs.declared.declarations.Receiver.{Receiver}
 use Rattle.golf_syntax_trees.specs.declared.declarations.Func.{Func}
@@ -6,12 +7,14 @@ use Rattle.golf_syntax_trees.specs.declared.declarations.Decl.{Decl}
 use Rattle.golf_syntax_trees.specs.declared.declarations.File.{File}
 use Rattle.golf_check_types.specs.declared.fault.TypeFault.{TypeFault}
 use Rattle.golf_check_types.specs.declared.types.GoType.{GoType}
-use Rattle.golf_check_types.specs.declared.facts.Fact.{Fact}
 use Rattle.golf_check_types.specs.declared.scopes.FileScope.{FileScope}
 use Rattle.golf_check_types.specs.declared.scopes.Scope.{Scope}
 use Rattle.golf_check_types.specs.Faults.{Fault, Tells}
 use Rattle.golf_check_types.specs.Statements.{Walk, Walked, nothing, breaks, behind, in_order, walk}
-use Rattle.golf_check_types.specs.Files.{receiver_type, parameter_walk, end_faults, of_function, names_faults, none_above, type_faults, main_faults, with_types, with_forms, walk_faults, outside, file_scope, with_imports, no_imports}
+use Rattle.golf_check_bodies.specs.declared.checker.Checker.{Checker}
+use Rattle.golf_check_types.specs.Files.{receiver_type, parameter_walk, end_faults, of_function, names_faults}
+use Rattle.golf_check_types.specs.Files.{none_above, type_faults, main_faults, with_types, with_forms, walk_faults}
+use Rattle.golf_check_types.specs.Files.{outside, file_scope, with_imports, no_imports}
 
 -- a receiver's name with its type
 abbrev pub receiver_name : Scope → Option Receiver → Option (List ℕ × Option GoType)
@@ -44,13 +47,16 @@ arguments f r ps s =
 abbrev pub function_walked : Func → Option (List ℕ × Option GoType) → List (List ℕ × Option GoType) → Walk
 function_walked f r ps s = of_function (arguments f r ps s) s (in_order (head_walks f r ps) s)
 
--- What the answers of the checker tell of a head and its body: beside what they tell of a statement, how many slots receiver and parameters have.
-abbrev pub Counts : Result ℕ TypeFault → Walked → ℕ → Scope → Scope → List Fact → List Fact → Type 0
-Counts result w n s t old new = Tells result w.faults (λ k. (k ≡ n) × ((t ≡ behind s w) × (new ≡ old ++ w.facts)))
+-- What the checker tells of a head and its body: beside what it tells of a statement, how many slots receiver and
+-- parameters have.
+abbrev pub Counts : Result ℕ TypeFault → Walked → ℕ → Checker → Checker → Type 0
+Counts result w n old new = Tells result w.faults
+    (λ k. (k ≡ n) × ((new.scope ≡ behind old.scope w) × (new.facts ≡ old.facts ++ w.facts)))
 
--- What the answers of the checker tell of a declaration: they come if no rule is broken, and then the scope is as before, and these facts were added.
-abbrev pub Stays : {A : Type 0} → Result A TypeFault → Walked → Scope → Scope → List Fact → List Fact → Type 0
-Stays result w s t old new = Tells result w.faults (λ _. (t ≡ s) × (new ≡ old ++ w.facts))
+-- What the checker tells of a declaration: an answer comes if no rule is broken, and then the scope is as before, and
+-- its facts were added.
+abbrev pub Stays : {A : Type 0} → Result A TypeFault → Walked → Checker → Checker → Type 0
+Stays result w old new = Tells result w.faults (λ _. (new.scope ≡ old.scope) × (new.facts ≡ old.facts ++ w.facts))
 
 -- the names of a file with their types, as written and by form
 abbrev pub typed_file : FileScope → List Decl → FileScope
@@ -58,7 +64,8 @@ typed_file f xs = with_forms (with_types f xs) 0 xs
 
 -- the passes over declarations, in the scope outside all functions in which names have no types yet
 abbrev pub named_faults : Scope → List Decl → List Fault
-named_faults s xs = names_faults s.file none_above xs ++ (flat_map (type_faults s) xs ++ (main_faults xs ++ walk_faults (typed_file s.file xs) 0 xs))
+named_faults s xs = names_faults s.file none_above xs
+    ++ (flat_map (type_faults s) xs ++ (main_faults xs ++ walk_faults (typed_file s.file xs) 0 xs))
 
 -- what the names of a file mean outside all functions
 unfoldable pub scope_of : File → Scope

@@ -1,17 +1,21 @@
 //! Whether a file keeps the rules.
+//!
+//! The passes follow one another as in the definition of `Broken`: imports, names, written types, `main`, and then
+//! constants, initialisers and bodies. The first broken rule ends them.
 
 ghost use Rattle.std.specs.Prelude.{◌≡◌, ◌++◌, IfOk};
 ghost use Rattle.golf_check_types.specs.Faults.{Tells};
 ghost use Rattle.golf_check_types.specs.Facts.{types_told};
-ghost use Rattle.golf_check_types.specs.Files.{outside, decl_walked, walk_faults, walk_facts, decl_faults, file_scope, Broken, facts_in};
+ghost use Rattle.golf_check_types.specs.Files.{outside, decl_walked, walk_faults, walk_facts, decl_faults, file_scope};
+ghost use Rattle.golf_check_types.specs.Files.{Broken, facts_in};
 ghost use Rattle.golf_check.specs.Heads.{Stays, scope_of, typed_file, named_faults};
 
-use crate::functions::func_at;
-use crate::initialisers::{const_at, global_at};
+use crate::functions::function;
+use crate::initialisers::{constant, global};
 use crate::scopes::{add_types, bare_scope};
 use golf_base::{List, Memory};
-use golf_check_forms::next_global;
-use golf_check_names::{imported, main_is_there, names_are_good, types_are_there};
+use golf_check_bodies::Checker;
+use golf_check_names::{imported, main_is_there, names_are_good, next_global, types_are_there};
 use golf_check_types::{Fact, GoType, Imports, Scope, TypeFault, type_of};
 use golf_syntax_trees::{Decl, File};
 use std::alloc::Global;
@@ -64,104 +68,94 @@ impl Checked {
     }
 }
 
-// What was found of the declarations of a file: the scope outside all functions, and the facts of
-// their parts.
-#[derive(Drop)]
-struct Found {
-    scope: Scope,
-    facts: List<Fact>,
-}
-
+// A declaration, if so many globals stand above it.
 #[tactic(auto, using(crate::proofs::Laws::var_stays, crate::proofs::Laws::func_stays))]
-fn decl_at(
-    alloc: Global,
-    scope: &mut Scope,
-    global: u32,
-    decl: &Decl,
-    facts: &mut List<Fact>,
-) -> Result<(), TypeFault>
-    requires { scope.old ≡ outside scope.old.file }
-    ensures { Stays result (decl_walked scope.old.file global decl.now) scope.old scope.new facts.old facts.new }
+fn declaration(checker: &mut Checker, global_number: u32, decl: &Decl) -> Result<(), TypeFault>
+    requires { checker.old.scope ≡ outside checker.old.scope.file }
+    ensures { Stays result (decl_walked checker.old.scope.file global_number decl.now) checker.old checker.new }
 {
     match decl {
-        Decl::Const(line, _, value) => const_at(*line, value, facts),
-        Decl::Var(var) => global_at(alloc, scope, global, var.get(), facts),
+        Decl::Const(line, _, value) => constant(checker, *line, value),
+        Decl::Var(var) => global(checker, global_number, var.get()),
         Decl::Struct(_, _, _) => Ok(()),
-        Decl::Func(func) => func_at(alloc, scope, func, facts),
+        Decl::Func(func) => function(checker, func),
     }
 }
 
-fn decls_at(
-    alloc: Global,
-    scope: &mut Scope,
-    decls: &[Decl],
-    facts: &mut List<Fact>,
-) -> Result<(), TypeFault>
-    requires { scope.old ≡ outside scope.old.file }
-    ensures { Tells result (walk_faults scope.old.file 0 decls.now) (λ _. (scope.new ≡ scope.old) × (facts.new ≡ facts.old ++ walk_facts scope.old.file 0 decls.now)) }
+// Constants, initialisers and bodies, in source order.
+fn declarations(checker: &mut Checker, decls: &[Decl]) -> Result<(), TypeFault>
+    requires { checker.old.scope ≡ outside checker.old.scope.file }
+    ensures { Tells result (walk_faults checker.old.scope.file 0 decls.now) (λ _. (checker.new.scope ≡ checker.old.scope) × (checker.new.facts ≡ checker.old.facts ++ walk_facts checker.old.scope.file 0 decls.now)) }
 {
-    let mut global = 0u32;
+    let mut globals_above = 0u32;
     for decl in decls {
-        decl_at(alloc, scope, global, decl, facts)?;
-        global = next_global(global, decl)?;
+        declaration(checker, globals_above, decl)?;
+        globals_above = next_global(globals_above, decl)?;
     }
     Ok(())
 }
 
-// Constants, initialisers and bodies, if the names of the file have no types yet.
+// The same, if the names of the file have no types yet.
 #[tactic(auto, using(crate::proofs::Laws::walked_tells))]
-fn facts_behind_names(
-    alloc: Global,
-    scope: &mut Scope,
-    decls: &[Decl],
-) -> Result<List<Fact>, TypeFault>
-    requires { scope.old ≡ outside scope.old.file }
-    ensures { Tells result (walk_faults (typed_file scope.old.file decls.now) 0 decls.now) (λ fs. (scope.new ≡ outside (typed_file scope.old.file decls.now)) × (fs ≡ walk_facts (typed_file scope.old.file decls.now) 0 decls.now)) }
+fn untyped_declarations(checker: &mut Checker, decls: &[Decl]) -> Result<(), TypeFault>
+    requires { checker.old.scope ≡ outside checker.old.scope.file }
+    ensures { Tells result (walk_faults (typed_file checker.old.scope.file decls.now) 0 decls.now) (λ _. (checker.new.scope ≡ outside (typed_file checker.old.scope.file decls.now)) × (checker.new.facts ≡ checker.old.facts ++ walk_facts (typed_file checker.old.scope.file decls.now) 0 decls.now)) }
 {
-    add_types(alloc, scope, decls)?;
-    let mut facts = List::new(alloc);
-    decls_at(alloc, scope, decls, &mut facts)?;
-    Ok(facts)
+    add_types(checker.alloc, &mut checker.scope, decls)?;
+    declarations(checker, decls)
 }
 
 // Names, written types, `main`, and then the rest.
-fn facts_of_named(alloc: Global, scope: &mut Scope, decls: &[Decl]) -> Result<List<Fact>, TypeFault>
-    requires { scope.old ≡ outside scope.old.file }
-    ensures { Tells result (named_faults scope.old decls.now) (λ fs. (scope.new ≡ outside (typed_file scope.old.file decls.now)) × (fs ≡ walk_facts (typed_file scope.old.file decls.now) 0 decls.now)) }
+fn named_declarations(checker: &mut Checker, decls: &[Decl]) -> Result<(), TypeFault>
+    requires { checker.old.scope ≡ outside checker.old.scope.file }
+    ensures { Tells result (named_faults checker.old.scope decls.now) (λ _. (checker.new.scope ≡ outside (typed_file checker.old.scope.file decls.now)) × (checker.new.facts ≡ checker.old.facts ++ walk_facts (typed_file checker.old.scope.file decls.now) 0 decls.now)) }
 {
-    names_are_good(alloc, &scope.file, decls)?;
-    types_are_there(alloc, scope, decls)?;
+    names_are_good(checker.alloc, &checker.scope.file, decls)?;
+    types_are_there(checker.alloc, &checker.scope, decls)?;
     main_is_there(decls)?;
-    facts_behind_names(alloc, scope, decls)
+    untyped_declarations(checker, decls)
 }
 
-fn found_of_decls(alloc: Global, imports: Imports, decls: &[Decl]) -> Result<Found, TypeFault>
-    ensures { Tells result (decl_faults imports decls.now) (λ f. (f.scope ≡ outside (file_scope imports decls.now)) × (f.facts ≡ walk_facts (file_scope imports decls.now) 0 decls.now)) }
+// The checker after the declarations of a file with these imports.
+fn checked_declarations(
+    alloc: Global,
+    imports: Imports,
+    decls: &[Decl],
+) -> Result<Checker, TypeFault>
+    ensures { Tells result (decl_faults imports decls.now) (λ c. (c.scope ≡ outside (file_scope imports decls.now)) × (c.facts ≡ walk_facts (file_scope imports decls.now) 0 decls.now)) }
 {
-    let mut scope = bare_scope(alloc, imports, decls)?;
-    match facts_of_named(alloc, &mut scope, decls) {
-        Ok(facts) => Ok(Found { scope, facts }),
+    let scope = bare_scope(alloc, imports, decls)?;
+    let facts = List::new(alloc);
+    let mut checker = Checker {
+        alloc,
+        line: 1,
+        scope,
+        facts,
+    };
+    match named_declarations(&mut checker, decls) {
+        Ok(()) => Ok(checker),
         Err(fault) => Err(fault),
     }
 }
 
+// The checker after a file.
 #[tactic(auto, unfolding(golf_check_types::specs::Files::Broken, golf_check_types::specs::Files::facts_in))]
-fn found_of_file(alloc: Global, file: &File) -> Result<Found, TypeFault>
-    ensures { Tells result (Broken file.now) (λ f. (f.scope ≡ scope_of file.now) × (f.facts ≡ facts_in file.now)) }
+fn checked_file(alloc: Global, file: &File) -> Result<Checker, TypeFault>
+    ensures { Tells result (Broken file.now) (λ c. (c.scope ≡ scope_of file.now) × (c.facts ≡ facts_in file.now)) }
 {
     let written = file.imports.as_slice();
     let imports = imported(written)?;
     let decls = file.declarations.as_slice();
-    found_of_decls(alloc, imports, decls)
+    checked_declarations(alloc, imports, decls)
 }
 
 /// Whether a file keeps all rules; the first broken one in the order of the walk otherwise.
 pub fn check(alloc: Global, file: File) -> Result<Checked, TypeFault>
     ensures { Tells result (Broken file) (λ c. (c.file ≡ file) × ((c.scope ≡ scope_of file) × (c.facts ≡ facts_in file))) }
 {
-    match found_of_file(alloc, &file) {
-        Ok(found) => {
-            let Found { scope, facts } = found;
+    match checked_file(alloc, &file) {
+        Ok(checker) => {
+            let (scope, facts) = checker.into_found();
             Ok(Checked { file, scope, facts })
         }
         Err(fault) => Err(fault),

@@ -1,16 +1,23 @@
 //! Whether functions and methods keep the rules.
+//!
+//! Receiver and parameters take the first slots, and the body goes on from there. After a function the scope is the one
+//! outside all functions again.
 
 ghost use Rattle.std.specs.Prelude.{◌≡◌, [], map, IfOk, OnOk};
 ghost use Rattle.golf_check_types.specs.Faults.{Tells};
-ghost use Rattle.golf_check_types.specs.Statements.{Moves, Walks, behind, in_order};
-ghost use Rattle.golf_check_types.specs.Files.{parameter as parameter_of, parameter_walk, end_faults, func_walk, outside as outside_of};
-ghost use Rattle.golf_check.specs.Heads.{receiver_name as receiver_name_of, optional_parameter as optional_parameter_of, body_walks, inner_walks, head_walks, arguments as arguments_of, function_walked, Counts, Stays};
+ghost use Rattle.golf_check_types.specs.Statements.{behind, in_order};
+ghost use Rattle.golf_check_types.specs.Files.{parameter as parameter_of, parameter_walk, end_faults, func_walk};
+ghost use Rattle.golf_check_types.specs.Files.{outside as outside_of};
+ghost use Rattle.golf_check_bodies.specs.Telling.{Walks};
+ghost use Rattle.golf_check.specs.Heads.{receiver_name as receiver_name_of};
+ghost use Rattle.golf_check.specs.Heads.{optional_parameter as optional_parameter_of, body_walks, inner_walks};
+ghost use Rattle.golf_check.specs.Heads.{head_walks, arguments as arguments_of, function_walked, Counts, Stays};
 
-use golf_base::{List, Memory};
-use golf_check_endings::all_ending;
-use golf_check_forms::{TypedName, result_type, typed_names};
+use golf_base::Memory;
+use golf_check_bodies::{Checker, all_ending};
+use golf_check_names::{TypedName, result_type, typed_names};
 use golf_check_operands::{plain_type, pointer_to};
-use golf_check_statements::all;
+use golf_check_types::rules::{NOT_DECLARABLE, NOT_TERMINATING};
 use golf_check_types::{
     Fact, GoType, Scope, TypeFault, copy_name, copy_optional, declare, may_be_declared, meaning_at,
     require,
@@ -18,113 +25,93 @@ use golf_check_types::{
 use golf_syntax_trees::{Func, Receiver};
 use std::alloc::Global;
 
-// Rule 2 of receivers and parameters.
+// A receiver or parameter: it has no fact.
 fn parameter(
-    alloc: Global,
+    checker: &mut Checker,
     line: u32,
-    scope: &mut Scope,
     name: &[u8],
     t: Option<GoType>,
 ) -> Result<(), TypeFault>
-    ensures { Moves result (parameter_of line t name.now scope.old) scope.old scope.new }
+    ensures { Walks result (parameter_of line t name.now checker.old.scope) checker.old checker.new }
 {
-    require(line, 2, may_be_declared(scope, name))?;
-    declare(alloc, scope, name, t)?;
+    require(line, NOT_DECLARABLE, may_be_declared(&checker.scope, name))?;
+    declare(checker.alloc, &mut checker.scope, name, t)?;
     Ok(())
 }
 
-fn typed_parameter(
-    alloc: Global,
-    line: u32,
-    scope: &mut Scope,
-    named: &TypedName,
-) -> Result<(), TypeFault>
-    ensures { Moves result (parameter_walk line named.now scope.old) scope.old scope.new }
+// A receiver or parameter with its type.
+fn typed_parameter(checker: &mut Checker, line: u32, named: &TypedName) -> Result<(), TypeFault>
+    ensures { Walks result (parameter_walk line named.now checker.old.scope) checker.old checker.new }
 {
-    let t = copy_optional(alloc, &named.1)?;
-    parameter(alloc, line, scope, named.0.as_slice(), t)
+    let t = copy_optional(checker.alloc, &named.1)?;
+    parameter(checker, line, named.0.as_slice(), t)
 }
 
+// A receiver, if there is one.
 #[tactic(auto, using(golf_check_types::proofs::WalkLaws::stays))]
 fn optional_parameter(
-    alloc: Global,
+    checker: &mut Checker,
     line: u32,
-    scope: &mut Scope,
     named: &Option<TypedName>,
 ) -> Result<(), TypeFault>
-    ensures { Moves result (optional_parameter_of line named.now scope.old) scope.old scope.new }
+    ensures { Walks result (optional_parameter_of line named.now checker.old.scope) checker.old checker.new }
 {
     match named {
         None => Ok(()),
-        Some(named) => typed_parameter(alloc, line, scope, named),
+        Some(named) => typed_parameter(checker, line, named),
     }
 }
 
-fn parameters(
-    alloc: Global,
-    line: u32,
-    scope: &mut Scope,
-    names: &[TypedName],
-) -> Result<(), TypeFault>
-    ensures { Moves result (in_order (map (parameter_walk line) names.now) scope.old) scope.old scope.new }
+// Parameters, from left to right.
+fn parameters(checker: &mut Checker, line: u32, names: &[TypedName]) -> Result<(), TypeFault>
+    ensures { Walks result (in_order (map (parameter_walk line) names.now) checker.old.scope) checker.old checker.new }
 {
     for named in names {
-        typed_parameter(alloc, line, scope, named)?;
+        typed_parameter(checker, line, named)?;
     }
     Ok(())
 }
 
-// Rule 14.
+// A function with a result ends in a terminating statement.
 fn ends(func: &Func) -> Result<(), TypeFault>
     ensures { Tells result (end_faults func.now) (λ _. Unit {0}) }
 {
     let holds = func.result.is_none() || all_ending(func.body.as_slice()).ends;
-    require(func.line, 14, holds)
+    require(func.line, NOT_TERMINATING, holds)
 }
 
-fn body(
-    alloc: Global,
-    scope: &mut Scope,
-    func: &Func,
-    facts: &mut List<Fact>,
-) -> Result<(), TypeFault>
-    ensures { Walks result (in_order (body_walks func.now) scope.old) scope.old scope.new facts.old facts.new }
+// A body, and how it ends.
+fn body(checker: &mut Checker, func: &Func) -> Result<(), TypeFault>
+    ensures { Walks result (in_order (body_walks func.now) checker.old.scope) checker.old checker.new }
 {
-    all(alloc, scope, func.body.as_slice(), facts)?;
+    checker.statements(func.body.as_slice())?;
     ends(func)
 }
 
 // Parameters and a body; how many slots receiver and parameters have.
-fn behind_receiver(
-    alloc: Global,
-    scope: &mut Scope,
-    func: &Func,
-    names: &[TypedName],
-    facts: &mut List<Fact>,
-) -> Result<u32, TypeFault>
-    ensures { Counts result (in_order (inner_walks func.now names.now) scope.old) (behind scope.old (in_order (map (parameter_walk func.now.line) names.now) scope.old)).next scope.old scope.new facts.old facts.new }
+fn after_receiver(checker: &mut Checker, func: &Func, names: &[TypedName]) -> Result<u32, TypeFault>
+    ensures { Counts result (in_order (inner_walks func.now names.now) checker.old.scope) (behind checker.old.scope (in_order (map (parameter_walk func.now.line) names.now) checker.old.scope)).next checker.old checker.new }
 {
-    parameters(alloc, func.line, scope, names)?;
-    let arguments = scope.next;
-    body(alloc, scope, func, facts)?;
+    parameters(checker, func.line, names)?;
+    let arguments = checker.scope.next;
+    body(checker, func)?;
     Ok(arguments)
 }
 
 // A head and a body; how many slots receiver and parameters have.
 fn head(
-    alloc: Global,
-    scope: &mut Scope,
+    checker: &mut Checker,
     func: &Func,
     receiver: &Option<TypedName>,
     names: &[TypedName],
-    facts: &mut List<Fact>,
 ) -> Result<u32, TypeFault>
-    ensures { Counts result (in_order (head_walks func.now receiver.now names.now) scope.old) (arguments_of func.now receiver.now names.now scope.old) scope.old scope.new facts.old facts.new }
+    ensures { Counts result (in_order (head_walks func.now receiver.now names.now) checker.old.scope) (arguments_of func.now receiver.now names.now checker.old.scope) checker.old checker.new }
 {
-    optional_parameter(alloc, func.line, scope, receiver)?;
-    behind_receiver(alloc, scope, func, names, facts)
+    optional_parameter(checker, func.line, receiver)?;
+    after_receiver(checker, func, names)
 }
 
+// The name of a receiver with its type.
 fn named_receiver(alloc: Global, scope: &Scope, receiver: &Receiver) -> Result<TypedName, Memory>
     ensures { IfOk result (λ p. Some p ≡ receiver_name_of scope.now (Some receiver.now)) }
 {
@@ -133,7 +120,7 @@ fn named_receiver(alloc: Global, scope: &Scope, receiver: &Receiver) -> Result<T
     Ok((name, plain_type(alloc, pointer_to(meaning))))
 }
 
-/// The name of a receiver with its type, if there is one.
+// The name of a receiver with its type, if there is one.
 fn receiver_name(
     alloc: Global,
     scope: &Scope,
@@ -147,7 +134,7 @@ fn receiver_name(
     }
 }
 
-/// The scope outside all functions again. On an `Err` nothing is said of the scope.
+// The scope outside all functions again. On an `Err` nothing is said of the scope.
 fn leave(alloc: Global, scope: &mut Scope) -> Result<(), Memory>
     ensures { OnOk result (scope.new ≡ record scope.old { locals = []; result = None; next = 0 }) }
 {
@@ -157,27 +144,25 @@ fn leave(alloc: Global, scope: &mut Scope) -> Result<(), Memory>
     Ok(())
 }
 
-// A function of these types, and the fact that counts its slots and facts.
+// A function of these types. The fact that counts its slots and facts is added before these.
 #[tactic(auto, using(crate::proofs::Laws::left_scope, golf_check_types::proofs::Seams::function_filled))]
-fn typed_func(
-    alloc: Global,
-    scope: &mut Scope,
+fn typed_function(
+    checker: &mut Checker,
     func: &Func,
     receiver: &Option<TypedName>,
     names: &[TypedName],
     result_type: Option<GoType>,
-    facts: &mut List<Fact>,
 ) -> Result<(), TypeFault>
-    requires { scope.old ≡ outside_of scope.old.file }
-    ensures { Stays result (function_walked func.now receiver.now names.now (record scope.old { result = result_type })) scope.old scope.new facts.old facts.new }
+    requires { checker.old.scope ≡ outside_of checker.old.scope.file }
+    ensures { Stays result (function_walked func.now receiver.now names.now (record checker.old.scope { result = result_type })) checker.old checker.new }
 {
-    scope.result = result_type;
-    let at = facts.len();
-    facts.push(Fact::Part(0))?;
-    let arguments = head(alloc, scope, func, receiver, names, facts)?;
-    let slots = scope.next;
-    let parts = facts.len() - at - 1;
-    facts.set(
+    checker.scope.result = result_type;
+    let at = checker.facts.len();
+    checker.facts.push(Fact::Part(0))?;
+    let arguments = head(checker, func, receiver, names)?;
+    let slots = checker.scope.next;
+    let parts = checker.facts.len() - at - 1;
+    checker.facts.set(
         at,
         Fact::Function {
             arguments,
@@ -185,24 +170,19 @@ fn typed_func(
             parts,
         },
     );
-    leave(alloc, scope)?;
+    leave(checker.alloc, &mut checker.scope)?;
     Ok(())
 }
 
-/// A function or method. On an `Err` nothing is said of the scope.
-pub fn func_at(
-    alloc: Global,
-    scope: &mut Scope,
-    func: &Func,
-    facts: &mut List<Fact>,
-) -> Result<(), TypeFault>
-    requires { scope.old ≡ outside_of scope.old.file }
-    ensures { Stays result (func_walk func.now scope.old) scope.old scope.new facts.old facts.new }
+/// A function or method. After an error nothing is said of the checker.
+pub fn function(checker: &mut Checker, func: &Func) -> Result<(), TypeFault>
+    requires { checker.old.scope ≡ outside_of checker.old.scope.file }
+    ensures { Stays result (func_walk func.now checker.old.scope) checker.old checker.new }
 {
     let parameters = func.parameters.as_slice();
-    let receiver = receiver_name(alloc, scope, &func.receiver)?;
-    let names = typed_names(alloc, scope, parameters)?;
-    let result_type = result_type(alloc, scope, &func.result)?;
+    let receiver = receiver_name(checker.alloc, &checker.scope, &func.receiver)?;
+    let names = typed_names(checker.alloc, &checker.scope, parameters)?;
+    let result_type = result_type(checker.alloc, &checker.scope, &func.result)?;
     let typed = names.as_slice();
-    typed_func(alloc, scope, func, &receiver, typed, result_type, facts)
+    typed_function(checker, func, &receiver, typed, result_type)
 }

@@ -1,15 +1,19 @@
 //! The scope outside all functions.
+//!
+//! It is made of the names of the file, and their types are added once the names are judged. It has no locals.
 
 ghost use Rattle.std.specs.Prelude.{◌≡◌, IfOk, OnOk};
 ghost use Rattle.golf_check_types.specs.Files.{bare_file, with_types, with_forms, outside as outside_of};
 
 use golf_base::Memory;
-use golf_check_forms::{form_globals, function_types, global_types, struct_types};
-use golf_check_names::{add_methods, naming_of};
+use golf_check_names::{
+    add_methods, form_globals, function_types, global_types, naming_of, struct_types,
+};
 use golf_check_types::{FileScope, Imports, Locals, Scope};
 use golf_syntax_trees::Decl;
 use std::alloc::Global;
 
+// The scope outside all functions of a file.
 fn outside(alloc: Global, file: FileScope) -> Scope
     ensures { result ≡ outside_of file }
 {
@@ -34,6 +38,7 @@ pub fn bare_scope(alloc: Global, imports: Imports, decls: &[Decl]) -> Result<Sco
     Ok(outside(alloc, naming.into_file_scope(alloc, imports)))
 }
 
+// Adds the types that are written. On an `Err` nothing is said of the scope.
 fn add_written_types(alloc: Global, scope: &mut Scope, decls: &[Decl]) -> Result<(), Memory>
     requires { scope.old ≡ outside_of scope.old.file }
     ensures { OnOk result (scope.new ≡ outside_of (with_types scope.old.file decls.now)) }

@@ -1,14 +1,27 @@
-//! Methods, the declared names, the written types, `main`.
+//! Whether the names that a file declares, the types that it writes and its `main` keep the rules.
+//!
+//! Each check is one pass over the declarations in source order, before any body. Methods are put after the fields of
+//! their structs first, so that a name which comes twice is found at the second place.
 
 ghost use Rattle.std.specs.Prelude.{◌≡◌, flat_map, slice_get, OnOk, option_and_then};
 ghost use Rattle.golf_check_types.specs.Faults.{Tells, broken as broken_of};
 ghost use Rattle.golf_check_types.specs.Scopes.{meaning_in};
 ghost use Rattle.golf_check_types.specs.Names.{number_of, is_number as is_number_of};
-ghost use Rattle.golf_check_types.specs.Files.{struct_number as struct_number_of, receiver_struct as receiver_struct_of, with_method, method_added, methods_added, may_be_named as may_be_named_of, kind_of as kind_of_of, is_field as is_field_of, is_method as is_method_of, fields_are as fields_are_of, method_is as method_is_of, function_faults, name_faults, names_faults, none_above, names_in as names_in_of, structs_in as structs_in_of, functions_in as functions_in_of, field_fault, content_faults, result_fault, type_faults, is_main as is_main_of, fits_main as fits_main_of, declares_main as declares_main_of, line_of as line_of_of, main_faults};
+ghost use Rattle.golf_check_types.specs.Files.{struct_number as struct_number_of};
+ghost use Rattle.golf_check_types.specs.Files.{receiver_struct as receiver_struct_of, with_method, method_added};
+ghost use Rattle.golf_check_types.specs.Files.{methods_added, may_be_named as may_be_named_of, kind_of as kind_of_of};
+ghost use Rattle.golf_check_types.specs.Files.{is_field as is_field_of, is_method as is_method_of};
+ghost use Rattle.golf_check_types.specs.Files.{fields_are as fields_are_of, method_is as method_is_of, function_faults};
+ghost use Rattle.golf_check_types.specs.Files.{name_faults, names_faults, none_above, names_in as names_in_of};
+ghost use Rattle.golf_check_types.specs.Files.{structs_in as structs_in_of, functions_in as functions_in_of};
+ghost use Rattle.golf_check_types.specs.Files.{field_fault, content_faults, result_fault, type_faults};
+ghost use Rattle.golf_check_types.specs.Files.{is_main as is_main_of, fits_main as fits_main_of};
+ghost use Rattle.golf_check_types.specs.Files.{declares_main as declares_main_of, line_of as line_of_of, main_faults};
 
 use crate::names::names_of;
 use golf_base::{List, Memory};
 use golf_check_operands::type_is_there;
+use golf_check_types::rules::{NO_MAIN, NOT_DECLARABLE, WRONG_MEMBER};
 use golf_check_types::{
     Entity, FileScope, Member, Members, Naming, Scope, Table, TypeFault, is_blank, is_reserved,
     kind_at, require,
@@ -32,6 +45,7 @@ fn struct_named(names: &Table, entities: &[Entity], name: &[u8]) -> Option<u32>
     }
 }
 
+// The struct of the file that a receiver points to, if there is one.
 fn receiver_struct(naming: &Naming, receiver: &Option<Receiver>) -> Option<u32>
     ensures { result ≡ receiver_struct_of naming.now receiver.now }
 {
@@ -45,6 +59,7 @@ fn receiver_struct(naming: &Naming, receiver: &Option<Receiver>) -> Option<u32>
     }
 }
 
+// Adds a method of this number after the members so far.
 fn add_method(alloc: Global, members: &mut Members, name: &[u8], number: u32) -> Result<(), Memory>
     ensures { OnOk result (members.new ≡ with_method members.old name.now number) }
 {
@@ -54,6 +69,7 @@ fn add_method(alloc: Global, members: &mut Members, name: &[u8], number: u32) ->
     Ok(())
 }
 
+// Adds a method to the struct that owns it, if one does.
 fn put_method(
     alloc: Global,
     structs: &mut List<Members>,
@@ -94,6 +110,7 @@ pub fn add_methods(alloc: Global, naming: &mut Naming, decls: &[Decl]) -> Result
     Ok(())
 }
 
+// Whether a name was found at this number.
 fn is_number(found: Option<usize>, number: usize) -> bool
     ensures { result ≡ is_number_of found number }
 {
@@ -103,6 +120,7 @@ fn is_number(found: Option<usize>, number: usize) -> bool
     }
 }
 
+// Whether the declaration at this place may have the name: it is the first of that name.
 #[tactic(auto, unfolding(golf_check_types::specs::Files::may_be_named))]
 fn may_be_named(file: &FileScope, at: usize, name: &[u8]) -> bool
     ensures { result ≡ may_be_named_of file.now at name.now }
@@ -110,6 +128,7 @@ fn may_be_named(file: &FileScope, at: usize, name: &[u8]) -> bool
     !is_blank(name) && !is_reserved(name) && is_number(file.names.number_of(name), at)
 }
 
+// What a name is among the members of the struct of this number.
 fn kind_of(structs: &[Members], number: usize, name: &[u8]) -> Option<Member>
     ensures { result ≡ kind_of_of structs.now number name.now }
 {
@@ -119,6 +138,7 @@ fn kind_of(structs: &[Members], number: usize, name: &[u8]) -> Option<Member>
     }
 }
 
+// Whether a member is the field at this place.
 fn is_field(kind: Option<Member>, place: usize) -> bool
     ensures { result ≡ is_field_of kind place }
 {
@@ -131,6 +151,7 @@ fn is_field(kind: Option<Member>, place: usize) -> bool
     }
 }
 
+// Whether a member is the method of this number.
 fn is_method(kind: Option<Member>, number: u32) -> bool
     ensures { result ≡ is_method_of kind number }
 {
@@ -155,6 +176,7 @@ fn fields_are(structs: &[Members], number: usize, names: &[Name]) -> bool
     true
 }
 
+// Whether a method is that of its name in the struct that owns it.
 fn method_is(structs: &[Members], owner: Option<u32>, name: &[u8], number: u32) -> bool
     ensures { result ≡ method_is_of structs.now owner name.now number }
 {
@@ -164,6 +186,7 @@ fn method_is(structs: &[Members], owner: Option<u32>, name: &[u8], number: u32) 
     }
 }
 
+// Whether a method has a struct of the file and a name that is new to it.
 fn method_is_named(
     file: &FileScope,
     line: u32,
@@ -171,7 +194,7 @@ fn method_is_named(
     name: &[u8],
     number: u32,
 ) -> Result<(), TypeFault>
-    ensures { Tells result (broken_of line 5 (method_is_of file.now.structs (struct_number_of (meaning_in file.now receiver.now.type_name)) name.now number)) (λ _. Unit {0}) }
+    ensures { Tells result (broken_of line WRONG_MEMBER (method_is_of file.now.structs (struct_number_of (meaning_in file.now receiver.now.type_name)) name.now number)) (λ _. Unit {0}) }
 {
     let owner = struct_named(
         &file.names,
@@ -180,11 +203,12 @@ fn method_is_named(
     );
     require(
         line,
-        5,
+        WRONG_MEMBER,
         method_is(file.structs.as_slice(), owner, name, number),
     )
 }
 
+// Whether a function or method may have its name.
 fn function_is_named(
     file: &FileScope,
     names: usize,
@@ -197,13 +221,14 @@ fn function_is_named(
     match &func.receiver {
         None => require(
             func.line,
-            2,
+            NOT_DECLARABLE,
             may_be_named(file, names, name) && name != b"init".as_slice(),
         ),
         Some(receiver) => method_is_named(file, func.line, receiver, name, number),
     }
 }
 
+// Whether a struct may have its name, and has at most 64 fields of different names.
 fn struct_is_named(
     alloc: Global,
     file: &FileScope,
@@ -215,15 +240,16 @@ fn struct_is_named(
 ) -> Result<(), TypeFault>
     ensures { Tells result (name_faults file.now (record { names = names; structs = number; functions = 0 }) (Decl.Struct line name.now fields.now)) (λ _. Unit {0}) }
 {
-    require(line, 2, may_be_named(file, names, name))?;
+    require(line, NOT_DECLARABLE, may_be_named(file, names, name))?;
     let all = names_of(alloc, fields)?;
     require(
         line,
-        5,
+        WRONG_MEMBER,
         fields_are(file.structs.as_slice(), number, all.as_slice()) && all.len() <= 64,
     )
 }
 
+// Whether a declaration may have its names, if so many names, structs and functions stand above it.
 fn is_named(
     alloc: Global,
     file: &FileScope,
@@ -236,11 +262,15 @@ fn is_named(
 {
     match decl {
         Decl::Const(line, name, _) => {
-            require(*line, 2, may_be_named(file, names, name.as_slice()))
+            require(
+                *line,
+                NOT_DECLARABLE,
+                may_be_named(file, names, name.as_slice()),
+            )
         }
         Decl::Var(var) => require(
             var.get().line,
-            2,
+            NOT_DECLARABLE,
             may_be_named(file, names, var.get().name.as_slice()),
         ),
         Decl::Struct(line, name, fields) => struct_is_named(
@@ -256,6 +286,7 @@ fn is_named(
     }
 }
 
+// How many names of the file a declaration has. A method is none.
 fn names_in(decl: &Decl) -> usize
     ensures { result ≡ names_in_of decl.now }
 {
@@ -268,6 +299,7 @@ fn names_in(decl: &Decl) -> usize
     }
 }
 
+// How many structs a declaration is.
 fn structs_in(decl: &Decl) -> usize
     ensures { result ≡ structs_in_of decl.now }
 {
@@ -277,6 +309,7 @@ fn structs_in(decl: &Decl) -> usize
     }
 }
 
+// How many functions or methods a declaration is.
 fn functions_in(decl: &Decl) -> u32
     ensures { result ≡ functions_in_of decl.now }
 {
@@ -286,7 +319,7 @@ fn functions_in(decl: &Decl) -> u32
     }
 }
 
-/// The declared names: rules 2 and 5.
+/// The declared names: `NOT_DECLARABLE` and `WRONG_MEMBER`.
 pub fn names_are_good(alloc: Global, file: &FileScope, decls: &[Decl]) -> Result<(), TypeFault>
     ensures { Tells result (names_faults file.now none_above decls.now) (λ _. Unit {0}) }
 {
@@ -302,6 +335,7 @@ pub fn names_are_good(alloc: Global, file: &FileScope, decls: &[Decl]) -> Result
     Ok(())
 }
 
+// Whether the types of fields or parameters are there.
 fn fields_are_typed(
     alloc: Global,
     line: u32,
@@ -316,6 +350,7 @@ fn fields_are_typed(
     Ok(())
 }
 
+// Whether the type of a variable is there, if one is written.
 fn content_is_typed(
     alloc: Global,
     line: u32,
@@ -331,6 +366,7 @@ fn content_is_typed(
     }
 }
 
+// Whether the type of a result is there, if one is written.
 fn result_is_typed(
     alloc: Global,
     line: u32,
@@ -345,6 +381,7 @@ fn result_is_typed(
     }
 }
 
+// Whether the types of parameters and result are there.
 fn func_is_typed(alloc: Global, scope: &Scope, func: &Func) -> Result<(), TypeFault>
     ensures { Tells result (type_faults scope.now (Decl.Func func.now)) (λ _. Unit {0}) }
 {
@@ -352,6 +389,7 @@ fn func_is_typed(alloc: Global, scope: &Scope, func: &Func) -> Result<(), TypeFa
     result_is_typed(alloc, func.line, scope, &func.result)
 }
 
+// Whether all types that a declaration writes outside bodies are there.
 fn decl_is_typed(alloc: Global, scope: &Scope, decl: &Decl) -> Result<(), TypeFault>
     ensures { Tells result (type_faults scope.now decl.now) (λ _. Unit {0}) }
 {
@@ -363,7 +401,7 @@ fn decl_is_typed(alloc: Global, scope: &Scope, decl: &Decl) -> Result<(), TypeFa
     }
 }
 
-/// The written types: rules 3 and 4.
+/// The written types: `UNKNOWN_NAME` and `UNKNOWN_TYPE`.
 pub fn types_are_there(alloc: Global, scope: &Scope, decls: &[Decl]) -> Result<(), TypeFault>
     ensures { Tells result (flat_map (type_faults scope.now) decls.now) (λ _. Unit {0}) }
 {
@@ -373,6 +411,7 @@ pub fn types_are_there(alloc: Global, scope: &Scope, decls: &[Decl]) -> Result<(
     Ok(())
 }
 
+// Whether a name is `main`.
 #[tactic(auto, unfolding(golf_check_types::specs::Files::is_main))]
 fn is_main(name: &[u8]) -> bool
     ensures { result ≡ is_main_of name.now }
@@ -380,6 +419,7 @@ fn is_main(name: &[u8]) -> bool
     name == b"main".as_slice()
 }
 
+// Whether a declaration is a function without parameters and result.
 fn fits_main(decl: &Decl) -> bool
     ensures { result ≡ fits_main_of decl.now }
 {
@@ -415,14 +455,17 @@ pub fn line_of(decl: &Decl) -> u32
     }
 }
 
-/// `main`: rule 6.
+/// `main`: `NO_MAIN`.
 pub fn main_is_there(decls: &[Decl]) -> Result<(), TypeFault>
     ensures { Tells result (main_faults decls.now) (λ _. Unit {0}) }
 {
     for decl in decls {
         if declares_main(decl) {
-            return require(line_of(decl), 6, fits_main(decl));
+            return require(line_of(decl), NO_MAIN, fits_main(decl));
         }
     }
-    Err(TypeFault::At { line: 1, rule: 6 })
+    Err(TypeFault::At {
+        line: 1,
+        rule: NO_MAIN,
+    })
 }

@@ -1,12 +1,19 @@
-//! Imports.
+//! Which packages a file imports.
+//!
+//! There are three packages. Each is imported once at most, in whatever declaration.
 
 ghost use Rattle.std.specs.Prelude.{◌≡◌};
 ghost use Rattle.golf_check_types.specs.Faults.{Tells, broken as broken_of};
-ghost use Rattle.golf_check_types.specs.Files.{package_of as package_of_of, is_new_import as is_new_import_of, with_import as with_import_of, path_faults, with_paths, import_line, import_paths as import_paths_of, import_faults, with_imports, no_imports};
+ghost use Rattle.golf_check_types.specs.Files.{package_of as package_of_of, is_new_import as is_new_import_of};
+ghost use Rattle.golf_check_types.specs.Files.{with_import as with_import_of, path_faults, with_paths, import_line};
+ghost use Rattle.golf_check_types.specs.Files.{import_paths as import_paths_of, import_faults, with_imports};
+ghost use Rattle.golf_check_types.specs.Files.{no_imports};
 
+use golf_check_types::rules::WRONG_IMPORT;
 use golf_check_types::{Imports, Package, TypeFault, require};
 use golf_syntax_trees::{Import, Name};
 
+// The package of this path, if it is one of the language.
 #[tactic(auto, unfolding(golf_check_types::specs::Files::package_of))]
 fn package_of(path: &[u8]) -> Option<Package>
     ensures { result ≡ package_of_of path.now }
@@ -23,6 +30,7 @@ fn package_of(path: &[u8]) -> Option<Package>
     None
 }
 
+// Whether a package is known and not yet imported.
 fn is_new_import(imports: Imports, from: Option<Package>) -> bool
     ensures { result ≡ is_new_import_of imports from }
 {
@@ -36,6 +44,7 @@ fn is_new_import(imports: Imports, from: Option<Package>) -> bool
     }
 }
 
+// The imports with one package more.
 fn with_import(imports: Imports, from: Option<Package>) -> Imports
     ensures { result ≡ with_import_of imports from }
 {
@@ -61,14 +70,16 @@ fn with_import(imports: Imports, from: Option<Package>) -> Imports
     }
 }
 
+// The imports after one path, which is that of a package that is not yet imported.
 fn import_path(line: u32, imports: Imports, path: &[u8]) -> Result<Imports, TypeFault>
-    ensures { Tells result (broken_of line 1 (is_new_import_of imports (package_of_of path.now))) (λ i. i ≡ with_import_of imports (package_of_of path.now)) }
+    ensures { Tells result (broken_of line WRONG_IMPORT (is_new_import_of imports (package_of_of path.now))) (λ i. i ≡ with_import_of imports (package_of_of path.now)) }
 {
     let from = package_of(path);
-    require(line, 1, is_new_import(imports, from))?;
+    require(line, WRONG_IMPORT, is_new_import(imports, from))?;
     Ok(with_import(imports, from))
 }
 
+// The imports after these paths.
 fn import_paths(line: u32, imports: Imports, paths: &[Name]) -> Result<Imports, TypeFault>
     ensures { Tells result (path_faults line imports paths.now) (λ i. i ≡ with_paths imports paths.now) }
 {
@@ -79,6 +90,7 @@ fn import_paths(line: u32, imports: Imports, paths: &[Name]) -> Result<Imports, 
     Ok(imports)
 }
 
+// The imports after one declaration.
 fn import_one(imports: Imports, import: &Import) -> Result<Imports, TypeFault>
     ensures { Tells result (path_faults (import_line import.now) imports (import_paths_of import.now)) (λ i. i ≡ with_paths imports (import_paths_of import.now)) }
 {
@@ -88,7 +100,7 @@ fn import_one(imports: Imports, import: &Import) -> Result<Imports, TypeFault>
     }
 }
 
-/// Which packages are imported: rule 1.
+/// Which packages are imported: `WRONG_IMPORT`.
 pub fn imported(imports: &[Import]) -> Result<Imports, TypeFault>
     ensures { Tells result (import_faults no_imports imports.now) (λ i. i ≡ with_imports no_imports imports.now) }
 {

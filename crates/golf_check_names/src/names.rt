@@ -1,7 +1,12 @@
 //! What the names of a file are.
+//!
+//! Constants, globals, structs and functions are numbered in source order, each kind by itself. The first declaration of
+//! a name counts; whether there is a second one is judged by `names_are_good`.
 
 ghost use Rattle.std.specs.Prelude.{◌≡◌, ◌∷◌, ◌++◌, ◌+◌, [], fold, flat_map, length, IfOk, OnOk};
-ghost use Rattle.golf_check_types.specs.Files.{const_base as const_base_of, field_names, with_field as with_field_of, members_of as members_of_of, name_added, function_added, decl_added, naming_of as naming_of_of};
+ghost use Rattle.golf_check_types.specs.Files.{const_base as const_base_of, field_names, with_field as with_field_of};
+ghost use Rattle.golf_check_types.specs.Files.{members_of as members_of_of, name_added, function_added, decl_added};
+ghost use Rattle.golf_check_types.specs.Files.{naming_of as naming_of_of};
 
 use golf_base::{List, Memory};
 use golf_check_types::{Base, Entity, Member, Members, Naming, Table, copy_name};
@@ -31,6 +36,7 @@ fn number(count: usize) -> Result<u32, Memory>
     }
 }
 
+// Adds a field after the members so far.
 fn add_field(alloc: Global, members: &mut Members, name: &[u8]) -> Result<(), Memory>
     ensures { OnOk result (members.new ≡ with_field_of members.old name.now) }
 {
@@ -41,6 +47,7 @@ fn add_field(alloc: Global, members: &mut Members, name: &[u8]) -> Result<(), Me
     Ok(())
 }
 
+// Adds the names that one declaration of fields has.
 fn add_names(alloc: Global, names: &mut List<Name>, field: &Field) -> Result<(), Memory>
     ensures { OnOk result (names.new ≡ names.old ++ field_names field.now) }
 {
@@ -62,6 +69,7 @@ pub(crate) fn names_of(alloc: Global, fields: &[Field]) -> Result<List<Name>, Me
     Ok(names)
 }
 
+// Adds the fields of these names.
 fn add_all_fields(alloc: Global, members: &mut Members, names: &[Name]) -> Result<(), Memory>
     ensures { OnOk result (members.new ≡ fold with_field_of members.old names.now) }
 {
@@ -71,6 +79,7 @@ fn add_all_fields(alloc: Global, members: &mut Members, names: &[Name]) -> Resul
     Ok(())
 }
 
+// The fields of a struct, numbered from 0.
 fn members_of(alloc: Global, fields: &[Field]) -> Result<Members, Memory>
     ensures { IfOk result (λ m. m ≡ members_of_of fields.now) }
 {
@@ -83,6 +92,7 @@ fn members_of(alloc: Global, fields: &[Field]) -> Result<Members, Memory>
     Ok(members)
 }
 
+// Adds a name of the file that means this, unless a declaration above has it.
 fn add_name(alloc: Global, naming: &mut Naming, name: &[u8], meaning: Entity) -> Result<(), Memory>
     ensures { OnOk result (naming.new ≡ name_added naming.old name.now meaning) }
 {
@@ -92,6 +102,7 @@ fn add_name(alloc: Global, naming: &mut Naming, name: &[u8], meaning: Entity) ->
     Ok(())
 }
 
+// Adds a constant.
 fn add_constant(alloc: Global, naming: &mut Naming, name: &[u8], base: Base) -> Result<(), Memory>
     ensures { OnOk result (naming.new ≡ record (name_added naming.old name.now (Entity.Constant naming.old.constants base)) { constants = naming.old.constants + 1 }) }
 {
@@ -101,6 +112,7 @@ fn add_constant(alloc: Global, naming: &mut Naming, name: &[u8], base: Base) -> 
     Ok(())
 }
 
+// Adds a global.
 fn add_global(alloc: Global, naming: &mut Naming, name: &[u8]) -> Result<(), Memory>
     ensures { OnOk result (naming.new ≡ record (name_added naming.old name.now (Entity.Global naming.old.globals)) { globals = naming.old.globals + 1 }) }
 {
@@ -110,6 +122,7 @@ fn add_global(alloc: Global, naming: &mut Naming, name: &[u8]) -> Result<(), Mem
     Ok(())
 }
 
+// Adds a struct with its fields.
 fn add_struct(
     alloc: Global,
     naming: &mut Naming,
@@ -124,6 +137,7 @@ fn add_struct(
     Ok(())
 }
 
+// Adds a function. A method has no name here, and a number alone.
 fn add_function(
     alloc: Global,
     naming: &mut Naming,
@@ -144,6 +158,7 @@ fn add_function(
     Ok(())
 }
 
+// Adds what a declaration declares.
 fn add_decl(alloc: Global, naming: &mut Naming, decl: &Decl) -> Result<(), Memory>
     ensures { OnOk result (naming.new ≡ decl_added naming.old decl.now) }
 {

@@ -10,5 +10,6 @@ value_from-grows n [] = omega arith
 value_from-grows n (d ∷ ds) = omega (arith, value_from-grows (10 * n + (d - 48)) ds)
 
 -- at a digit, the number is at least the one up to it
-pub value_from-at : (n : ℕ) (ds : List ℕ) (i : ℕ) → i < length ds → 10 * n + (get_or ds i 0 - 48) ≤ value_from n (drop i ds)
+pub value_from-at : (n : ℕ) (ds : List ℕ) (i : ℕ) → i < length ds
+    → 10 * n + (get_or ds i 0 - 48) ≤ value_from n (drop i ds)
 value_from-at n ds i lt = rw (drop-cons ds i 0) (value_from-grows (10 * n + (get_or ds i 0 - 48)) (drop (suc i) ds))

@@ -1,13 +1,17 @@
-//! What operands, operators, names, literals and selectors are, and which rules they break: all of
-//! an expression that looks at no other one.
+//! What operands, operators, names, literals, selectors and calls are, and which rules they break.
+//!
+//! Nothing here looks into a tree: the checker of bodies (`golf_check_bodies`) finds the operands, and asks here what is
+//! made of them. Each call answers the first broken rule of its construct, in the order of the walk.
 #![tactic(auto)]
 
+mod calls;
 mod literals;
 mod operators;
 mod selectors;
 mod values;
 mod written_types;
 
+pub use calls::{call, finalises, keeps_steady, rule_unless, sets_finaliser};
 pub use literals::{
     all_fit, elements_fit, field_place, fields_differ, int_value, made, made_sized, made_struct,
     named, struct_of,

@@ -1,11 +1,22 @@
 //! Names and literals, `make` and `new`.
+//!
+//! Of a literal of a struct each value is judged by its field, if that is known, and then the fields themselves. A field
+//! or name that is not known has no type, and a value without a type breaks no rule.
 
-ghost use Rattle.std.specs.Prelude.{◌≡◌, ◌≤◌, ◌++◌, [], pos, map, flat_map, SomeIff, IfOk, is_some, slice_get, option_and_then};
+ghost use Rattle.std.specs.Prelude.{◌≡◌, ◌≤◌, ◌++◌, [], pos, map, flat_map, SomeIff, IfOk, is_some, slice_get};
+ghost use Rattle.std.specs.Prelude.{option_and_then};
 ghost use Rattle.std.specs.List.{list_any};
 ghost use Rattle.std.specs.Str.{bytes_eq};
 ghost use Rattle.golf_check_types.specs.Faults.{Tells, broken as broken_of};
-ghost use Rattle.golf_check_types.specs.Types.{given as given_of, has_base as has_base_of, has_layer, is_any, is_channel, assignable as assignable_of};
-ghost use Rattle.golf_check_types.specs.Expressions.{named as named_of, known_name, found_name, reads_global as reads_global_of, is_above as is_above_of, value_from, fits_int as fits_int_of, struct_of as struct_of_of, field_place as field_place_of, made_struct as made_struct_of, field_type as field_type_of, field_of_member as field_of_member_of, put_faults, all_put_faults, fields_differ as fields_differ_of};
+ghost use Rattle.golf_check_types.specs.Types.{given as given_of, has_base as has_base_of, has_layer, is_any};
+ghost use Rattle.golf_check_types.specs.Types.{is_channel, assignable as assignable_of};
+ghost use Rattle.golf_check_types.specs.Expressions.{named as named_of, known_name, found_name};
+ghost use Rattle.golf_check_types.specs.Expressions.{reads_global as reads_global_of, is_above as is_above_of};
+ghost use Rattle.golf_check_types.specs.Expressions.{value_from, fits_int as fits_int_of, struct_of as struct_of_of};
+ghost use Rattle.golf_check_types.specs.Expressions.{field_place as field_place_of, made_struct as made_struct_of};
+ghost use Rattle.golf_check_types.specs.Expressions.{field_type as field_type_of};
+ghost use Rattle.golf_check_types.specs.Expressions.{field_of_member as field_of_member_of, put_faults, all_put_faults};
+ghost use Rattle.golf_check_types.specs.Expressions.{fields_differ as fields_differ_of};
 ghost use Rattle.golf_check_types.specs.Judging.{Finds};
 ghost use Rattle.golf_check_types.specs.Scopes.{meaning as meaning_of, type_at as type_at_of};
 ghost use Rattle.golf_check_types.specs.Written.{pointer_to as pointer_to_of};
@@ -13,6 +24,9 @@ ghost use Rattle.golf_check_types.specs.Written.{pointer_to as pointer_to_of};
 use crate::values::{assignable, has_any, has_base, has_channel};
 use crate::written_types::{plain_type, pointer_to};
 use golf_base::Memory;
+use golf_check_types::rules::{
+    NOT_ASSIGNABLE, NOT_STEADY, TOO_LARGE, UNKNOWN_NAME, UNKNOWN_TYPE, WRONG_CALL, WRONG_OPERAND,
+};
 use golf_check_types::{
     Base, FileScope, Given, GoType, Member, Operand, Scope, TypeFault, Where, copy_optional,
     given_type, is_blank, meaning_at, member_at, require, type_at,
@@ -23,6 +37,7 @@ use std::alloc::Global;
 /// The largest `int`.
 const MAX_INT: u64 = 9223372036854775807;
 
+// The number of the global that is read, if it is one.
 fn reads_global(operand: &Operand) -> Option<u32>
     ensures { result ≡ reads_global_of operand.now }
 {
@@ -48,13 +63,19 @@ fn is_above(initialises: Option<u32>, read: Option<u32>) -> bool
     }
 }
 
+// A name that means this, unless it reads a global that is not above the one that is initialised.
 fn found(line: u32, initialises: Option<u32>, operand: Operand) -> Result<Operand, TypeFault>
     ensures { Finds result (found_name line initialises operand) }
 {
-    require(line, 7, is_above(initialises, reads_global(&operand)))?;
+    require(
+        line,
+        NOT_STEADY,
+        is_above(initialises, reads_global(&operand)),
+    )?;
     Ok(operand)
 }
 
+// A name that means this, if it means anything.
 fn known(
     line: u32,
     initialises: Option<u32>,
@@ -63,12 +84,15 @@ fn known(
     ensures { Finds result (known_name line initialises meaning) }
 {
     match meaning {
-        None => Err(TypeFault::At { line, rule: 3 }),
+        None => Err(TypeFault::At {
+            line,
+            rule: UNKNOWN_NAME,
+        }),
         Some(operand) => found(line, initialises, operand),
     }
 }
 
-/// What a name is: rules 3 and 7.
+/// What a name is: `UNKNOWN_NAME` and `NOT_STEADY`.
 pub fn named(alloc: Global, line: u32, scope: &Scope, name: &[u8]) -> Result<Operand, TypeFault>
     ensures { Finds result (named_of line scope.now name.now) }
 {
@@ -94,18 +118,21 @@ fn small_value(digits: &[u8]) -> Option<u64>
     Some(value)
 }
 
-/// The number that digits stand for: rule 19.
+/// The number that digits stand for: `TOO_LARGE`.
 #[tactic(auto, unfolding(golf_check_types::specs::Expressions::fits_int))]
 pub fn int_value(line: u32, digits: &[u8]) -> Result<i64, TypeFault>
-    ensures { Tells result (broken_of line 19 (fits_int_of digits.now)) (λ n. n ≡ pos (value_from 0 digits.now)) }
+    ensures { Tells result (broken_of line TOO_LARGE (fits_int_of digits.now)) (λ n. n ≡ pos (value_from 0 digits.now)) }
 {
     match small_value(digits) {
-        None => Err(TypeFault::At { line, rule: 19 }),
+        None => Err(TypeFault::At {
+            line,
+            rule: TOO_LARGE,
+        }),
         Some(value) => Ok(value as i64),
     }
 }
 
-/// `new(T)`: rule 4.
+/// `new(T)`: `UNKNOWN_TYPE`.
 pub fn made_struct(
     alloc: Global,
     line: u32,
@@ -116,10 +143,11 @@ pub fn made_struct(
 {
     let meaning = meaning_at(alloc, scope, name)?;
     let base = pointer_to(meaning);
-    require(line, 4, base.is_some())?;
+    require(line, UNKNOWN_TYPE, base.is_some())?;
     Ok(Operand::Value(plain_type(alloc, base)))
 }
 
+// The type of a field, if this member is one.
 fn field_of_member(
     alloc: Global,
     file: &FileScope,
@@ -152,6 +180,7 @@ pub fn type_of_field(
     }
 }
 
+// The type of the field of this name of the struct that a pointer leads to, if there is one.
 #[tactic(auto, unfolding(golf_check_types::specs::Expressions::field_type))]
 fn field_type(
     alloc: Global,
@@ -198,15 +227,17 @@ pub fn field_place(file: &FileScope, base: Option<Base>, name: &[u8]) -> u32
     }
 }
 
+// Whether a value fits the field that it is put into, if that is known.
 fn put_fits(line: u32, field: &Option<Option<GoType>>, given: &Given) -> Result<(), TypeFault>
     ensures { Tells result (put_faults line field.now given.now) (λ _. Unit {0}) }
 {
     match field {
         None => Ok(()),
-        Some(t) => require(line, 9, assignable(given, t)),
+        Some(t) => require(line, NOT_ASSIGNABLE, assignable(given, t)),
     }
 }
 
+// The same of an element of a struct literal.
 fn element_fits(
     alloc: Global,
     line: u32,
@@ -221,7 +252,7 @@ fn element_fits(
     put_fits(line, &field, given)
 }
 
-/// Whether what is put into fields that are known fits them: rule 9.
+/// Whether what is put into fields that are known fits them: `NOT_ASSIGNABLE`.
 pub fn all_fit(
     alloc: Global,
     line: u32,
@@ -245,6 +276,7 @@ pub fn all_fit(
     Ok(())
 }
 
+// Whether a field of this name is among those of the elements.
 fn is_among(elements: &[Element], name: &[u8]) -> bool
     ensures { result ≡ list_any (bytes_eq name.now) (map (λ e. e.field) elements.now) }
 {
@@ -275,36 +307,36 @@ pub fn fields_differ(
     Ok(true)
 }
 
-/// Whether each value fits the elements of a slice: rule 9.
+/// Whether each value fits the elements of a slice: `NOT_ASSIGNABLE`.
 pub fn elements_fit(line: u32, values: &[Given], t: &Option<GoType>) -> Result<(), TypeFault>
-    ensures { Tells result (flat_map (λ v. broken_of line 9 (assignable_of v t.now)) values.now) (λ _. Unit {0}) }
+    ensures { Tells result (flat_map (λ v. broken_of line NOT_ASSIGNABLE (assignable_of v t.now)) values.now) (λ _. Unit {0}) }
 {
     for v in values {
-        require(line, 9, assignable(v, t))?;
+        require(line, NOT_ASSIGNABLE, assignable(v, t))?;
     }
     Ok(())
 }
 
-/// `make(T)`, after its type: rule 11.
+/// `make(T)`, after its type: `WRONG_CALL`.
 pub fn made(alloc: Global, line: u32, t: Option<GoType>) -> Result<Operand, TypeFault>
-    ensures { Tells result (broken_of line 11 (has_layer is_channel (given_of (Operand.Value t)))) (λ m. m ≡ Operand.Value t) }
+    ensures { Tells result (broken_of line WRONG_CALL (has_layer is_channel (given_of (Operand.Value t)))) (λ m. m ≡ Operand.Value t) }
 {
     let own = copy_optional(alloc, &t)?;
-    require(line, 11, has_channel(&given_type(t)))?;
+    require(line, WRONG_CALL, has_channel(&given_type(t)))?;
     Ok(Operand::Value(own))
 }
 
-/// `make(T, e)`, after its type and size: rules 8 and 11.
+/// `make(T, e)`, after its type and size: `WRONG_OPERAND` and `WRONG_CALL`.
 pub fn made_sized(
     alloc: Global,
     line: u32,
     t: Option<GoType>,
     size: &Given,
 ) -> Result<Operand, TypeFault>
-    ensures { Tells result (broken_of line 8 (has_base_of Base.Int size.now) ++ broken_of line 11 (has_layer is_any (given_of (Operand.Value t)))) (λ m. m ≡ Operand.Value t) }
+    ensures { Tells result (broken_of line WRONG_OPERAND (has_base_of Base.Int size.now) ++ broken_of line WRONG_CALL (has_layer is_any (given_of (Operand.Value t)))) (λ m. m ≡ Operand.Value t) }
 {
     let own = copy_optional(alloc, &t)?;
-    require(line, 8, has_base(Base::Int, size))?;
-    require(line, 11, has_any(&given_type(t)))?;
+    require(line, WRONG_OPERAND, has_base(Base::Int, size))?;
+    require(line, WRONG_CALL, has_any(&given_type(t)))?;
     Ok(Operand::Value(own))
 }

@@ -1,11 +1,18 @@
 //! How operands stand, and what operators make of them.
+//!
+//! An operand may stand as a value (`is_value`) or as a name of any kind (`is_name`). Operators take values.
 
 ghost use Rattle.std.specs.Prelude.{◌≡◌, ◌&&◌};
 ghost use Rattle.golf_check_types.specs.Faults.{Tells, broken as broken_of};
-ghost use Rattle.golf_check_types.specs.Types.{given as given_of, has_base as has_base_of, has_layer, is_slice, element as element_of};
-ghost use Rattle.golf_check_types.specs.Expressions.{late_faults, value_faults, name_faults, value as value_of_base, unary_faults, unary_meaning, result_base as result_base_of, operand_base as operand_base_of, binary_fits as binary_fits_of, without_package as without_package_of};
+ghost use Rattle.golf_check_types.specs.Types.{given as given_of, has_base as has_base_of, has_layer, is_slice};
+ghost use Rattle.golf_check_types.specs.Types.{element as element_of};
+ghost use Rattle.golf_check_types.specs.Expressions.{late_faults, value_faults, name_faults, value as value_of_base};
+ghost use Rattle.golf_check_types.specs.Expressions.{unary_faults, unary_meaning, result_base as result_base_of};
+ghost use Rattle.golf_check_types.specs.Expressions.{operand_base as operand_base_of, binary_fits as binary_fits_of};
+ghost use Rattle.golf_check_types.specs.Expressions.{without_package as without_package_of};
 
 use crate::values::{can_give, comparable, element, has_base, has_slice};
+use golf_check_types::rules::{NOT_STEADY, UNKNOWN_NAME, WRONG_CHANNEL, WRONG_OPERAND, WRONG_USE};
 use golf_check_types::{Base, Given, Operand, Scope, TypeFault, plain, require, value_of};
 use golf_syntax_trees::{BinaryOperator, UnaryOperator};
 use std::alloc::Global;
@@ -20,7 +27,7 @@ pub fn late(line: u32, rule: Option<u32>) -> Result<(), TypeFault>
     }
 }
 
-/// Whether an operand is a value: rules 3 and 18.
+/// Whether an operand is a value: `UNKNOWN_NAME` and `WRONG_USE`.
 pub fn is_value(line: u32, operand: &Operand) -> Result<(), TypeFault>
     ensures { Tells result (value_faults line operand.now) (λ _. Unit {0}) }
 {
@@ -34,24 +41,36 @@ pub fn is_value(line: u32, operand: &Operand) -> Result<(), TypeFault>
         | Operand::Element(_)
         | Operand::Unknown
         | Operand::Nil => Ok(()),
-        Operand::Nothing(_) => Err(TypeFault::At { line, rule: 18 }),
+        Operand::Nothing(_) => Err(TypeFault::At {
+            line,
+            rule: WRONG_USE,
+        }),
         Operand::Blank
         | Operand::Function(_)
         | Operand::Method(_)
         | Operand::BuiltIn(_)
         | Operand::Package(_)
         | Operand::Struct(_)
-        | Operand::TypeName => Err(TypeFault::At { line, rule: 3 }),
+        | Operand::TypeName => Err(TypeFault::At {
+            line,
+            rule: UNKNOWN_NAME,
+        }),
     }
 }
 
-/// Whether an operand may stand where a name of any kind may: rules 3 and 18.
+/// Whether an operand may stand where a name of any kind may: `UNKNOWN_NAME` and `WRONG_USE`.
 pub fn is_name(line: u32, operand: &Operand) -> Result<(), TypeFault>
     ensures { Tells result (name_faults line operand.now) (λ _. Unit {0}) }
 {
     match operand {
-        Operand::Blank => Err(TypeFault::At { line, rule: 3 }),
-        Operand::Nothing(_) => Err(TypeFault::At { line, rule: 18 }),
+        Operand::Blank => Err(TypeFault::At {
+            line,
+            rule: UNKNOWN_NAME,
+        }),
+        Operand::Nothing(_) => Err(TypeFault::At {
+            line,
+            rule: WRONG_USE,
+        }),
         _ => Ok(()),
     }
 }
@@ -93,16 +112,16 @@ pub fn unary(
 {
     match operator {
         UnaryOperator::Negate => {
-            require(line, 8, has_base(Base::Int, &x))?;
+            require(line, WRONG_OPERAND, has_base(Base::Int, &x))?;
             Ok(value(alloc, Base::Int))
         }
         UnaryOperator::Not => {
-            require(line, 8, has_base(Base::Bool, &x))?;
+            require(line, WRONG_OPERAND, has_base(Base::Bool, &x))?;
             Ok(value(alloc, Base::Bool))
         }
         UnaryOperator::Receive => {
-            require(line, 7, scope.initialises.is_none())?;
-            require(line, 16, can_give(&x))?;
+            require(line, NOT_STEADY, scope.initialises.is_none())?;
+            require(line, WRONG_CHANNEL, can_give(&x))?;
             Ok(Operand::Outcome(element(x)))
         }
     }
@@ -122,6 +141,7 @@ pub fn result_base(operator: BinaryOperator) -> Base
     }
 }
 
+// What both operands of a binary operator are, unless it compares.
 fn operand_base(operator: BinaryOperator) -> Base
     ensures { result ≡ operand_base_of operator }
 {
@@ -131,6 +151,7 @@ fn operand_base(operator: BinaryOperator) -> Base
     }
 }
 
+// Whether two values may stand at a binary operator.
 fn binary_fits(operator: BinaryOperator, x: &Given, y: &Given) -> bool
     ensures { result ≡ binary_fits_of operator x.now y.now }
 {
@@ -151,16 +172,20 @@ pub fn binary(
     x: Given,
     y: Given,
 ) -> Result<Operand, TypeFault>
-    ensures { Tells result (broken_of line 8 (binary_fits_of operator x y)) (λ m. m ≡ value_of_base (result_base_of operator)) }
+    ensures { Tells result (broken_of line WRONG_OPERAND (binary_fits_of operator x y)) (λ m. m ≡ value_of_base (result_base_of operator)) }
 {
-    require(line, 8, binary_fits(operator, &x, &y))?;
+    require(line, WRONG_OPERAND, binary_fits(operator, &x, &y))?;
     Ok(value(alloc, result_base(operator)))
 }
 
 /// The element that an index leads to.
 pub fn index(line: u32, x: Given, i: Given) -> Result<Operand, TypeFault>
-    ensures { Tells result (broken_of line 8 (has_layer is_slice x && has_base_of Base.Int i)) (λ m. m ≡ Operand.Element (element_of x)) }
+    ensures { Tells result (broken_of line WRONG_OPERAND (has_layer is_slice x && has_base_of Base.Int i)) (λ m. m ≡ Operand.Element (element_of x)) }
 {
-    require(line, 8, has_slice(&x) && has_base(Base::Int, &i))?;
+    require(
+        line,
+        WRONG_OPERAND,
+        has_slice(&x) && has_base(Base::Int, &i),
+    )?;
     Ok(Operand::Element(element(x)))
 }

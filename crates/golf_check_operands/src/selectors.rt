@@ -1,17 +1,32 @@
 //! Selectors: fields, methods, and what packages have.
+//!
+//! What stands before the dot is a package, or a value whose type says which names may follow. `select` is the one
+//! entry; a method that is selected is an operand that can only be called.
 
 ghost use Rattle.std.specs.Prelude.{◌≡◌};
 ghost use Rattle.golf_check_types.specs.Judging.{Finds};
-ghost use Rattle.golf_check_types.specs.Expressions.{fmt_member as fmt_member_of, runtime_member as runtime_member_of, sync_member as sync_member_of, package_member as package_member_of, has_type as has_type_of, package_selected as package_selected_of, called_name as called_name_of, mutex_method as mutex_method_of, group_method as group_method_of, write_method as write_method_of, read_method as read_method_of, condition_method as condition_method_of, condition_member as condition_member_of, struct_member as struct_member_of, base_member as base_member_of, value_member as value_member_of, selected_from};
+ghost use Rattle.golf_check_types.specs.Expressions.{fmt_member as fmt_member_of, runtime_member as runtime_member_of};
+ghost use Rattle.golf_check_types.specs.Expressions.{sync_member as sync_member_of};
+ghost use Rattle.golf_check_types.specs.Expressions.{package_member as package_member_of, has_type as has_type_of};
+ghost use Rattle.golf_check_types.specs.Expressions.{package_selected as package_selected_of};
+ghost use Rattle.golf_check_types.specs.Expressions.{called_name as called_name_of, mutex_method as mutex_method_of};
+ghost use Rattle.golf_check_types.specs.Expressions.{group_method as group_method_of, write_method as write_method_of};
+ghost use Rattle.golf_check_types.specs.Expressions.{read_method as read_method_of};
+ghost use Rattle.golf_check_types.specs.Expressions.{condition_method as condition_method_of};
+ghost use Rattle.golf_check_types.specs.Expressions.{condition_member as condition_member_of};
+ghost use Rattle.golf_check_types.specs.Expressions.{struct_member as struct_member_of, base_member as base_member_of};
+ghost use Rattle.golf_check_types.specs.Expressions.{value_member as value_member_of, selected_from};
 
 use crate::literals::type_of_field;
 use crate::operators::{as_value, value};
 use crate::written_types::sync_base;
+use golf_check_types::rules::{UNKNOWN_NAME, WRONG_OPERAND};
 use golf_check_types::{
     Base, BuiltIn, FileScope, Given, Member, Operand, Package, TypeFault, member_at,
 };
 use std::alloc::Global;
 
+// What package fmt has of this name.
 #[tactic(auto, unfolding(golf_check_types::specs::Expressions::fmt_member))]
 fn fmt_member(name: &[u8]) -> Option<BuiltIn>
     ensures { result ≡ fmt_member_of name.now }
@@ -22,6 +37,7 @@ fn fmt_member(name: &[u8]) -> Option<BuiltIn>
     None
 }
 
+// What package runtime has of this name.
 #[tactic(auto, unfolding(golf_check_types::specs::Expressions::runtime_member))]
 fn runtime_member(name: &[u8]) -> Option<BuiltIn>
     ensures { result ≡ runtime_member_of name.now }
@@ -35,6 +51,7 @@ fn runtime_member(name: &[u8]) -> Option<BuiltIn>
     None
 }
 
+// What can be called in package sync by this name.
 #[tactic(auto, unfolding(golf_check_types::specs::Expressions::sync_member))]
 fn sync_member(name: &[u8]) -> Option<BuiltIn>
     ensures { result ≡ sync_member_of name.now }
@@ -45,6 +62,7 @@ fn sync_member(name: &[u8]) -> Option<BuiltIn>
     None
 }
 
+// What can be called in a package by this name.
 fn package_member(from: Package, name: &[u8]) -> Option<BuiltIn>
     ensures { result ≡ package_member_of from name.now }
 {
@@ -65,16 +83,20 @@ fn has_type(from: Package, name: &[u8]) -> bool
     }
 }
 
+// What is called, if there is something of its name.
 fn called_name(line: u32, name: Option<BuiltIn>) -> Result<Operand, TypeFault>
     ensures { Finds result (called_name_of line name) }
 {
     match name {
-        None => Err(TypeFault::At { line, rule: 3 }),
+        None => Err(TypeFault::At {
+            line,
+            rule: UNKNOWN_NAME,
+        }),
         Some(built_in) => Ok(Operand::BuiltIn(built_in)),
     }
 }
 
-// What a package has: a type, which is no value, or what is called. Rule 3.
+// What a package has: a type, which is no value, or what is called. `UNKNOWN_NAME`.
 fn package_selected(line: u32, from: Package, name: &[u8]) -> Result<Operand, TypeFault>
     ensures { Finds result (package_selected_of line from name.now) }
 {
@@ -84,6 +106,7 @@ fn package_selected(line: u32, from: Package, name: &[u8]) -> Result<Operand, Ty
     called_name(line, package_member(from, name))
 }
 
+// The method of a mutex of this name.
 #[tactic(auto, unfolding(golf_check_types::specs::Expressions::mutex_method))]
 fn mutex_method(name: &[u8]) -> Option<BuiltIn>
     ensures { result ≡ mutex_method_of name.now }
@@ -97,6 +120,7 @@ fn mutex_method(name: &[u8]) -> Option<BuiltIn>
     None
 }
 
+// The method of a wait group of this name.
 #[tactic(auto, unfolding(golf_check_types::specs::Expressions::group_method))]
 fn group_method(name: &[u8]) -> Option<BuiltIn>
     ensures { result ≡ group_method_of name.now }
@@ -113,6 +137,7 @@ fn group_method(name: &[u8]) -> Option<BuiltIn>
     None
 }
 
+// The method of a reader and writer mutex, for a writer.
 #[tactic(auto, unfolding(golf_check_types::specs::Expressions::write_method))]
 fn write_method(name: &[u8]) -> Option<BuiltIn>
     ensures { result ≡ write_method_of name.now }
@@ -126,6 +151,7 @@ fn write_method(name: &[u8]) -> Option<BuiltIn>
     None
 }
 
+// The method of a reader and writer mutex, for readers or a writer.
 #[tactic(auto, unfolding(golf_check_types::specs::Expressions::read_method))]
 fn read_method(name: &[u8]) -> Option<BuiltIn>
     ensures { result ≡ read_method_of name.now }
@@ -139,6 +165,7 @@ fn read_method(name: &[u8]) -> Option<BuiltIn>
     write_method(name)
 }
 
+// The method of a condition of this name.
 #[tactic(auto, unfolding(golf_check_types::specs::Expressions::condition_method))]
 fn condition_method(name: &[u8]) -> Option<BuiltIn>
     ensures { result ≡ condition_method_of name.now }
@@ -155,6 +182,7 @@ fn condition_method(name: &[u8]) -> Option<BuiltIn>
     None
 }
 
+// What a condition has of this name: its mutex, or a method.
 #[tactic(auto, unfolding(golf_check_types::specs::Expressions::condition_member))]
 fn condition_member(alloc: Global, line: u32, name: &[u8]) -> Result<Operand, TypeFault>
     ensures { Finds result (condition_member_of line name.now) }
@@ -165,6 +193,7 @@ fn condition_member(alloc: Global, line: u32, name: &[u8]) -> Result<Operand, Ty
     called_name(line, condition_method(name))
 }
 
+// A field or method of the struct of this number, if the name is one.
 fn struct_member(
     alloc: Global,
     line: u32,
@@ -175,7 +204,10 @@ fn struct_member(
     ensures { Finds result (struct_member_of line file.now number member) }
 {
     match member {
-        None => Err(TypeFault::At { line, rule: 3 }),
+        None => Err(TypeFault::At {
+            line,
+            rule: UNKNOWN_NAME,
+        }),
         Some(member) => match member {
             Member::Field(place) => Ok(Operand::Field(
                 place,
@@ -186,6 +218,7 @@ fn struct_member(
     }
 }
 
+// What stands after the dot of a value of a type without layers.
 fn base_member(
     alloc: Global,
     line: u32,
@@ -203,10 +236,14 @@ fn base_member(
         Base::Group => called_name(line, group_method(name)),
         Base::ReadWriteMutex => called_name(line, read_method(name)),
         Base::Condition => condition_member(alloc, line, name),
-        Base::Int | Base::Bool | Base::Text | Base::Unit => Err(TypeFault::At { line, rule: 8 }),
+        Base::Int | Base::Bool | Base::Text | Base::Unit => Err(TypeFault::At {
+            line,
+            rule: WRONG_OPERAND,
+        }),
     }
 }
 
+// What stands after the dot of a value. One whose type is not known may have anything.
 fn value_member(
     alloc: Global,
     line: u32,
@@ -219,14 +256,20 @@ fn value_member(
     match given {
         Given::Typed(t) => match t.layers.as_slice() {
             [] => base_member(alloc, line, file, name, t.base),
-            [_, ..] => Err(TypeFault::At { line, rule: 8 }),
+            [_, ..] => Err(TypeFault::At {
+                line,
+                rule: WRONG_OPERAND,
+            }),
         },
-        Given::Nil => Err(TypeFault::At { line, rule: 8 }),
+        Given::Nil => Err(TypeFault::At {
+            line,
+            rule: WRONG_OPERAND,
+        }),
         Given::Unknown => Ok(Operand::Unknown),
     }
 }
 
-/// What stands after a dot: of a package, or of a value. Rules 3, 8 and 18.
+/// What stands after a dot: of a package, or of a value. `UNKNOWN_NAME`, `WRONG_OPERAND` and `WRONG_USE`.
 pub fn select(
     alloc: Global,
     line: u32,

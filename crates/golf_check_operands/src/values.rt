@@ -1,8 +1,14 @@
-//! Tests of values (Go specification, "Assignability", "Comparison operators"). A value whose type
-//! is not known passes all.
+//! Tests of values (Go specification, "Assignability", "Comparison operators").
+//!
+//! They answer yes or no and name no rule. A value whose type is not known passes all of them, so that only the first
+//! fault of an expression is told.
 
 ghost use Rattle.std.specs.Prelude.{◌≡◌};
-ghost use Rattle.golf_check_types.specs.Types.{has_base as has_base_of, has_layer, starts_with, is_slice, is_channel, is_any, gives, takes, element as element_of, takes_nil as takes_nil_of, narrows as narrows_of, assignable_type as assignable_type_of, assignable_to as assignable_to_of, assignable as assignable_of, comparable as comparable_of};
+ghost use Rattle.golf_check_types.specs.Types.{has_base as has_base_of, has_layer, starts_with, is_slice, is_channel};
+ghost use Rattle.golf_check_types.specs.Types.{is_any, gives, takes, element as element_of, takes_nil as takes_nil_of};
+ghost use Rattle.golf_check_types.specs.Types.{narrows as narrows_of, assignable_type as assignable_type_of};
+ghost use Rattle.golf_check_types.specs.Types.{assignable_to as assignable_to_of, assignable as assignable_of};
+ghost use Rattle.golf_check_types.specs.Types.{comparable as comparable_of};
 
 use golf_check_types::{Base, Given, GoType, Layer, same_base, same_layers, same_type};
 
@@ -75,6 +81,7 @@ pub fn has_any(given: &Given) -> bool
     }
 }
 
+// Whether layers are those of a channel that can be received from.
 fn begins_giving(layers: &[Layer]) -> bool
     ensures { result ≡ starts_with gives layers.now }
 {
@@ -96,6 +103,7 @@ pub fn can_give(given: &Given) -> bool
     }
 }
 
+// Whether layers are those of a channel that can be sent on.
 fn begins_taking(layers: &[Layer]) -> bool
     ensures { result ≡ starts_with takes layers.now }
 {
@@ -124,6 +132,7 @@ pub fn element(given: Given) -> Option<GoType>
     given.into_element()
 }
 
+// Whether `nil` is a value of this type: a pointer, slice or channel.
 fn takes_nil(t: &GoType) -> bool
     ensures { result ≡ takes_nil_of t.now.layers t.now.base }
 {
@@ -136,6 +145,7 @@ fn takes_nil(t: &GoType) -> bool
     }
 }
 
+// Whether layers are those of a channel of both directions, and the others those of the same channel in one.
 fn narrows(a: &[Layer], b: &[Layer]) -> bool
     ensures { result ≡ narrows_of a.now b.now }
 {
@@ -149,6 +159,7 @@ fn narrows(a: &[Layer], b: &[Layer]) -> bool
     }
 }
 
+// Whether a value of the first type may be assigned to what has the second one.
 fn assignable_type(a: &GoType, b: &GoType) -> bool
     ensures { result ≡ assignable_type_of a.now b.now }
 {

@@ -1,19 +1,26 @@
 //! Types as they are written.
+//!
+//! `written_type` says what a type is, `type_is_there` whether it is one of the language, and `written` does both. A
+//! type that is not there is None, and a value of it has no type.
 
 ghost use Rattle.std.specs.Prelude.{◌≡◌, IfOk, option_map};
 ghost use Rattle.golf_check_types.specs.Faults.{Tells};
 ghost use Rattle.golf_check_types.specs.Types.{plain as plain_of};
-ghost use Rattle.golf_check_types.specs.Written.{named_base as named_base_of, made_base as made_base_of, sync_base as sync_base_of, pointer_to as pointer_to_of, of_sync, write};
+ghost use Rattle.golf_check_types.specs.Written.{named_base as named_base_of, made_base as made_base_of};
+ghost use Rattle.golf_check_types.specs.Written.{sync_base as sync_base_of, pointer_to as pointer_to_of, of_sync};
+ghost use Rattle.golf_check_types.specs.Written.{write};
 ghost use Rattle.golf_check_types.specs.Expressions.{made_sync as made_sync_of};
 ghost use Rattle.golf_check_types.specs.Judging.{Finds};
 
 use golf_base::Memory;
+use golf_check_types::rules::{UNKNOWN_NAME, UNKNOWN_TYPE};
 use golf_check_types::{
     Base, GoType, Layer, Operand, Scope, TypeFault, meaning_at, plain, require, with_layer,
 };
 use golf_syntax_trees::TypeExpr;
 use std::alloc::Global;
 
+// What a name alone stands for as a type.
 #[tactic(auto, unfolding(golf_check_types::specs::Written::named_base))]
 fn named_base(name: &[u8]) -> Option<Base>
     ensures { result ≡ named_base_of name.now }
@@ -122,23 +129,24 @@ pub fn written_type(
     }
 }
 
+// Whether package sync is imported, and has such a type.
 fn sync_type_is_there(line: u32, imported: bool, base: Option<Base>) -> Result<(), TypeFault>
     ensures { Tells result (of_sync line imported base).faults (λ _. Unit {0}) }
 {
-    require(line, 3, imported)?;
-    require(line, 4, base.is_some())
+    require(line, UNKNOWN_NAME, imported)?;
+    require(line, UNKNOWN_TYPE, base.is_some())
 }
 
-/// Whether a written type is one of the language's: rules 3 and 4.
+/// Whether a written type is one of the language's: `UNKNOWN_NAME` and `UNKNOWN_TYPE`.
 #[tactic(auto, unfolding(golf_check_types::specs::Written::write))]
 pub fn type_is_there(alloc: Global, line: u32, scope: &Scope, t: &TypeExpr) -> Result<(), TypeFault>
     ensures { Tells result (write t.now line scope.now).faults (λ _. Unit {0}) }
 {
     match t {
-        TypeExpr::Named(name) => require(line, 4, named_base(name.as_slice()).is_some()),
+        TypeExpr::Named(name) => require(line, UNKNOWN_TYPE, named_base(name.as_slice()).is_some()),
         TypeExpr::Pointer(name) => {
             let meaning = meaning_at(alloc, scope, name.as_slice())?;
-            require(line, 4, pointer_to(meaning).is_some())
+            require(line, UNKNOWN_TYPE, pointer_to(meaning).is_some())
         }
         TypeExpr::SyncPointer(name) => sync_type_is_there(
             line,
@@ -153,7 +161,7 @@ pub fn type_is_there(alloc: Global, line: u32, scope: &Scope, t: &TypeExpr) -> R
     }
 }
 
-/// The type that is written: rules 3 and 4.
+/// The type that is written: `UNKNOWN_NAME` and `UNKNOWN_TYPE`.
 pub fn written(
     alloc: Global,
     line: u32,

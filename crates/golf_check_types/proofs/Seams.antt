@@ -1,7 +1,8 @@
 -- Which rule is the first that is broken, if one part is checked and then another.
 -- For: `Refuses` and `Tells`, specs/Faults.antt
 -- By: cases of the answer; no induction
-use Rattle.std.proofs.Common.{◌≡◌, ℕ, ◌-◌, List, [], ◌∷◌, ◌++◌, length, sym, ap, subst, ◌∙◌, append_assoc, arith, length-append}
+use Rattle.std.proofs.Common.{◌≡◌, ℕ, ◌-◌, List, [], ◌∷◌, ◌++◌, length, sym, ap, subst, ◌∙◌, append_assoc, arith}
+use Rattle.std.proofs.Common.{length-append}
 use Rattle.std.specs.Prelude.{Result, Ok, Err, slice_set}
 use Rattle.std.proofs.Math.Seq.{set-append_seam}
 use Rattle.golf_check_types.specs.declared.fault.TypeFault.{TypeFault}
@@ -29,17 +30,21 @@ pub refuses_behind : (e : TypeFault) (xs ys : List Fault) → xs ≡ [] → Refu
 refuses_behind e xs ys p h = subst (λ zs. Refuses e (zs ++ ys)) (sym p) h
 
 -- if the first part breaks nothing, the answer of the second tells of both
-pub tells_behind : {A : Type 0} (r : Result A TypeFault) (xs ys : List Fault) (P Q : A → Type 0) → xs ≡ [] → ((a : A) → P a → Q a) → Tells r ys P → Tells r (xs ++ ys) Q
+pub tells_behind : {A : Type 0} (r : Result A TypeFault) (xs ys : List Fault) (P Q : A → Type 0) → xs ≡ []
+    → ((a : A) → P a → Q a) → Tells r ys P → Tells r (xs ++ ys) Q
 tells_behind (Ok a) xs ys P Q p f h = (none_of_both xs ys p h.0, f a h.1)
 tells_behind (Err e) xs ys P Q p f h = refuses_behind e xs ys p h
 
 -- a place that was kept is filled
-pub slot : {A : Type 0} (old inner new : List A) (x y : A) (at : ℕ) → at ≡ length old → new ≡ (old ++ x ∷ []) ++ inner → slice_set new at y ≡ old ++ y ∷ inner
-slot old inner new x y at e h = ap (λ n. slice_set new n y) e ∙ (ap (λ xs. slice_set xs (length old) y) (h ∙ append_assoc old (x ∷ []) inner) ∙ set-append_seam old x inner y)
+pub slot : {A : Type 0} (old inner new : List A) (x y : A) (at : ℕ) → at ≡ length old → new ≡ (old ++ x ∷ []) ++ inner
+    → slice_set new at y ≡ old ++ y ∷ inner
+slot old inner new x y at e h = ap (λ n. slice_set new n y) e
+    ∙ (ap (λ xs. slice_set xs (length old) y) (h ∙ append_assoc old (x ∷ []) inner) ∙ set-append_seam old x inner y)
 
 -- A place that was kept is filled with a fact that counts those after it.
 
-after_place : (old inner new : List Fact) (x : Fact) (at : ℕ) → at ≡ length old → new ≡ (old ++ x ∷ []) ++ inner → length new - at - 1 ≡ length inner
+after_place : (old inner new : List Fact) (x : Fact) (at : ℕ) → at ≡ length old → new ≡ (old ++ x ∷ []) ++ inner
+    → length new - at - 1 ≡ length inner
 after_place old inner new x at e h =
     let a = ap length h in
     let b = length-append (old ++ x ∷ []) inner in
@@ -47,16 +52,22 @@ after_place old inner new x at e h =
     omega (arith, a, b, c, e)
 
 -- by a fact of any kind that has a number
-filled : (count : ℕ → Fact) (old inner new : List Fact) (x : Fact) (at n : ℕ) → at ≡ length old → new ≡ (old ++ x ∷ []) ++ inner → n ≡ length new - at - 1 → slice_set new at (count n) ≡ old ++ count (length inner) ∷ inner
-filled count old inner new x at n e h i = slot old inner new x (count n) at e h ∙ ap (λ k. old ++ count k ∷ inner) (i ∙ after_place old inner new x at e h)
+filled : (count : ℕ → Fact) (old inner new : List Fact) (x : Fact) (at n : ℕ) → at ≡ length old → new ≡ (old ++ x ∷ [])
+    ++ inner → n ≡ length new - at - 1 → slice_set new at (count n) ≡ old ++ count (length inner) ∷ inner
+filled count old inner new x at n e h i = slot old inner new x (count n) at e h
+    ∙ ap (λ k. old ++ count k ∷ inner) (i ∙ after_place old inner new x at e h)
 
-pub expression_filled : {m k : Operand} (old inner new : List Fact) (x : Fact) (at n : ℕ) → at ≡ length old → new ≡ (old ++ x ∷ []) ++ inner → k ≡ m → n ≡ length new - at - 1
+pub expression_filled : {m k : Operand} (old inner new : List Fact) (x : Fact) (at n : ℕ) → at ≡ length old
+    → new ≡ (old ++ x ∷ []) ++ inner → k ≡ m → n ≡ length new - at - 1
     → slice_set new at (fact.Expression k n) ≡ old ++ with_parts m inner
-expression_filled {k = k} old inner new x at n e h i j = filled (fact.Expression k) old inner new x at n e h j ∙ ap (λ z. old ++ fact.Expression z (length inner) ∷ inner) i
+expression_filled {k = k} old inner new x at n e h i j = filled (fact.Expression k) old inner new x at n e h j
+    ∙ ap (λ z. old ++ fact.Expression z (length inner) ∷ inner) i
 
-pub part_filled : (old inner new : List Fact) (x : Fact) (at n : ℕ) → at ≡ length old → new ≡ (old ++ x ∷ []) ++ inner → n ≡ length new - at - 1 → slice_set new at (fact.Part n) ≡ old ++ part inner
+pub part_filled : (old inner new : List Fact) (x : Fact) (at n : ℕ) → at ≡ length old → new ≡ (old ++ x ∷ []) ++ inner
+    → n ≡ length new - at - 1 → slice_set new at (fact.Part n) ≡ old ++ part inner
 part_filled old inner new x at n e h j = filled fact.Part old inner new x at n e h j
 
-pub function_filled : (old inner new : List Fact) (x : Fact) (a s at n : ℕ) → at ≡ length old → new ≡ (old ++ x ∷ []) ++ inner → n ≡ length new - at - 1
+pub function_filled : (old inner new : List Fact) (x : Fact) (a s at n : ℕ) → at ≡ length old → new ≡ (old ++ x ∷ [])
+    ++ inner → n ≡ length new - at - 1
     → slice_set new at (fact.Function a s n) ≡ old ++ fact.Function a s (length inner) ∷ inner
 function_filled old inner new x a s at n e h j = filled (fact.Function a s) old inner new x at n e h j

@@ -15,7 +15,8 @@ use Rattle.golf_check_types.specs.Names.{Table, number_of}
 abbrev pub view_of : List (Vec ℕ × ℕ) → Table
 view_of es = map (λ e. (e.0.items, e.1)) es
 
-pub lookup-view : (es : List (Vec ℕ × ℕ)) (n : List ℕ) → lookup (λ k. pointwise nat_eq n k.items) es ≡ number_of (view_of es) n
+pub lookup-view : (es : List (Vec ℕ × ℕ)) (n : List ℕ)
+    → lookup (λ k. pointwise nat_eq n k.items) es ≡ number_of (view_of es) n
 lookup-view [] n = refl
 lookup-view (e ∷ es) n = ap (λ o. cond (pointwise nat_eq n e.0.items) (Some e.1) o) (lookup-view es n)
 
@@ -23,8 +24,11 @@ abbrev same_vec : Vec ℕ → Vec ℕ → Bool
 same_vec x y = pointwise nat_eq x.items y.items
 
 -- a new name goes last
-pub insert-view : {S : Type 0} (m : HashMap (Vec ℕ) ℕ S) (key : Vec ℕ) (n : List ℕ) (k : ℕ) → key.items ≡ n → number_of (view_of m.entries) n ≡ None → view_of (insert_entry same_vec m.entries key k) ≡ view_of m.entries ++ (n, k) ∷ []
+pub insert-view : {S : Type 0} (m : HashMap (Vec ℕ) ℕ S) (key : Vec ℕ) (n : List ℕ) (k : ℕ) → key.items ≡ n
+    → number_of (view_of m.entries) n ≡ None → view_of (insert_entry same_vec m.entries key k) ≡ view_of m.entries
+    ++ (n, k) ∷ []
 insert-view m key n k is none =
-    ap view_of (insert_entry-new same_vec m key k (lookup-view m.entries key.items ∙ ap (number_of (view_of m.entries)) is ∙ none))
+    ap view_of (insert_entry-new same_vec m key k
+    (lookup-view m.entries key.items ∙ ap (number_of (view_of m.entries)) is ∙ none))
     ∙ map-append (λ (e : Vec ℕ × ℕ). (e.0.items, e.1)) m.entries ((key, k) ∷ [])
     ∙ ap (λ l. view_of m.entries ++ (l, k) ∷ []) is

@@ -1,6 +1,10 @@
--- What calls ask of their arguments, and what they give (Go specification, "Calls", "Built-in functions"; packages fmt, runtime and sync).
-use Rattle.std.specs.Prelude.{ℕ, ◌==◌, Bool, true, false, ◌&&◌, ◌||◌, cond, is_none, List, [], ◌∷◌, ◌++◌, length, map, flat_map, slice_get, Option, Some, None}
+-- What calls ask of their arguments, and what they give (Go specification, "Calls", "Built-in functions"; packages fmt,
+-- runtime and sync).
+use Rattle.std.specs.Prelude.{ℕ, ◌==◌, Bool, true, false, ◌&&◌, ◌||◌, cond, is_none, List, [], ◌∷◌, ◌++◌, length, map}
+use Rattle.std.specs.Prelude.{flat_map, slice_get, Option, Some, None}
 use Rattle.std.specs.List.{list_all}
+use Rattle.golf_check_types.specs.declared.rules.TheConstants.{NOT_STEADY, WRONG_OPERAND, NOT_ASSIGNABLE, WRONG_CALL}
+use Rattle.golf_check_types.specs.declared.rules.TheConstants.{WRONG_CHANNEL, NOT_PRINTABLE, WRONG_FINALISER}
 use Rattle.golf_check_types.specs.declared.types.Layer.{Layer}
 use Rattle.golf_check_types.specs.declared.types.Base.{Base}
 use Rattle.golf_check_types.specs.declared.types.Base.TheVariants as base
@@ -20,7 +24,7 @@ use Rattle.golf_check_types.specs.Expressions.{Judged, facts_of, used, named_or_
 
 -- Rule 9 of the leading pairs.
 abbrev pub argument_faults : ℕ → List (Option GoType) → List Given → List Fault
-argument_faults l (p ∷ ps) (v ∷ vs) = broken l 9 (assignable v p) ++ argument_faults l ps vs
+argument_faults l (p ∷ ps) (v ∷ vs) = broken l NOT_ASSIGNABLE (assignable v p) ++ argument_faults l ps vs
 argument_faults l _ _ = []
 
 abbrev pub same_number : List (Option GoType) → List Given → Bool
@@ -28,7 +32,7 @@ same_number ps vs = length ps == length vs
 
 -- Rules 9 and 11 of these parameters.
 abbrev pub parameter_faults : ℕ → List (Option GoType) → List Given → List Fault
-parameter_faults l ps vs = argument_faults l ps vs ++ broken l 11 (same_number ps vs)
+parameter_faults l ps vs = argument_faults l ps vs ++ broken l WRONG_CALL (same_number ps vs)
 
 -- Functions and methods of the file.
 
@@ -65,8 +69,10 @@ all_first fits (v ∷ vs) = fits v
 
 -- Rule 8 of `len`, rules 9 and 11, rule 16 of `close`. `Println` takes any number.
 abbrev pub built_in_faults : ℕ → BuiltIn → List Given → List Fault
-built_in_faults l built_in.Length vs = broken l 8 (all_first (has_layer is_any) vs) ++ parameter_faults l (parameters_of built_in.Length) vs
-built_in_faults l built_in.Close vs = parameter_faults l (parameters_of built_in.Close) vs ++ broken l 16 (all_first (has_layer takes) vs)
+built_in_faults l built_in.Length vs = broken l WRONG_OPERAND (all_first (has_layer is_any) vs)
+    ++ parameter_faults l (parameters_of built_in.Length) vs
+built_in_faults l built_in.Close vs = parameter_faults l (parameters_of built_in.Close) vs
+    ++ broken l WRONG_CHANNEL (all_first (has_layer takes) vs)
 built_in_faults l built_in.Print vs = []
 built_in_faults l b vs = parameter_faults l (parameters_of b) vs
 
@@ -119,8 +125,8 @@ abbrev pub finalises : FileScope → Given → Operand → Bool
 finalises f v m = is_struct_pointer v && finalises_by f (type_given v) m
 
 abbrev pub late_rule : BuiltIn → List Given → Option ℕ
-late_rule built_in.Print vs = rule_unless 21 (list_all prints vs)
-late_rule built_in.Panic vs = rule_unless 21 (all_first (has_base base.Text) vs)
+late_rule built_in.Print vs = rule_unless NOT_PRINTABLE (list_all prints vs)
+late_rule built_in.Panic vs = rule_unless NOT_PRINTABLE (all_first (has_base base.Text) vs)
 late_rule _ vs = None
 
 abbrev pub built_in_result : BuiltIn → Option ℕ → Operand
@@ -137,7 +143,7 @@ is_steady (operand.BuiltIn built_in.NewCondition) = true
 is_steady _ = false
 
 abbrev pub steady_faults : ℕ → Option ℕ → Operand → List Fault
-steady_faults l initialises f = broken l 7 (is_none initialises || is_steady f)
+steady_faults l initialises f = broken l NOT_STEADY (is_none initialises || is_steady f)
 
 -- Rules 8, 9, 11 and 16. What may be a method breaks none.
 abbrev pub call_faults : ℕ → FileScope → Operand → List Given → List Fault
@@ -145,7 +151,7 @@ call_faults l f (operand.Function k) vs = signature_faults l (slice_get f.functi
 call_faults l f (operand.Method k) vs = signature_faults l (slice_get f.functions k) vs
 call_faults l f (operand.BuiltIn b) vs = built_in_faults l b vs
 call_faults l f operand.Unknown vs = []
-call_faults l f _ vs = broken l 11 false
+call_faults l f _ vs = broken l WRONG_CALL false
 
 abbrev pub called : FileScope → Operand → List Given → Operand
 called f (operand.Function k) vs = signature_result (slice_get f.functions k)
@@ -164,13 +170,14 @@ plain_call l s f xs = record {
 -- `SetFinalizer`: the second argument may be a name of any kind
 abbrev pub finaliser_call : ℕ → Scope → Operand → List Judged → Judged
 finaliser_call l s f (x ∷ (y ∷ ys)) = record {
-  meaning = operand.Nothing (rule_unless 22 (finalises s.file (given_by x) y.meaning));
-  faults = used l x ++ (named_or_used l y ++ (flat_map (used l) ys ++ (steady_faults l s.initialises f ++ broken l 11 (is_empty ys))));
+  meaning = operand.Nothing (rule_unless WRONG_FINALISER (finalises s.file (given_by x) y.meaning));
+  faults = used l x ++ (named_or_used l y
+      ++ (flat_map (used l) ys ++ (steady_faults l s.initialises f ++ broken l WRONG_CALL (is_empty ys))));
   inner = facts_of x ++ (facts_of y ++ flat_map facts_of ys);
 }
 finaliser_call l s f xs = record {
   meaning = operand.Nothing None;
-  faults = flat_map (used l) xs ++ (steady_faults l s.initialises f ++ broken l 11 false);
+  faults = flat_map (used l) xs ++ (steady_faults l s.initialises f ++ broken l WRONG_CALL false);
   inner = flat_map facts_of xs;
 }
 

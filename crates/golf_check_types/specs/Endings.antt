@@ -55,7 +55,8 @@ ending_step (S.Return l e) = record { ends = true; breaks = false }
 ending_step (S.Break l) = record { ends = false; breaks = true }
 ending_step (S.Block l body) = of_all body
 ending_step (S.If l first test body) = record { ends = false; breaks = (of_all body).breaks }
-ending_step (S.IfElse l first test body otherwise) = record { ends = (of_all body).ends && otherwise.ends; breaks = (of_all body).breaks || otherwise.breaks }
+ending_step (S.IfElse l first test body otherwise) =
+    record { ends = (of_all body).ends && otherwise.ends; breaks = (of_all body).breaks || otherwise.breaks }
 ending_step (S.For l h body) = record { ends = is_endless h && not (of_all body).breaks; breaks = false }
 ending_step (S.Select l cs) = record { ends = list_all (λ c. c.ends && not c.breaks) cs; breaks = false }
 ending_step _ = neither

@@ -1,5 +1,6 @@
 -- What expressions are, which rules they break, and the facts of their parts (Go specification, "Expressions").
-use Rattle.std.specs.Prelude.{ℕ, ◌+◌, ◌*◌, ◌-◌, Bool, true, false, not, ◌&&◌, nat_le, cond, is_some, List, [], ◌∷◌, ◌++◌, map, flat_map, slice_get, Option, Some, None, codes, pos}
+use Rattle.std.specs.Prelude.{ℕ, ◌+◌, ◌*◌, ◌-◌, Bool, true, false, not, ◌&&◌, nat_le, cond, is_some, List, [], ◌∷◌}
+use Rattle.std.specs.Prelude.{◌++◌, map, flat_map, slice_get, Option, Some, None, codes, pos}
 use Rattle.std.specs.List.{list_any}
 use Rattle.std.specs.Option.{option_map, option_and_then}
 use Rattle.std.specs.Str.{bytes_eq}
@@ -7,6 +8,9 @@ use Rattle.golf_syntax_trees.specs.declared.expressions.UnaryOperator.{UnaryOper
 use Rattle.golf_syntax_trees.specs.declared.expressions.UnaryOperator.TheVariants as unary
 use Rattle.golf_syntax_trees.specs.declared.expressions.BinaryOperator.{BinaryOperator}
 use Rattle.golf_syntax_trees.specs.declared.expressions.BinaryOperator.TheVariants as binary
+use Rattle.golf_check_types.specs.declared.rules.TheConstants.{UNKNOWN_NAME, UNKNOWN_TYPE, NOT_STEADY, WRONG_OPERAND}
+use Rattle.golf_check_types.specs.declared.rules.TheConstants.{NOT_ASSIGNABLE, WRONG_CALL, WRONG_CHANNEL, WRONG_USE}
+use Rattle.golf_check_types.specs.declared.rules.TheConstants.{TOO_LARGE, WRONG_LITERAL}
 use Rattle.golf_check_types.specs.declared.types.Layer.{Layer}
 use Rattle.golf_check_types.specs.declared.types.Base.{Base}
 use Rattle.golf_check_types.specs.declared.types.Base.TheVariants as base
@@ -28,7 +32,8 @@ use Rattle.golf_check_types.specs.declared.scopes.FileScope.{FileScope}
 use Rattle.golf_check_types.specs.declared.scopes.Scope.{Scope}
 use Rattle.golf_check_types.specs.Faults.{Fault, broken}
 use Rattle.golf_check_types.specs.Facts.{with_parts}
-use Rattle.golf_check_types.specs.Types.{plain, given, has_base, has_layer, is_slice, is_channel, is_any, gives, element, assignable, comparable}
+use Rattle.golf_check_types.specs.Types.{plain, given, has_base, has_layer, is_slice, is_channel, is_any, gives}
+use Rattle.golf_check_types.specs.Types.{element, assignable, comparable}
 use Rattle.golf_check_types.specs.Names.{is_blank}
 use Rattle.golf_check_types.specs.Scopes.{meaning, type_at, member}
 use Rattle.golf_check_types.specs.Written.{Written, made_base, sync_base, of_sync}
@@ -58,23 +63,24 @@ late_faults l (Some rule) = broken l rule false
 
 -- A call without a result is no value (rule 18, before 21 and 22).
 abbrev pub nothing_faults : ℕ → Option ℕ → List Fault
-nothing_faults l late = broken l 18 false ++ late_faults l late
+nothing_faults l late = broken l WRONG_USE false ++ late_faults l late
 
 -- As a value: rules 3 and 18.
 abbrev pub value_faults : ℕ → Operand → List Fault
-value_faults l operand.Blank = broken l 3 false
+value_faults l operand.Blank = broken l UNKNOWN_NAME false
 value_faults l (operand.Nothing late) = nothing_faults l late
-value_faults l (operand.Function k) = broken l 3 false
-value_faults l (operand.Method k) = broken l 3 false
-value_faults l (operand.BuiltIn b) = broken l 3 false
-value_faults l (operand.Package p) = broken l 3 false
-value_faults l (operand.Struct k) = broken l 3 false
-value_faults l operand.TypeName = broken l 3 false
+value_faults l (operand.Function k) = broken l UNKNOWN_NAME false
+value_faults l (operand.Method k) = broken l UNKNOWN_NAME false
+value_faults l (operand.BuiltIn b) = broken l UNKNOWN_NAME false
+value_faults l (operand.Package p) = broken l UNKNOWN_NAME false
+value_faults l (operand.Struct k) = broken l UNKNOWN_NAME false
+value_faults l operand.TypeName = broken l UNKNOWN_NAME false
 value_faults l _ = []
 
--- As what is called, as the second argument of `SetFinalizer`, or on a left side that is read: `_` is not read, and a call without a result is nothing.
+-- As what is called, as the second argument of `SetFinalizer`, or on a left side that is read: `_` is not read, and a
+-- call without a result is nothing.
 abbrev pub name_faults : ℕ → Operand → List Fault
-name_faults l operand.Blank = broken l 3 false
+name_faults l operand.Blank = broken l UNKNOWN_NAME false
 name_faults l (operand.Nothing late) = nothing_faults l late
 name_faults l _ = []
 
@@ -103,11 +109,11 @@ is_above (Some g) None = true
 is_above (Some g) (Some k) = nat_le (k + 1) g
 
 abbrev pub found_name : ℕ → Option ℕ → Operand → Judged
-found_name l g m = leaf m (broken l 7 (is_above g (reads_global m)))
+found_name l g m = leaf m (broken l NOT_STEADY (is_above g (reads_global m)))
 
 -- Rule 3: a name is known.
 abbrev pub known_name : ℕ → Option ℕ → Option Operand → Judged
-known_name l g None = leaf (operand.Value None) (broken l 3 false)
+known_name l g None = leaf (operand.Value None) (broken l UNKNOWN_NAME false)
 known_name l g (Some m) = found_name l g m
 
 abbrev pub named : ℕ → Scope → List ℕ → Judged
@@ -134,18 +140,23 @@ fits_int digits = nat_le (value_from 0 digits) 9223372036854775807
 
 -- a literal of an integer, after whose fact its value stands
 abbrev pub integer : ℕ → List ℕ → Judged
-integer l digits = record { meaning = value base.Int; faults = broken l 19 (fits_int digits); inner = fact.Number (pos (value_from 0 digits)) ∷ [] }
+integer l digits = record {
+  meaning = value base.Int;
+  faults = broken l TOO_LARGE (fits_int digits);
+  inner = fact.Number (pos (value_from 0 digits)) ∷ [];
+}
 
 -- `&sync.T{}` and `new(sync.T)`
 abbrev pub made_sync : ℕ → Scope → List ℕ → Judged
-made_sync l s n = leaf (operand.Value (of_sync l s.file.imports.sync (made_base n)).type) (of_sync l s.file.imports.sync (made_base n)).faults
+made_sync l s n = leaf (operand.Value (of_sync l s.file.imports.sync (made_base n)).type)
+    (of_sync l s.file.imports.sync (made_base n)).faults
 
 abbrev pub pointer_value : Option Base → Operand
 pointer_value b = operand.Value (option_map plain b)
 
 -- Rule 4 of `new(T)`.
 abbrev pub made_struct : ℕ → Option Base → Judged
-made_struct l b = leaf (pointer_value b) (broken l 4 (is_some b))
+made_struct l b = leaf (pointer_value b) (broken l UNKNOWN_TYPE (is_some b))
 
 -- the type of a field of the struct that a pointer leads to
 abbrev pub field_of_member : FileScope → ℕ → Option Member → Option (Option GoType)
@@ -159,7 +170,7 @@ field_type f _ n = None
 -- Rule 9 of what is put into a field that is known.
 abbrev pub put_faults : ℕ → Option (Option GoType) → Given → List Fault
 put_faults l None v = []
-put_faults l (Some t) v = broken l 9 (assignable v t)
+put_faults l (Some t) v = broken l NOT_ASSIGNABLE (assignable v t)
 
 -- the fields of these names, and the values after them
 abbrev pub all_put_faults : ℕ → FileScope → Option Base → List (List ℕ) → List Given → List Fault
@@ -169,7 +180,8 @@ all_put_faults l f b _ _ = []
 -- whether each name is that of a field, and none comes twice
 abbrev pub fields_differ : FileScope → Option Base → List (List ℕ) → List (List ℕ) → Bool
 fields_differ f b seen [] = true
-fields_differ f b seen (n ∷ ns) = (is_some (field_type f b n) && not (list_any (bytes_eq n) seen)) && fields_differ f b (seen ++ n ∷ []) ns
+fields_differ f b seen (n ∷ ns) = (is_some (field_type f b n) && not (list_any (bytes_eq n) seen))
+    && fields_differ f b (seen ++ n ∷ []) ns
 
 -- the number of a struct that a pointer leads to
 abbrev pub struct_of : Option Base → ℕ
@@ -193,7 +205,8 @@ put_facts f b _ _ = []
 abbrev pub struct_literal : ℕ → FileScope → Option Base → List (List ℕ) → List Judged → Judged
 struct_literal l f b names xs = record {
   meaning = pointer_value b;
-  faults = flat_map (used l) xs ++ (all_put_faults l f b names (map given_by xs) ++ broken l 20 (is_some b && fields_differ f b [] names));
+  faults = flat_map (used l) xs ++ (all_put_faults l f b names (map given_by xs)
+      ++ broken l WRONG_LITERAL (is_some b && fields_differ f b [] names));
   inner = put_facts f b names xs;
 }
 
@@ -201,19 +214,22 @@ struct_literal l f b names xs = record {
 abbrev pub slice_literal : ℕ → Written → Option GoType → List Judged → Judged
 slice_literal l t slice xs = record {
   meaning = operand.Value slice;
-  faults = t.faults ++ (flat_map (used l) xs ++ flat_map (λ v. broken l 9 (assignable v t.type)) (map given_by xs));
+  faults = t.faults ++ (flat_map (used l) xs
+      ++ flat_map (λ v. broken l NOT_ASSIGNABLE (assignable v t.type)) (map given_by xs));
   inner = flat_map facts_of xs;
 }
 
 -- Rule 11 of `make(T)`: a channel.
 abbrev pub made : ℕ → Written → Judged
-made l t = leaf (operand.Value t.type) (t.faults ++ broken l 11 (has_layer is_channel (given (operand.Value t.type))))
+made l t = leaf (operand.Value t.type) (t.faults
+    ++ broken l WRONG_CALL (has_layer is_channel (given (operand.Value t.type))))
 
 -- Rules 8 and 11 of `make(T, e)`: a slice or a channel, and a size.
 abbrev pub made_sized : ℕ → Written → Judged → Judged
 made_sized l t e = record {
   meaning = operand.Value t.type;
-  faults = t.faults ++ (used l e ++ (broken l 8 (has_base base.Int (given_by e)) ++ broken l 11 (has_layer is_any (given (operand.Value t.type)))));
+  faults = t.faults ++ (used l e ++ (broken l WRONG_OPERAND (has_base base.Int (given_by e))
+      ++ broken l WRONG_CALL (has_layer is_any (given (operand.Value t.type)))));
   inner = facts_of e;
 }
 
@@ -223,7 +239,8 @@ unfoldable pub fmt_member : List ℕ → Option BuiltIn
 fmt_member n = cond (bytes_eq n (codes "Println")) (Some built_in.Print) None
 
 unfoldable pub runtime_member : List ℕ → Option BuiltIn
-runtime_member n = cond (bytes_eq n (codes "GC")) (Some built_in.Collect) (cond (bytes_eq n (codes "SetFinalizer")) (Some built_in.SetFinalizer) None)
+runtime_member n = cond (bytes_eq n (codes "GC")) (Some built_in.Collect)
+    (cond (bytes_eq n (codes "SetFinalizer")) (Some built_in.SetFinalizer) None)
 
 unfoldable pub sync_member : List ℕ → Option BuiltIn
 sync_member n = cond (bytes_eq n (codes "NewCond")) (Some built_in.NewCondition) None
@@ -240,7 +257,7 @@ has_type p n = false
 
 -- Rule 3: what stands after a dot is known.
 abbrev pub called_name : ℕ → Option BuiltIn → Judged
-called_name l None = leaf operand.Unknown (broken l 3 false)
+called_name l None = leaf operand.Unknown (broken l UNKNOWN_NAME false)
 called_name l (Some b) = leaf (operand.BuiltIn b) []
 
 -- what a package has: a type, which is no value, or what is called
@@ -248,7 +265,8 @@ abbrev pub package_selected : ℕ → Package → List ℕ → Judged
 package_selected l p n = cond (has_type p n) (leaf operand.TypeName []) (called_name l (package_member p n))
 
 unfoldable pub mutex_method : List ℕ → Option BuiltIn
-mutex_method n = cond (bytes_eq n (codes "Lock")) (Some built_in.Lock) (cond (bytes_eq n (codes "Unlock")) (Some built_in.Unlock) None)
+mutex_method n = cond (bytes_eq n (codes "Lock")) (Some built_in.Lock)
+    (cond (bytes_eq n (codes "Unlock")) (Some built_in.Unlock) None)
 
 unfoldable pub group_method : List ℕ → Option BuiltIn
 group_method n =
@@ -257,10 +275,12 @@ group_method n =
     (cond (bytes_eq n (codes "Wait")) (Some built_in.WaitGroup) None))
 
 unfoldable pub write_method : List ℕ → Option BuiltIn
-write_method n = cond (bytes_eq n (codes "Lock")) (Some built_in.WriteLock) (cond (bytes_eq n (codes "Unlock")) (Some built_in.WriteUnlock) None)
+write_method n = cond (bytes_eq n (codes "Lock")) (Some built_in.WriteLock)
+    (cond (bytes_eq n (codes "Unlock")) (Some built_in.WriteUnlock) None)
 
 unfoldable pub read_method : List ℕ → Option BuiltIn
-read_method n = cond (bytes_eq n (codes "RLock")) (Some built_in.ReadLock) (cond (bytes_eq n (codes "RUnlock")) (Some built_in.ReadUnlock) (write_method n))
+read_method n = cond (bytes_eq n (codes "RLock")) (Some built_in.ReadLock)
+    (cond (bytes_eq n (codes "RUnlock")) (Some built_in.ReadUnlock) (write_method n))
 
 unfoldable pub condition_method : List ℕ → Option BuiltIn
 condition_method n =
@@ -273,12 +293,13 @@ unfoldable pub condition_member : ℕ → List ℕ → Judged
 condition_member l n = cond (bytes_eq n (codes "L")) (leaf (value base.Mutex) []) (called_name l (condition_method n))
 
 abbrev pub struct_member : ℕ → FileScope → ℕ → Option Member → Judged
-struct_member l f k None = leaf operand.Unknown (broken l 3 false)
-struct_member l f k (Some (members.Field i)) = leaf (operand.Field i (option_and_then (λ ts. type_at ts i) (slice_get f.fields k))) []
+struct_member l f k None = leaf operand.Unknown (broken l UNKNOWN_NAME false)
+struct_member l f k (Some (members.Field i)) =
+    leaf (operand.Field i (option_and_then (λ ts. type_at ts i) (slice_get f.fields k))) []
 struct_member l f k (Some (members.Method m)) = leaf (operand.Method m) []
 
 abbrev pub wrong_selector : ℕ → Judged
-wrong_selector l = leaf operand.Unknown (broken l 8 false)
+wrong_selector l = leaf operand.Unknown (broken l WRONG_OPERAND false)
 
 -- Rule 8: a selector takes a pointer to a struct of the file, or of package sync.
 abbrev pub base_member : ℕ → FileScope → List ℕ → Base → Judged
@@ -320,9 +341,10 @@ selector l s n e = record {
 
 -- Rule 7: the initialiser of a global receives nothing.
 abbrev pub unary_faults : ℕ → Scope → UnaryOperator → Given → List Fault
-unary_faults l s unary.Negate x = broken l 8 (has_base base.Int x)
-unary_faults l s unary.Not x = broken l 8 (has_base base.Bool x)
-unary_faults l s unary.Receive x = broken l 7 (not (is_some s.initialises)) ++ broken l 16 (has_layer gives x)
+unary_faults l s unary.Negate x = broken l WRONG_OPERAND (has_base base.Int x)
+unary_faults l s unary.Not x = broken l WRONG_OPERAND (has_base base.Bool x)
+unary_faults l s unary.Receive x = broken l NOT_STEADY (not (is_some s.initialises))
+    ++ broken l WRONG_CHANNEL (has_layer gives x)
 
 abbrev pub unary_meaning : UnaryOperator → Given → Operand
 unary_meaning unary.Negate x = value base.Int
@@ -358,13 +380,14 @@ binary_fits o x y = has_base (operand_base o) x && has_base (operand_base o) y
 abbrev pub binary_judged : ℕ → BinaryOperator → Judged → Judged → Judged
 binary_judged l o x y = record {
   meaning = value (result_base o);
-  faults = used l x ++ (used l y ++ broken l 8 (binary_fits o (given_by x) (given_by y)));
+  faults = used l x ++ (used l y ++ broken l WRONG_OPERAND (binary_fits o (given_by x) (given_by y)));
   inner = facts_of x ++ facts_of y;
 }
 
 abbrev pub index_judged : ℕ → Judged → Judged → Judged
 index_judged l x i = record {
   meaning = operand.Element (element (given_by x));
-  faults = used l x ++ (used l i ++ broken l 8 (has_layer is_slice (given_by x) && has_base base.Int (given_by i)));
+  faults = used l x ++ (used l i ++ broken l WRONG_OPERAND
+      (has_layer is_slice (given_by x) && has_base base.Int (given_by i)));
   inner = facts_of x ++ facts_of i;
 }

@@ -1,5 +1,8 @@
--- Which rules a file breaks, in the order of the walk (Go specification, "Source file organization", "Declarations and scope", "Packages", "Program execution").
-use Rattle.std.specs.Prelude.{◌≡◌, ℕ, ◌+◌, ◌==◌, Bool, true, false, not, ◌&&◌, ◌||◌, nat_le, cond, is_none, fold, List, [], ◌∷◌, ◌++◌, length, map, flat_map, slice_get, slice_set, Option, Some, None, codes, pos, neg_ℤ}
+-- Which rules a file breaks, in the order of the walk (Go specification, "Source file organization", "Declarations and
+-- scope", "Packages", "Program execution").
+use Rattle.std.specs.Prelude.{◌≡◌, ℕ, ◌+◌, ◌==◌, Bool, true, false, not, ◌&&◌, ◌||◌, nat_le, cond, is_none, fold, List}
+use Rattle.std.specs.Prelude.{[], ◌∷◌, ◌++◌, length, map, flat_map, slice_get, slice_set, Option, Some, None, codes}
+use Rattle.std.specs.Prelude.{pos, neg_ℤ}
 use Rattle.std.specs.Option.{option_and_then, option_map}
 use Rattle.std.specs.Str.{bytes_eq}
 use Rattle.golf_syntax_trees.specs.declared.types.TypeExpr.{TypeExpr}
@@ -15,6 +18,9 @@ use Rattle.golf_syntax_trees.specs.declared.declarations.Func.{Func}
 use Rattle.golf_syntax_trees.specs.declared.declarations.Decl.{Decl}
 use Rattle.golf_syntax_trees.specs.declared.declarations.Decl.TheVariants as d
 use Rattle.golf_syntax_trees.specs.declared.declarations.File.{File}
+use Rattle.golf_check_types.specs.declared.rules.TheConstants.{WRONG_IMPORT, NOT_DECLARABLE, WRONG_MEMBER, NO_MAIN}
+use Rattle.golf_check_types.specs.declared.rules.TheConstants.{NOT_ASSIGNABLE, NOT_TERMINATING, TOO_LARGE}
+use Rattle.golf_check_types.specs.declared.rules.TheConstants.{NIL_WITHOUT_TYPE}
 use Rattle.golf_check_types.specs.declared.types.Base.{Base}
 use Rattle.golf_check_types.specs.declared.types.Base.TheVariants as base
 use Rattle.golf_check_types.specs.declared.types.GoType.{GoType}
@@ -39,7 +45,8 @@ use Rattle.golf_check_types.specs.Scopes.{is_reserved, may_be_declared, meaning,
 use Rattle.golf_check_types.specs.Written.{write_at, pointer_to}
 use Rattle.golf_check_types.specs.Expressions.{facts_of, used, given_by, value_from, fits_int}
 use Rattle.golf_check_types.specs.Judging.{judge_at}
-use Rattle.golf_check_types.specs.Statements.{Walk, Walked, nothing, breaks, judges, told, declares_one, behind, in_order, walk}
+use Rattle.golf_check_types.specs.Statements.{Walk, Walked, nothing, breaks, judges, told, declares_one, behind}
+use Rattle.golf_check_types.specs.Statements.{in_order, walk}
 use Rattle.golf_check_types.specs.Endings.{of_all, ending}
 
 -- Imports: rule 1.
@@ -65,7 +72,8 @@ with_import i (Some packages.Sync) = record i { sync = true }
 
 abbrev pub path_faults : ℕ → Imports → List (List ℕ) → List Fault
 path_faults l i [] = []
-path_faults l i (p ∷ ps) = broken l 1 (is_new_import i (package_of p)) ++ path_faults l (with_import i (package_of p)) ps
+path_faults l i (p ∷ ps) = broken l WRONG_IMPORT (is_new_import i (package_of p))
+    ++ path_faults l (with_import i (package_of p)) ps
 
 abbrev pub with_paths : Imports → List (List ℕ) → Imports
 with_paths i [] = i
@@ -81,7 +89,8 @@ import_paths (import.Group l ps) = ps
 
 abbrev pub import_faults : Imports → List Import → List Fault
 import_faults i [] = []
-import_faults i (x ∷ xs) = path_faults (import_line x) i (import_paths x) ++ import_faults (with_paths i (import_paths x)) xs
+import_faults i (x ∷ xs) = path_faults (import_line x) i (import_paths x)
+    ++ import_faults (with_paths i (import_paths x)) xs
 
 abbrev pub with_imports : Imports → List Import → Imports
 with_imports i [] = i
@@ -104,7 +113,11 @@ field_names f = f.first ∷ f.more
 
 -- the fields of a struct, numbered from here on
 abbrev pub with_field : Members → List ℕ → Members
-with_field m n = record { names = with_name m.names n (length m.kinds); kinds = m.kinds ++ member_as.Field (length m.kinds) ∷ [] }
+with_field m n = record {
+  names = with_name m.names n (length m.kinds);
+  kinds = m.kinds
+      ++ member_as.Field (length m.kinds) ∷ [];
+}
 
 abbrev pub no_members : Members
 no_members = record { names = []; kinds = [] }
@@ -122,9 +135,13 @@ function_added k (Some r) n = record k { functions = k.functions + 1 }
 
 -- the names after one declaration more; a method has none here
 abbrev pub decl_added : Naming → Decl → Naming
-decl_added k (d.Const l n c) = record (name_added k n (meant.Constant k.constants (const_base c))) { constants = k.constants + 1 }
+decl_added k (d.Const l n c) = record (name_added k n
+    (meant.Constant k.constants (const_base c))) { constants = k.constants + 1 }
 decl_added k (d.Var v) = record (name_added k v.name (meant.Global k.globals)) { globals = k.globals + 1 }
-decl_added k (d.Struct l n fields) = record (name_added k n (meant.Struct (length k.structs))) { structs = k.structs ++ members_of fields ∷ [] }
+decl_added k (d.Struct l n fields) = record (name_added k n (meant.Struct (length k.structs))) {
+  structs = k.structs
+      ++ members_of fields ∷ [];
+}
 decl_added k (d.Func f) = function_added k f.receiver f.name
 
 abbrev pub no_names : Naming
@@ -161,7 +178,8 @@ receiver_struct k (Some r) = struct_named k r.type_name
 -- the members after these declarations, if f functions and methods stand above
 abbrev pub methods_added : Naming → ℕ → List Members → List Decl → List Members
 methods_added k f structs [] = structs
-methods_added k f structs (d.Func x ∷ xs) = methods_added k (f + 1) (method_added structs (receiver_struct k x.receiver) x.name f) xs
+methods_added k f structs (d.Func x ∷ xs) =
+    methods_added k (f + 1) (method_added structs (receiver_struct k x.receiver) x.name f) xs
 methods_added k f structs (x ∷ xs) = methods_added k f structs xs
 
 -- The declared names: rules 2 and 5.
@@ -190,7 +208,11 @@ functions_in (d.Func f) = 1
 functions_in x = 0
 
 abbrev pub next_above : Above → Decl → Above
-next_above a x = record { names = a.names + names_in x; structs = a.structs + structs_in x; functions = a.functions + functions_in x }
+next_above a x = record {
+  names = a.names + names_in x;
+  structs = a.structs + structs_in x;
+  functions = a.functions + functions_in x;
+}
 
 -- Rule 2: neither `_` nor reserved, and no declaration above has the name.
 unfoldable pub may_be_named : FileScope → ℕ → List ℕ → Bool
@@ -218,13 +240,17 @@ method_is structs (Some k) n f = is_method (kind_of structs k n) f
 
 -- Rule 2, and a function is not named `init`.
 abbrev pub function_faults : FileScope → Above → Func → Option Receiver → List Fault
-function_faults f a x None = broken x.line 2 (may_be_named f a.names x.name && not (bytes_eq x.name (codes "init")))
-function_faults f a x (Some r) = broken x.line 5 (method_is f.structs (struct_number (meaning_in f r.type_name)) x.name a.functions)
+function_faults f a x None = broken x.line NOT_DECLARABLE
+    (may_be_named f a.names x.name && not (bytes_eq x.name (codes "init")))
+function_faults f a x (Some r) = broken x.line WRONG_MEMBER
+    (method_is f.structs (struct_number (meaning_in f r.type_name)) x.name a.functions)
 
 abbrev pub name_faults : FileScope → Above → Decl → List Fault
-name_faults f a (d.Const l n c) = broken l 2 (may_be_named f a.names n)
-name_faults f a (d.Var v) = broken v.line 2 (may_be_named f a.names v.name)
-name_faults f a (d.Struct l n fields) = broken l 2 (may_be_named f a.names n) ++ broken l 5 (fields_are f.structs a.structs 0 (flat_map field_names fields) && nat_le (length (flat_map field_names fields)) 64)
+name_faults f a (d.Const l n c) = broken l NOT_DECLARABLE (may_be_named f a.names n)
+name_faults f a (d.Var v) = broken v.line NOT_DECLARABLE (may_be_named f a.names v.name)
+name_faults f a (d.Struct l n fields) = broken l NOT_DECLARABLE (may_be_named f a.names n)
+    ++ broken l WRONG_MEMBER (fields_are f.structs a.structs 0 (flat_map field_names fields)
+    && nat_le (length (flat_map field_names fields)) 64)
 name_faults f a (d.Func x) = function_faults f a x x.receiver
 
 abbrev pub names_faults : FileScope → Above → List Decl → List Fault
@@ -282,8 +308,8 @@ line_of (d.Struct l n fields) = l
 line_of (d.Func f) = f.line
 
 abbrev pub main_faults : List Decl → List Fault
-main_faults [] = broken 1 6 false
-main_faults (x ∷ xs) = cond (declares_main x) (broken (line_of x) 6 (fits_main x)) (main_faults xs)
+main_faults [] = broken 1 NO_MAIN false
+main_faults (x ∷ xs) = cond (declares_main x) (broken (line_of x) NO_MAIN (fits_main x)) (main_faults xs)
 
 -- The types that are written.
 
@@ -323,7 +349,16 @@ function_types s _ = []
 
 -- the scope outside all functions
 abbrev pub outside : FileScope → Scope
-outside f = record { file = f; locals = []; depth = 0; result = None; breaks = false; loops = false; next = 0; initialises = None }
+outside f = record {
+  file = f;
+  locals = [];
+  depth = 0;
+  result = None;
+  breaks = false;
+  loops = false;
+  next = 0;
+  initialises = None;
+}
 
 -- names without types
 abbrev pub bare_file : Imports → List Decl → FileScope
@@ -347,7 +382,8 @@ with_types f xs = record f {
 -- A global without a written type has that of the form of what it begins with, if the globals above it are known.
 
 abbrev pub formed_content : FileScope → ℕ → ℕ → VarContent → FileScope
-formed_content f l g (content.Untyped e) = record f { globals = slice_set f.globals g (type_given (given_by (judge_at l (outside f) e))) }
+formed_content f l g (content.Untyped e) =
+    record f { globals = slice_set f.globals g (type_given (given_by (judge_at l (outside f) e))) }
 formed_content f l g _ = f
 
 abbrev pub with_forms : FileScope → ℕ → List Decl → FileScope
@@ -363,8 +399,8 @@ file_scope i xs = with_forms (with_types (bare_file i xs) xs) 0 xs
 
 -- Rule 19.
 abbrev pub const_faults : ℕ → Const → List Fault
-const_faults l (const.Integer n) = broken l 19 (fits_int n)
-const_faults l (const.Negative n) = broken l 19 (fits_int n)
+const_faults l (const.Integer n) = broken l TOO_LARGE (fits_int n)
+const_faults l (const.Negative n) = broken l TOO_LARGE (fits_int n)
 const_faults l _ = []
 
 -- the value of an integer
@@ -376,12 +412,16 @@ const_facts _ = []
 -- Rules 9 and 23 of the initialiser of a global.
 abbrev pub initial_walk : ℕ → VarContent → Scope → Walked
 initial_walk l (content.Zero t) s = nothing
-initial_walk l (content.Typed t e) s = judges (used l (judge_at l s e) ++ broken l 9 (assignable (given_by (judge_at l s e)) (write_at l s t).type)) (facts_of (judge_at l s e))
-initial_walk l (content.Untyped e) s = judges (used l (judge_at l s e) ++ broken l 23 (not (is_nil (given_by (judge_at l s e))))) (facts_of (judge_at l s e))
+initial_walk l (content.Typed t e) s = judges
+    (used l (judge_at l s e) ++ broken l NOT_ASSIGNABLE (assignable (given_by (judge_at l s e)) (write_at l s t).type))
+    (facts_of (judge_at l s e))
+initial_walk l (content.Untyped e) s = judges
+    (used l (judge_at l s e) ++ broken l NIL_WITHOUT_TYPE (not (is_nil (given_by (judge_at l s e)))))
+    (facts_of (judge_at l s e))
 
 -- Rule 2 of receivers and parameters.
 abbrev pub parameter : ℕ → Option GoType → List ℕ → Walk
-parameter l t n s = declares_one s n t (broken l 2 (may_be_declared s n)) []
+parameter l t n s = declares_one s n t (broken l NOT_DECLARABLE (may_be_declared s n)) []
 
 abbrev pub parameter_walk : ℕ → List ℕ × Option GoType → Walk
 parameter_walk l p = parameter l p.1 p.0
@@ -395,7 +435,7 @@ receiver_walk l file (Some r) s = parameter l (receiver_type file r.type_name) r
 
 -- Rule 14.
 abbrev pub end_faults : Func → List Fault
-end_faults f = broken f.line 14 (is_none f.result || (of_all (map ending f.body)).ends)
+end_faults f = broken f.line NOT_TERMINATING (is_none f.result || (of_all (map ending f.body)).ends)
 
 -- Receiver, parameters and result have the types of the file's scope.
 
@@ -405,7 +445,8 @@ head_scope file f = record file { result = result_type file f.result }
 
 abbrev pub parts_walk : Func → Scope → Walk
 parts_walk f file = in_order
-    (receiver_walk f.line file f.receiver ∷ in_order (map (parameter_walk f.line) (all_typed_names file f.parameters)) ∷ in_order (map walk f.body) ∷ (λ s. breaks (end_faults f)) ∷ [])
+    (receiver_walk f.line file f.receiver ∷ in_order (map (parameter_walk f.line) (all_typed_names file f.parameters))
+    ∷ in_order (map walk f.body) ∷ (λ s. breaks (end_faults f)) ∷ [])
 
 -- the names that are known where the body begins: receiver and parameters
 abbrev pub body_scope : Scope → Func → Scope
@@ -446,7 +487,9 @@ none_above = record { names = 0; structs = 0; functions = 0 }
 -- names, written types, `main`, and then constants, initialisers and bodies
 abbrev pub decl_faults : Imports → List Decl → List Fault
 decl_faults i xs =
-    names_faults (bare_file i xs) none_above xs ++ (flat_map (type_faults (outside (bare_file i xs))) xs ++ (main_faults xs ++ walk_faults (file_scope i xs) 0 xs))
+    names_faults (bare_file i xs) none_above xs
+    ++ (flat_map (type_faults (outside (bare_file i xs))) xs
+    ++ (main_faults xs ++ walk_faults (file_scope i xs) 0 xs))
 
 -- the rules that a file breaks, in the order of the walk
 unfoldable pub Broken : File → List Fault

@@ -1,23 +1,25 @@
--- What an expression is on a line, if these names are known: one equation a construct, the parts from left to right, then the whole, by rising rules.
-use Rattle.std.specs.Prelude.{◌≡◌, ℕ, Result, List, [], ◌++◌, map, flat_map, Option}
+-- What an expression is on a line, if these names are known: one equation a construct, the parts from left to right,
+-- then the whole, by rising rules.
+use Rattle.std.specs.Prelude.{◌≡◌, ℕ, Result, List, [], map}
 use Rattle.golf_syntax_trees.specs.declared.expressions.Expr.{Expr}
 use Rattle.golf_syntax_trees.specs.declared.expressions.Element.{Element}
-use Rattle.golf_syntax_trees.specs.declared.expressions.Expr.TheOpen.{Expr-F, Element-F, Integer, Text, Name, Parens, StructLiteral, SyncLiteral, SliceLiteral, EmptyLiteral, Make, MakeSized, New, NewSync, Selector, Index, Call, Unary, Binary}
+use Rattle.golf_syntax_trees.specs.declared.expressions.Expr.TheOpen.{Expr-F, Element-F, Integer, Text, Name, Parens}
+use Rattle.golf_syntax_trees.specs.declared.expressions.Expr.TheOpen.{StructLiteral, SyncLiteral, SliceLiteral}
+use Rattle.golf_syntax_trees.specs.declared.expressions.Expr.TheOpen.{EmptyLiteral, Make, MakeSized, New, NewSync}
+use Rattle.golf_syntax_trees.specs.declared.expressions.Expr.TheOpen.{Selector, Index, Call, Unary, Binary}
 use Rattle.golf_syntax_trees.specs.declared.expressions.Expr.TheFolds.{fold-Expr}
 use Rattle.golf_check_types.specs.declared.fault.TypeFault.{TypeFault}
 use Rattle.golf_check_types.specs.declared.types.Layer.TheVariants as layer
-use Rattle.golf_check_types.specs.declared.types.Base.{Base}
 use Rattle.golf_check_types.specs.declared.types.Base.TheVariants as base
-use Rattle.golf_check_types.specs.declared.facts.Fact.{Fact}
 use Rattle.golf_check_types.specs.declared.operands.Operand.{Operand}
-use Rattle.golf_check_types.specs.declared.operands.Given.{Given}
-use Rattle.golf_check_types.specs.declared.scopes.FileScope.{FileScope}
 use Rattle.golf_check_types.specs.declared.scopes.Scope.{Scope}
 use Rattle.golf_check_types.specs.Faults.{Tells}
 use Rattle.golf_check_types.specs.Types.{with_layer}
 use Rattle.golf_check_types.specs.Scopes.{meaning}
 use Rattle.golf_check_types.specs.Written.{write_at, pointer_to}
-use Rattle.golf_check_types.specs.Expressions.{Judged, facts_of, put_facts, used, named_or_used, given_by, value, leaf, named, in_parens, integer, made_sync, made_struct, struct_literal, slice_literal, made, made_sized, selector, unary_judged, binary_judged, index_judged}
+use Rattle.golf_check_types.specs.Expressions.{Judged, value, leaf, named, in_parens, integer, made_sync, made_struct}
+use Rattle.golf_check_types.specs.Expressions.{struct_literal, slice_literal, made, made_sized, selector, unary_judged}
+use Rattle.golf_check_types.specs.Expressions.{binary_judged, index_judged}
 use Rattle.golf_check_types.specs.Calls.{call_judged}
 
 abbrev pub Judge : Type 0
@@ -33,9 +35,11 @@ judge_step (Integer digits) l s = integer l digits
 judge_step (Text bytes) l s = leaf (value base.Text) []
 judge_step (Name n) l s = named l s n
 judge_step (Parens e) l s = in_parens (e l s)
-judge_step (StructLiteral n xs) l s = struct_literal l s.file (pointer_to (meaning s n)) (map (λ x. x.name) xs) (map (λ x. x.judge l s) xs)
+judge_step (StructLiteral n xs) l s = struct_literal l s.file (pointer_to (meaning s n)) (map (λ x. x.name) xs)
+    (map (λ x. x.judge l s) xs)
 judge_step (SyncLiteral n) l s = made_sync l s n
-judge_step (SliceLiteral t xs) l s = slice_literal l (write_at l s t) (with_layer layer.Slice (write_at l s t).type) (map (λ x. x l s) xs)
+judge_step (SliceLiteral t xs) l s = slice_literal l (write_at l s t) (with_layer layer.Slice (write_at l s t).type)
+    (map (λ x. x l s) xs)
 judge_step EmptyLiteral l s = leaf (value base.Unit) []
 judge_step (Make t) l s = made l (write_at l s t)
 judge_step (MakeSized t e) l s = made_sized l (write_at l s t) (e l s)
@@ -60,31 +64,6 @@ judge_at l s e = judge e l s
 abbrev pub value_at : ℕ → Scope → Element → Judged
 value_at l s x = judge x.value l s
 
--- What the answers of the checker tell of an expression: they come if no rule is broken, and then these facts were added.
-
-abbrev pub Judges : Result Operand TypeFault → Judged → List Fact → List Fact → Type 0
-Judges result j old new = Tells result j.faults (λ m. (m ≡ j.meaning) × (new ≡ old ++ j.inner))
-
--- the same, with its own fact
-abbrev pub JudgesWhole : Result Operand TypeFault → Judged → List Fact → List Fact → Type 0
-JudgesWhole result j old new = Tells result j.faults (λ m. (m ≡ j.meaning) × (new ≡ old ++ facts_of j))
-
--- what is made of operands that were judged
+-- What is made of operands that were judged: an answer comes exactly if no rule is broken.
 abbrev pub Finds : Result Operand TypeFault → Judged → Type 0
 Finds result j = Tells result j.faults (λ m. m ≡ j.meaning)
-
--- the same of an expression that stands as a value
-abbrev pub Gives : ℕ → Result Given TypeFault → Judged → List Fact → List Fact → Type 0
-Gives l result j old new = Tells result (used l j) (λ v. (v ≡ given_by j) × (new ≡ old ++ facts_of j))
-
--- the same of one that may be a name of any kind
-abbrev pub Takes : ℕ → Result Operand TypeFault → Judged → List Fact → List Fact → Type 0
-Takes l result j old new = Tells result (named_or_used l j) (λ m. (m ≡ j.meaning) × (new ≡ old ++ facts_of j))
-
--- the same of several that stand as values
-abbrev pub GivesAll : ℕ → Result (List Given) TypeFault → List Judged → List Fact → List Fact → Type 0
-GivesAll l result js old new = Tells result (flat_map (used l) js) (λ vs. (vs ≡ map given_by js) × (new ≡ old ++ flat_map facts_of js))
-
--- the same of what is put into fields of these names, before each of which the place of its field stands
-abbrev pub Puts : ℕ → FileScope → Option Base → List (List ℕ) → Result (List Given) TypeFault → List Judged → List Fact → List Fact → Type 0
-Puts l f b names result js old new = Tells result (flat_map (used l) js) (λ vs. (vs ≡ map given_by js) × (new ≡ old ++ put_facts f b names js))

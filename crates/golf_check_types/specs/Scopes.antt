@@ -1,5 +1,6 @@
 -- What names mean (Go specification, "Declarations and scope", "Predeclared identifiers").
-use Rattle.std.specs.Prelude.{ℕ, ◌+◌, ◌-◌, ◌==◌, Bool, true, false, not, ◌&&◌, cond, List, ◌++◌, take, slice_get, is_some, Option, Some, None, codes}
+use Rattle.std.specs.Prelude.{ℕ, ◌+◌, ◌-◌, ◌==◌, Bool, true, false, not, ◌&&◌, cond, List, ◌++◌, take, slice_get}
+use Rattle.std.specs.Prelude.{is_some, Option, Some, None, codes}
 use Rattle.std.specs.Option.{option_map, option_and_then}
 use Rattle.std.specs.Str.{bytes_eq}
 use Rattle.golf_check_types.specs.declared.types.GoType.{GoType}
@@ -84,7 +85,8 @@ local_operand d = operand.Variable (place.Slot d.slot) d.of_type
 
 -- what a name means: a local, else a name of the file, else a predeclared one or a package
 unfoldable pub meaning : Scope → List ℕ → Option Operand
-meaning s n = or_else (option_map local_operand (look s.locals n)) (or_else (file_operand s.file n) (predeclared s.file.imports n))
+meaning s n = or_else (option_map local_operand (look s.locals n))
+    (or_else (file_operand s.file n) (predeclared s.file.imports n))
 
 abbrev pub is_at_depth : Option Local → ℕ → Bool
 is_at_depth None depth = false

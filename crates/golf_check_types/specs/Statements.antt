@@ -1,5 +1,7 @@
--- What statements declare, which rules they break, and the facts of their parts (Go specification, "Statements", "Blocks", "Declarations and scope").
-use Rattle.std.specs.Prelude.{◌≡◌, ℕ, ◌==◌, length, Bool, true, false, not, ◌&&◌, ◌||◌, cond, is_some, is_none, List, [], ◌∷◌, ◌++◌, map, Option, Some, None, unwrap_or, Result}
+-- What statements declare, which rules they break, and the facts of their parts (Go specification, "Statements",
+-- "Blocks", "Declarations and scope").
+use Rattle.std.specs.Prelude.{ℕ, ◌==◌, length, Bool, true, false, not, ◌&&◌, ◌||◌, cond, is_some, is_none, List, []}
+use Rattle.std.specs.Prelude.{◌∷◌, ◌++◌, map, Option, Some, None, unwrap_or}
 use Rattle.std.specs.Str.{bytes_eq}
 use Rattle.golf_syntax_trees.specs.declared.types.TypeExpr.{TypeExpr}
 use Rattle.golf_syntax_trees.specs.declared.expressions.Expr.{Expr}
@@ -19,7 +21,10 @@ use Rattle.golf_syntax_trees.specs.declared.statements.Clause.{Clause}
 use Rattle.golf_syntax_trees.specs.declared.statements.Clause.TheOpen as S
 use Rattle.golf_syntax_trees.specs.declared.statements.Clause.TheOpen.{Stmt-F, Clause-F}
 use Rattle.golf_syntax_trees.specs.declared.statements.Clause.TheFolds.{fold-Stmt, fold-Clause}
-use Rattle.golf_check_types.specs.declared.fault.TypeFault.{TypeFault}
+use Rattle.golf_check_types.specs.declared.rules.TheConstants.{NOT_DECLARABLE, UNKNOWN_NAME, WRONG_OPERAND}
+use Rattle.golf_check_types.specs.declared.rules.TheConstants.{NOT_ASSIGNABLE, NO_PLACE, NOT_BEGUN, WRONG_RETURN}
+use Rattle.golf_check_types.specs.declared.rules.TheConstants.{NOTHING_TO_LEAVE, WRONG_CHANNEL, WRONG_RANGE, WRONG_USE}
+use Rattle.golf_check_types.specs.declared.rules.TheConstants.{NIL_WITHOUT_TYPE, NOTHING_NEW}
 use Rattle.golf_check_types.specs.declared.types.Layer.{Layer}
 use Rattle.golf_check_types.specs.declared.types.Layer.TheVariants as layer
 use Rattle.golf_check_types.specs.declared.types.Base.TheVariants as base
@@ -33,17 +38,20 @@ use Rattle.golf_check_types.specs.declared.facts.Fact.{Fact}
 use Rattle.golf_check_types.specs.declared.facts.Fact.TheVariants as fact
 use Rattle.golf_check_types.specs.declared.locals.Local.{Local}
 use Rattle.golf_check_types.specs.declared.scopes.Scope.{Scope}
-use Rattle.golf_check_types.specs.Faults.{Fault, broken, Tells}
+use Rattle.golf_check_types.specs.Faults.{Fault, broken}
 use Rattle.golf_check_types.specs.Facts.{part, new_target, target}
-use Rattle.golf_check_types.specs.Types.{plain, given, given_type, type_of, type_given, is_nil, has_base, has_layer, starts_with, is_slice, is_channel, is_any, gives, takes, element, assignable}
+use Rattle.golf_check_types.specs.Types.{plain, given, given_type, type_of, type_given, is_nil, has_base, has_layer}
+use Rattle.golf_check_types.specs.Types.{starts_with, is_slice, is_channel, is_any, gives, takes, element, assignable}
 use Rattle.golf_check_types.specs.Names.{is_blank, look}
 use Rattle.golf_check_types.specs.Scopes.{meaning, is_here, is_reserved, may_be_declared, declared, begun, variable}
 use Rattle.golf_check_types.specs.Written.{write_at}
-use Rattle.golf_check_types.specs.Expressions.{facts_of, used, named_or_used, given_by, value_faults, late_faults, nothing_faults}
+use Rattle.golf_check_types.specs.Expressions.{facts_of, used, named_or_used, given_by, value_faults, late_faults}
+use Rattle.golf_check_types.specs.Expressions.{nothing_faults}
 use Rattle.golf_check_types.specs.Calls.{call_judged}
 use Rattle.golf_check_types.specs.Judging.{judge_at}
 
--- what a statement declares after it, the types of the slots that it hands out, the rules that it breaks, and the facts of its parts
+-- what a statement declares after it, the types of the slots that it hands out, the rules that it breaks, and the facts
+-- of its parts
 pub record Walked : Type 0 where
   pub declares : List Local
   pub slots : List (Option GoType)
@@ -66,14 +74,24 @@ judges faults facts = record { declares = []; slots = []; faults = faults; facts
 
 -- a variable of this name and type
 abbrev pub declares_one : Scope → List ℕ → Option GoType → List Fault → List Fact → Walked
-declares_one s n t faults facts = record { declares = variable s n t ∷ []; slots = t ∷ []; faults = faults; facts = facts }
+declares_one s n t faults facts = record {
+  declares = variable s n t ∷ [];
+  slots = t ∷ [];
+  faults = faults;
+  facts = facts;
+}
 
 -- what is walked, with these facts
 abbrev pub told : Walked → List Fact → Walked
 told w facts = record { declares = w.declares; slots = w.slots; faults = w.faults; facts = facts }
 
 abbrev pub both : Walked → Walked → Walked
-both a b = record { declares = a.declares ++ b.declares; slots = a.slots ++ b.slots; faults = a.faults ++ b.faults; facts = a.facts ++ b.facts }
+both a b = record {
+  declares = a.declares ++ b.declares;
+  slots = a.slots ++ b.slots;
+  faults = a.faults ++ b.faults;
+  facts = a.facts ++ b.facts;
+}
 
 -- the scope after what was walked
 abbrev pub behind : Scope → Walked → Scope
@@ -107,7 +125,7 @@ counted w s = told (w s) (part (w s).facts)
 abbrev pub action_faults : ℕ → Operand → List Fault
 action_faults l (operand.Outcome t) = []
 action_faults l (operand.Nothing late) = late_faults l late
-action_faults l m = value_faults l m ++ broken l 18 false
+action_faults l m = value_faults l m ++ broken l WRONG_USE false
 
 abbrev pub action : ℕ → Expr → Walk
 action l e s = judges ((judge_at l s e).faults ++ action_faults l (judge_at l s e).meaning) (facts_of (judge_at l s e))
@@ -118,11 +136,12 @@ is_carried c v = not (has_layer is_channel c) || assignable v (element c)
 
 -- Rules 9 and 16 of a send.
 abbrev pub send_faults : ℕ → Given → Given → List Fault
-send_faults l c v = broken l 9 (is_carried c v) ++ broken l 16 (has_layer takes c)
+send_faults l c v = broken l NOT_ASSIGNABLE (is_carried c v) ++ broken l WRONG_CHANNEL (has_layer takes c)
 
 abbrev pub send : ℕ → Expr → Expr → Walk
 send l c e s = judges
-    (used l (judge_at l s c) ++ (used l (judge_at l s e) ++ send_faults l (given_by (judge_at l s c)) (given_by (judge_at l s e))))
+    (used l (judge_at l s c) ++ (used l (judge_at l s e)
+    ++ send_faults l (given_by (judge_at l s c)) (given_by (judge_at l s e))))
     (facts_of (judge_at l s c) ++ facts_of (judge_at l s e))
 
 -- a variable, field or element
@@ -135,18 +154,21 @@ is_place _ = false
 
 -- `p++` and `p--`: rules 8 and 10
 abbrev pub step_faults : ℕ → Operand → List Fault
-step_faults l p = broken l 8 (has_base base.Int (given p)) ++ broken l 10 (is_place p)
+step_faults l p = broken l WRONG_OPERAND (has_base base.Int (given p)) ++ broken l NO_PLACE (is_place p)
 
 abbrev pub step : ℕ → Expr → Walk
-step l p s = judges (named_or_used l (judge_at l s p) ++ step_faults l (judge_at l s p).meaning) (facts_of (judge_at l s p))
+step l p s = judges (named_or_used l (judge_at l s p) ++ step_faults l (judge_at l s p).meaning)
+    (facts_of (judge_at l s p))
 
 -- `p += e` and its like: rules 8 and 10
 abbrev pub update_faults : ℕ → Operand → Given → List Fault
-update_faults l p v = broken l 8 (has_base base.Int (given p) && has_base base.Int v) ++ broken l 10 (is_place p)
+update_faults l p v = broken l WRONG_OPERAND (has_base base.Int (given p) && has_base base.Int v)
+    ++ broken l NO_PLACE (is_place p)
 
 abbrev pub update : ℕ → Expr → Expr → Walk
 update l p e s = judges
-    (named_or_used l (judge_at l s p) ++ (used l (judge_at l s e) ++ update_faults l (judge_at l s p).meaning (given_by (judge_at l s e))))
+    (named_or_used l (judge_at l s p) ++ (used l (judge_at l s e)
+    ++ update_faults l (judge_at l s p).meaning (given_by (judge_at l s e))))
     (facts_of (judge_at l s p) ++ facts_of (judge_at l s e))
 
 -- A call without a result stands on no left side.
@@ -157,25 +179,29 @@ left_faults l m = []
 -- Rules 9 and 10 of `=`: what has a type but no place breaks 9 before 10.
 abbrev pub assign_faults : ℕ → Operand → Given → List Fault
 assign_faults l operand.Blank v = []
-assign_faults l p v = broken l 9 (assignable v (type_of p)) ++ broken l 10 (is_place p)
+assign_faults l p v = broken l NOT_ASSIGNABLE (assignable v (type_of p)) ++ broken l NO_PLACE (is_place p)
 
 abbrev pub assignment : ℕ → Expr → Expr → Walk
 assignment l p e s = judges
-    ((judge_at l s p).faults ++ (left_faults l (judge_at l s p).meaning ++ (used l (judge_at l s e) ++ assign_faults l (judge_at l s p).meaning (given_by (judge_at l s e)))))
+    ((judge_at l s p).faults ++ (left_faults l (judge_at l s p).meaning
+    ++ (used l (judge_at l s e) ++ assign_faults l (judge_at l s p).meaning (given_by (judge_at l s e)))))
     (facts_of (judge_at l s p) ++ facts_of (judge_at l s e))
 
 -- `n := e`: rules 2, 23 and 24
 abbrev pub definition : ℕ → List ℕ → Expr → Walk
 definition l n e s = declares_one s n (type_given (given_by (judge_at l s e)))
-    (used l (judge_at l s e) ++ (broken l 2 (not (is_blank n) && not (is_reserved n)) ++ (broken l 23 (not (is_nil (given_by (judge_at l s e)))) ++ broken l 24 (not (is_here s n)))))
+    (used l (judge_at l s e) ++ (broken l NOT_DECLARABLE (not (is_blank n) && not (is_reserved n))
+    ++ (broken l NIL_WITHOUT_TYPE (not (is_nil (given_by (judge_at l s e))))
+    ++ broken l NOTHING_NEW (not (is_here s n)))))
     (facts_of (judge_at l s e) ++ new_target s (type_given (given_by (judge_at l s e))) ∷ [])
 
 -- Rule 16 of a receive.
 abbrev pub receive_faults : ℕ → Given → List Fault
-receive_faults l c = broken l 16 (has_layer gives c)
+receive_faults l c = broken l WRONG_CHANNEL (has_layer gives c)
 
 abbrev pub received : ℕ → Expr → Walk
-received l e s = judges (used l (judge_at l s e) ++ receive_faults l (given_by (judge_at l s e))) (facts_of (judge_at l s e))
+received l e s = judges (used l (judge_at l s e) ++ receive_faults l (given_by (judge_at l s e)))
+    (facts_of (judge_at l s e))
 
 -- the type of what is received
 abbrev pub carried : ℕ → Expr → Scope → Option GoType
@@ -192,7 +218,8 @@ is_new s n = not (is_blank n) && not (is_here s n)
 
 abbrev pub kept_local : ℕ → ℕ → Option Local → Option GoType → List Fault
 kept_local l depth None t = []
-kept_local l depth (Some d) t = cond (d.depth == depth) (broken l 9 (assignable (given_type t) d.of_type)) []
+kept_local l depth (Some d) t = cond (d.depth == depth)
+    (broken l NOT_ASSIGNABLE (assignable (given_type t) d.of_type)) []
 
 -- Rule 9 of a name that is there in this block, which is assigned.
 unfoldable pub kept_faults : ℕ → Scope → List ℕ → Option GoType → List Fault
@@ -208,7 +235,8 @@ kept_pair_faults l s n m t = cond (bytes_eq n m) [] (kept_faults l s n t ++ kept
 
 abbrev pub pair_faults : ℕ → Scope → List ℕ → List ℕ → Option GoType → List Fault
 pair_faults l s n m t =
-    broken l 2 (pair_differs s n m) ++ (kept_pair_faults l s n m t ++ broken l 24 (is_new s n || is_new s m))
+    broken l NOT_DECLARABLE (pair_differs s n m)
+    ++ (kept_pair_faults l s n m t ++ broken l NOTHING_NEW (is_new s n || is_new s m))
 
 abbrev pub one_new : Bool → List ℕ → Option GoType → Walk
 one_new true n t s = declares_one s n t [] []
@@ -227,7 +255,8 @@ assigned s n = unwrap_or (assigned_name s n) operand.Unknown
 
 -- `n, m := <-e` after the receive
 abbrev pub pair : ℕ → List ℕ → List ℕ → Option GoType → Walk
-pair l n m t s = both (breaks (pair_faults l s n m t)) (then (new_or_kept (is_new s n) (assigned s n) n t) (new_or_kept (is_new s m) (assigned s m) m bool_type) s)
+pair l n m t s = both (breaks (pair_faults l s n m t))
+    (then (new_or_kept (is_new s n) (assigned s n) n t) (new_or_kept (is_new s m) (assigned s m) m bool_type) s)
 
 abbrev pub define_received : ℕ → ℕ → List ℕ → List ℕ → Expr → Walk
 define_received l k n m e s = both (received l e s) (pair k n m (carried l e s) s)
@@ -237,7 +266,7 @@ define_received l k n m e s = both (received l e s) (pair k n m (carried l e s) 
 unfoldable pub put_in_faults : ℕ → Option Operand → Option GoType → List Fault
 put_in_faults l None t = []
 put_in_faults l (Some operand.Blank) t = []
-put_in_faults l (Some p) t = broken l 9 (assignable (given_type t) (type_of p))
+put_in_faults l (Some p) t = broken l NOT_ASSIGNABLE (assignable (given_type t) (type_of p))
 
 abbrev pub takes_value : Option Operand → Bool
 takes_value None = true
@@ -246,11 +275,12 @@ takes_value (Some p) = is_place p
 
 -- one operand: rules 3, 9 and 10
 abbrev pub assigned_faults : ℕ → Option Operand → Option GoType → List Fault
-assigned_faults l p t = broken l 3 (is_some p) ++ (put_in_faults l p t ++ broken l 10 (takes_value p))
+assigned_faults l p t = broken l UNKNOWN_NAME (is_some p) ++ (put_in_faults l p t ++ broken l NO_PLACE (takes_value p))
 
 -- and two, of which the second takes a truth value
 abbrev pub assigned_pair_faults : ℕ → Option Operand → Option Operand → Option GoType → List Fault
-assigned_pair_faults l p q t = broken l 3 (is_some p && is_some q) ++ (put_in_faults l p t ++ (put_in_faults l q bool_type ++ broken l 10 (takes_value p && takes_value q)))
+assigned_pair_faults l p q t = broken l UNKNOWN_NAME (is_some p && is_some q)
+    ++ (put_in_faults l p t ++ (put_in_faults l q bool_type ++ broken l NO_PLACE (takes_value p && takes_value q)))
 
 -- `n = <-e` and `n, m = <-e` after the receive
 
@@ -258,7 +288,8 @@ abbrev pub assign_name : ℕ → List ℕ → Option GoType → Walk
 assign_name l n t s = judges (assigned_faults l (assigned_name s n) t) (fact.Target (assigned s n) ∷ [])
 
 abbrev pub assign_pair : ℕ → List ℕ → List ℕ → Option GoType → Walk
-assign_pair l n m t s = judges (assigned_pair_faults l (assigned_name s n) (assigned_name s m) t) (fact.Target (assigned s n) ∷ (fact.Target (assigned s m) ∷ []))
+assign_pair l n m t s = judges (assigned_pair_faults l (assigned_name s n) (assigned_name s m) t)
+    (fact.Target (assigned s n) ∷ (fact.Target (assigned s m) ∷ []))
 
 abbrev pub assign_received : ℕ → List ℕ → List ℕ → Expr → Walk
 assign_received l n m e s = both (received l e s) (assign_pair l n m (carried l e s) s)
@@ -281,18 +312,22 @@ simple_walk x = simple_kind x.line x.kind
 
 -- `var n T`: the type, then rule 2
 abbrev pub zero : ℕ → List ℕ → TypeExpr → Walk
-zero l n t s = declares_one s n (write_at l s t).type ((write_at l s t).faults ++ broken l 2 (may_be_declared s n)) (new_target s (write_at l s t).type ∷ [])
+zero l n t s = declares_one s n (write_at l s t).type
+    ((write_at l s t).faults ++ broken l NOT_DECLARABLE (may_be_declared s n)) (new_target s (write_at l s t).type ∷ [])
 
 -- `var n T = e`: the type, the expression, then rules 2 and 9
 abbrev pub typed : ℕ → List ℕ → TypeExpr → Expr → Walk
 typed l n t e s = declares_one s n (write_at l s t).type
-    ((write_at l s t).faults ++ (used l (judge_at l s e) ++ (broken l 2 (may_be_declared s n) ++ broken l 9 (assignable (given_by (judge_at l s e)) (write_at l s t).type))))
+    ((write_at l s t).faults ++ (used l (judge_at l s e)
+    ++ (broken l NOT_DECLARABLE (may_be_declared s n)
+    ++ broken l NOT_ASSIGNABLE (assignable (given_by (judge_at l s e)) (write_at l s t).type))))
     (facts_of (judge_at l s e) ++ new_target s (write_at l s t).type ∷ [])
 
 -- `var n = e`: the expression, then rules 2 and 23
 abbrev pub untyped : ℕ → List ℕ → Expr → Walk
 untyped l n e s = declares_one s n (type_given (given_by (judge_at l s e)))
-    (used l (judge_at l s e) ++ (broken l 2 (may_be_declared s n) ++ broken l 23 (not (is_nil (given_by (judge_at l s e))))))
+    (used l (judge_at l s e) ++ (broken l NOT_DECLARABLE (may_be_declared s n)
+    ++ broken l NIL_WITHOUT_TYPE (not (is_nil (given_by (judge_at l s e))))))
     (facts_of (judge_at l s e) ++ new_target s (type_given (given_by (judge_at l s e))) ∷ [])
 
 abbrev pub var_content : ℕ → List ℕ → VarContent → Walk
@@ -323,32 +358,36 @@ done_faults l m = []
 
 abbrev pub begin_call : ℕ → Expr → List Expr → Walk
 begin_call l f xs s = judges
-    ((call_judged l s (judge_at l s f) (map (judge_at l s) xs)).faults ++ (done_faults l (call_judged l s (judge_at l s f) (map (judge_at l s) xs)).meaning ++ broken l 12 (may_be_begun (judge_at l s f).meaning)))
+    ((call_judged l s (judge_at l s f) (map (judge_at l s) xs)).faults
+    ++ (done_faults l (call_judged l s (judge_at l s f) (map (judge_at l s) xs)).meaning
+    ++ broken l NOT_BEGUN (may_be_begun (judge_at l s f).meaning)))
     (call_judged l s (judge_at l s f) (map (judge_at l s) xs)).inner
 
 -- Return, break, continue.
 
 -- Rules 9 and 13 of `return e`.
 abbrev pub result_faults : ℕ → Option GoType → Given → List Fault
-result_faults l None v = broken l 13 false
-result_faults l (Some t) v = broken l 9 (assignable v (Some t))
+result_faults l None v = broken l WRONG_RETURN false
+result_faults l (Some t) v = broken l NOT_ASSIGNABLE (assignable v (Some t))
 
 abbrev pub returned : ℕ → Option Expr → Walk
-returned l None s = breaks (broken l 13 (is_none s.result))
-returned l (Some e) s = judges (used l (judge_at l s e) ++ result_faults l s.result (given_by (judge_at l s e))) (facts_of (judge_at l s e))
+returned l None s = breaks (broken l WRONG_RETURN (is_none s.result))
+returned l (Some e) s = judges (used l (judge_at l s e) ++ result_faults l s.result (given_by (judge_at l s e)))
+    (facts_of (judge_at l s e))
 
 -- Rule 15.
 abbrev pub break_walk : ℕ → Walk
-break_walk l s = breaks (broken l 15 s.breaks)
+break_walk l s = breaks (broken l NOTHING_TO_LEAVE s.breaks)
 
 abbrev pub continue_walk : ℕ → Walk
-continue_walk l s = breaks (broken l 15 s.loops)
+continue_walk l s = breaks (broken l NOTHING_TO_LEAVE s.loops)
 
 -- If.
 
 -- Rule 8 of a condition.
 abbrev pub condition : ℕ → Expr → Walk
-condition l e s = judges (used l (judge_at l s e) ++ broken l 8 (has_base base.Bool (given_by (judge_at l s e)))) (facts_of (judge_at l s e))
+condition l e s = judges (used l (judge_at l s e)
+    ++ broken l WRONG_OPERAND (has_base base.Bool (given_by (judge_at l s e)))) (facts_of (judge_at l s e))
 
 abbrev pub optional : Option Simple → Walk
 optional None s = nothing
@@ -384,7 +423,8 @@ abbrev pub behind_optional : ℕ → Option Expr → Walk → Walk
 behind_optional l test w s = both (optional_test l test s) (w s)
 
 abbrev pub steps : ℕ → Option Simple → Option Expr → Option Simple → List Walk → Walk
-steps l first test post body = then (optional first) (behind_optional l test (then (counted (optional post)) (loop_body body)))
+steps l first test post body = then (optional first)
+    (behind_optional l test (then (counted (optional post)) (loop_body body)))
 
 -- Range.
 
@@ -410,7 +450,9 @@ is_outer fits _ = false
 -- Rules 2, 16 and 17.
 abbrev pub range_faults : ℕ → RangeNames → Given → List Fault
 range_faults l names v =
-    broken l 2 (range_names_differ names) ++ (broken l 16 (not (is_outer only_takes v)) ++ broken l 17 (has_layer is_any v && not (are_two names && is_outer is_channel v)))
+    broken l NOT_DECLARABLE (range_names_differ names)
+    ++ (broken l WRONG_CHANNEL (not (is_outer only_takes v))
+    ++ broken l WRONG_RANGE (has_layer is_any v && not (are_two names && is_outer is_channel v)))
 
 abbrev pub int_type : Option GoType
 int_type = Some (plain base.Int)
@@ -437,13 +479,16 @@ range_names (range.One n) slice t s = range_name n (first_type slice t) s
 range_names (range.Two n m) slice t s = then (range_name n (first_type slice t)) (range_name m t) s
 
 abbrev pub range_head : ℕ → RangeNames → Expr → Walk
-range_head l names e s = judges (used l (judge_at l s e) ++ range_faults l names (given_by (judge_at l s e))) (facts_of (judge_at l s e) ++ fact.Hidden s.next ∷ [])
+range_head l names e s = judges (used l (judge_at l s e) ++ range_faults l names (given_by (judge_at l s e)))
+    (facts_of (judge_at l s e) ++ fact.Hidden s.next ∷ [])
 
 abbrev pub range_slots : RangeNames → Given → Walk
-range_slots names v = then (λ s. hides (hidden (is_outer is_slice v) (type_given v))) (range_names names (is_outer is_slice v) (element v))
+range_slots names v = then (λ s. hides (hidden (is_outer is_slice v) (type_given v)))
+    (range_names names (is_outer is_slice v) (element v))
 
 abbrev pub range_walk : ℕ → RangeNames → Expr → List Walk → Walk
-range_walk l names e body s = both (range_head l names e s) (then (range_slots names (given_by (judge_at l s e))) (loop_body body) s)
+range_walk l names e body s = both (range_head l names e s)
+    (then (range_slots names (given_by (judge_at l s e))) (loop_body body) s)
 
 abbrev pub header_walk : ℕ → Header → List Walk → Walk
 header_walk l header.Forever body = loop_body body
@@ -458,7 +503,7 @@ for_walk l h body = in_block (header_walk l h body)
 
 -- Rule 2 of the name of a received value.
 abbrev pub define_name : ℕ → List ℕ → Option GoType → Walk
-define_name k n t s = declares_one s n t (broken k 2 (may_be_declared s n)) (new_target s t ∷ [])
+define_name k n t s = declares_one s n t (broken k NOT_DECLARABLE (may_be_declared s n)) (new_target s t ∷ [])
 
 abbrev pub communication : ℕ → ℕ → Communication → Walk
 communication l k (comm.Send c e) s = send l c e s
@@ -502,18 +547,6 @@ walk = fold-Stmt (ℕ → Walk) Walk clause_step stmt_step
 
 unfoldable pub walk_clause : Clause → ℕ → Walk
 walk_clause = fold-Clause (ℕ → Walk) Walk clause_step stmt_step
-
--- What the answers of the checker tell of a statement: they come if no rule is broken, and then the scope is that after it, and these facts were added.
-abbrev pub Walks : {A : Type 0} → Result A TypeFault → Walked → Scope → Scope → List Fact → List Fact → Type 0
-Walks result w s t old new = Tells result w.faults (λ _. (t ≡ behind s w) × (new ≡ old ++ w.facts))
-
--- the same if the scope stays
-abbrev pub Adds : {A : Type 0} → Result A TypeFault → Walked → List Fact → List Fact → Type 0
-Adds result w old new = Tells result w.faults (λ _. new ≡ old ++ w.facts)
-
--- the same if there are no facts
-abbrev pub Moves : {A : Type 0} → Result A TypeFault → Walked → Scope → Scope → Type 0
-Moves result w s t = Tells result w.faults (λ _. t ≡ behind s w)
 
 -- a clause of the `select` on this line
 abbrev pub walk_clause_at : ℕ → Clause → Walk

@@ -170,7 +170,8 @@ abbrev pub assignable : Given → Option GoType → Bool
 assignable v None = true
 assignable v (Some b) = assignable_to v b
 
--- Comparison ("Comparison operators"): one is assignable to the other's type; nil stands beside what takes it, and a slice beside nil alone.
+-- Comparison ("Comparison operators"): one is assignable to the other's type; nil stands beside what takes it, and a
+-- slice beside nil alone.
 abbrev pub comparable : Given → Given → Bool
 comparable given_as.Unknown y = true
 comparable given_as.Nil given_as.Unknown = true
@@ -178,4 +179,5 @@ comparable given_as.Nil given_as.Nil = false
 comparable given_as.Nil (given_as.Typed b) = takes_nil b.layers b.base
 comparable (given_as.Typed a) given_as.Unknown = true
 comparable (given_as.Typed a) given_as.Nil = takes_nil a.layers a.base
-comparable (given_as.Typed a) (given_as.Typed b) = (assignable_type a b || assignable_type b a) && not (starts_with is_slice a.layers)
+comparable (given_as.Typed a) (given_as.Typed b) = (assignable_type a b || assignable_type b a)
+    && not (starts_with is_slice a.layers)

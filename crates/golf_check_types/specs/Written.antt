@@ -3,8 +3,10 @@ use Rattle.std.specs.Prelude.{ℕ, Bool, cond, is_some, List, ◌++◌, Option, 
 use Rattle.std.specs.Option.{option_map}
 use Rattle.std.specs.Str.{bytes_eq}
 use Rattle.golf_syntax_trees.specs.declared.types.TypeExpr.{TypeExpr}
-use Rattle.golf_syntax_trees.specs.declared.types.TypeExpr.TheOpen.{TypeExpr-F, Named, Pointer, SyncPointer, Slice, Chan, SendChan, ReceiveChan, EmptyStruct}
+use Rattle.golf_syntax_trees.specs.declared.types.TypeExpr.TheOpen.{TypeExpr-F, Named, Pointer, SyncPointer, Slice}
+use Rattle.golf_syntax_trees.specs.declared.types.TypeExpr.TheOpen.{Chan, SendChan, ReceiveChan, EmptyStruct}
 use Rattle.golf_syntax_trees.specs.declared.types.TypeExpr.TheFolds.{fold-TypeExpr}
+use Rattle.golf_check_types.specs.declared.rules.TheConstants.{UNKNOWN_NAME, UNKNOWN_TYPE}
 use Rattle.golf_check_types.specs.declared.types.Layer.{Layer}
 use Rattle.golf_check_types.specs.declared.types.Layer.TheVariants as layer
 use Rattle.golf_check_types.specs.declared.types.Base.{Base}
@@ -46,11 +48,15 @@ pub record Written : Type 0 where
   pub faults : List Fault
 
 abbrev pub of_base : ℕ → Option Base → Written
-of_base l b = record { type = option_map plain b; faults = broken l 4 (is_some b) }
+of_base l b = record { type = option_map plain b; faults = broken l UNKNOWN_TYPE (is_some b) }
 
 -- Package sync has to be imported.
 abbrev pub of_sync : ℕ → Bool → Option Base → Written
-of_sync l imported b = record { type = option_map plain b; faults = broken l 3 imported ++ broken l 4 (is_some b) }
+of_sync l imported b = record {
+  type = option_map plain b;
+  faults = broken l UNKNOWN_NAME imported
+      ++ broken l UNKNOWN_TYPE (is_some b);
+}
 
 abbrev pub behind_layer : Layer → Written → Written
 behind_layer x t = record { type = with_layer x t.type; faults = t.faults }

@@ -1,4 +1,6 @@
 //! Names left of `:=` and `=` beside a receive.
+//!
+//! Left of `:=` a name that is not declared in the innermost block is new. Any other name is assigned.
 
 ghost use Rattle.std.specs.Prelude.{◌≡◌, IfOk};
 ghost use Rattle.golf_check_types.specs.Statements.{is_new as is_new_of, assigned_name as assigned_name_of};

@@ -1,4 +1,6 @@
 //! What is said of a statement's end.
+//!
+//! `golf_check_bodies/src/endings.rt` finds it of a tree, as `specs/Endings.antt` defines it.
 
 /// Whether an expression is the name `panic`, and whether it is a call of it.
 #[derive(Clone, Copy, Debug, PartialEq, Eq)]

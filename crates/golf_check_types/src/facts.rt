@@ -1,4 +1,7 @@
 //! What the checker writes down of a file.
+//!
+//! The generator reads facts and no scope, so a fact has what code needs: what an expression is, which slot a variable
+//! has, how many facts belong to a part that is passed over.
 
 use crate::operands::Operand;
 

@@ -1,4 +1,7 @@
 //! Why a check stopped.
+//!
+//! A check stops at the first broken rule in the order of the walk, or because it is out of memory. No clause ties the
+//! second to a cause.
 
 ghost use Rattle.std.specs.Prelude.{◌≡◌};
 ghost use Rattle.golf_check_types.specs.declared.fault.TypeFault.TheVariants as faults;

@@ -1,5 +1,7 @@
-//! Types, what expressions and names are, scopes, and the definitions of which rules a file
-//! breaks.
+//! Types, what expressions and names are, scopes, facts, and the rules of names and types.
+//!
+//! The definitions of which rules a file breaks are in `specs/`, from a type as it is written (`Written`) to a whole file
+//! (`Files`). The crates above judge by them; the generator reads the facts.
 #![tactic(auto)]
 
 mod assigned;
@@ -8,6 +10,7 @@ mod facts;
 mod fault;
 mod locals;
 mod operands;
+pub mod rules;
 mod scopes;
 mod table;
 mod types;

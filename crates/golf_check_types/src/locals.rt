@@ -1,4 +1,7 @@
 //! The names that statements declare.
+//!
+//! Of two variables with a name the later one counts. The places of each name are kept beside the list of variables, so
+//! that a look-up takes the time of one in a hash map; the invariant of `Locals` says that they are those of the list.
 
 ghost use Rattle.std.specs.Prelude.{◌≡◌, ◌++◌, ◌∷◌, ◌-◌, [], ℕ, List, length, take, option_map, OnOk, if◌then◌else◌};
 ghost use Rattle.std.specs.Str.{bytes_eq};
@@ -95,6 +98,7 @@ impl Model for Locals {
 }
 
 impl Locals {
+    /// No variables. It takes no memory.
     pub fn new(alloc: Global) -> Locals
         ensures { result ≡ [] }
     {
@@ -104,6 +108,7 @@ impl Locals {
         }
     }
 
+    /// How many variables there are.
     pub fn len(&self) -> usize
         ensures { result ≡ length self.now }
     {

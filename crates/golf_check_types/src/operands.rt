@@ -1,7 +1,11 @@
 //! What an expression can be.
+//!
+//! An `Operand` is a value, a place, or a name that is no value; a `Given` is what an operand gives where it stands as a
+//! value. A value whose type is not known breaks no rule, so that one fault does not lead to others.
 
 ghost use Rattle.std.specs.Prelude.{◌≡◌, IfOk};
-ghost use Rattle.golf_check_types.specs.Types.{given as given_of, type_of as type_of_of, given_type as given_type_of, type_given, element};
+ghost use Rattle.golf_check_types.specs.Types.{given as given_of, type_of as type_of_of, given_type as given_type_of};
+ghost use Rattle.golf_check_types.specs.Types.{type_given, element};
 
 use crate::types::{Base, GoType, copy_optional, plain};
 use golf_base::{List, Memory};

@@ -1,8 +1,19 @@
 //! What names mean.
+//!
+//! A name is a local, else a name of the file, else predeclared or a package. A `Scope` has all three, and what the
+//! function around a place allows there. `begin` and `end` open and close a block: after `end` the names are those that
+//! were known before `begin`.
 
 ghost use Rattle.std.specs.Prelude.{◌≡◌, ◌∷◌, [], IfOk, OnOk, length};
 ghost use Rattle.golf_check_types.specs.Names.{is_blank as is_blank_of};
-ghost use Rattle.golf_check_types.specs.Scopes.{or_else, type_name as type_name_of, value_name as value_name_of, call_name as call_name_of, package_name as package_name_of, predeclared as predeclared_of, is_reserved as is_reserved_of, type_at as type_at_of, entry_operand as entry_operand_of, file_operand as file_operand_of, local_operand as local_operand_of, meaning as meaning_of, is_here as is_here_of, may_be_declared as may_be_declared_of, declared, begun, closed_to, variable, member as member_of, kind_in};
+ghost use Rattle.golf_check_types.specs.Scopes.{or_else, type_name as type_name_of, value_name as value_name_of};
+ghost use Rattle.golf_check_types.specs.Scopes.{call_name as call_name_of, package_name as package_name_of};
+ghost use Rattle.golf_check_types.specs.Scopes.{predeclared as predeclared_of, is_reserved as is_reserved_of};
+ghost use Rattle.golf_check_types.specs.Scopes.{type_at as type_at_of, entry_operand as entry_operand_of};
+ghost use Rattle.golf_check_types.specs.Scopes.{file_operand as file_operand_of, local_operand as local_operand_of};
+ghost use Rattle.golf_check_types.specs.Scopes.{meaning as meaning_of, is_here as is_here_of};
+ghost use Rattle.golf_check_types.specs.Scopes.{may_be_declared as may_be_declared_of, declared, begun, closed_to};
+ghost use Rattle.golf_check_types.specs.Scopes.{variable, member as member_of, kind_in};
 
 use crate::locals::{Local, Locals};
 use crate::operands::{BuiltIn, Operand, Package, Signature, Where};
@@ -163,6 +174,7 @@ impl Drop for Scope {
     }
 }
 
+// What the name of a predeclared type means.
 #[tactic(auto, unfolding(crate::specs::Scopes::type_name))]
 fn type_name(name: &[u8]) -> Option<Operand>
     ensures { result ≡ type_name_of name.now }
@@ -179,6 +191,7 @@ fn type_name(name: &[u8]) -> Option<Operand>
     None
 }
 
+// What the name of a predeclared value means.
 #[tactic(auto, unfolding(crate::specs::Scopes::value_name))]
 fn value_name(name: &[u8]) -> Option<Operand>
     ensures { result ≡ value_name_of name.now }
@@ -195,6 +208,7 @@ fn value_name(name: &[u8]) -> Option<Operand>
     None
 }
 
+// What the name of a predeclared function means. `make` and `new` have operands of their own.
 #[tactic(auto, unfolding(crate::specs::Scopes::call_name))]
 fn call_name(name: &[u8]) -> Option<Operand>
     ensures { result ≡ call_name_of name.now }
@@ -217,6 +231,7 @@ fn call_name(name: &[u8]) -> Option<Operand>
     None
 }
 
+// What the name of an imported package means.
 #[tactic(auto, unfolding(crate::specs::Scopes::package_name))]
 fn package_name(imports: Imports, name: &[u8]) -> Option<Operand>
     ensures { result ≡ package_name_of imports name.now }
@@ -283,6 +298,7 @@ pub fn type_at(
     }
 }
 
+// What an entity of the file is as an operand.
 fn entry_operand(alloc: Global, file: &FileScope, meaning: Entity) -> Result<Operand, Memory>
     ensures { IfOk result (λ m. m ≡ entry_operand_of file.now meaning) }
 {
@@ -310,6 +326,7 @@ fn file_operand(alloc: Global, file: &FileScope, name: &[u8]) -> Result<Option<O
     }
 }
 
+// What a variable of a function is as an operand.
 fn local_operand(alloc: Global, local: &Local) -> Result<Operand, Memory>
     ensures { IfOk result (λ m. m ≡ local_operand_of local.now) }
 {

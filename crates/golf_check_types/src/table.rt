@@ -1,4 +1,7 @@
 //! Names with their numbers.
+//!
+//! The first entry of a name counts, and a name that is there is not added again. A table is seen as the list of its
+//! entries in the order in which they came.
 
 ghost use Rattle.std.specs.Prelude.{◌≡◌, [], OnOk};
 ghost use Rattle.golf_check_types.specs.Names.{number_of, with_name};
@@ -29,6 +32,7 @@ impl Model for Table {
 }
 
 impl Table {
+    /// No names. It takes no memory.
     pub fn new(alloc: Global) -> Table
         ensures { result ≡ [] }
     {

@@ -1,7 +1,12 @@
 //! Types (Go specification, "Types", cut down to those of the language).
+//!
+//! A type is a list of layers, `[]` and `chan` from the outermost on, and what they end in. Two types are identical
+//! exactly when layers and ends are the same. A type that is not known is `None` wherever one stands.
 
 ghost use Rattle.std.specs.Prelude.{◌≡◌, IfOk};
-ghost use Rattle.golf_check_types.specs.Types.{same_layer as same_layer_of, same_layers as same_layers_of, same_base as same_base_of, same_type as same_type_of, plain as plain_of, with_layer as with_layer_of, inside};
+ghost use Rattle.golf_check_types.specs.Types.{same_layer as same_layer_of, same_layers as same_layers_of};
+ghost use Rattle.golf_check_types.specs.Types.{same_base as same_base_of, same_type as same_type_of, plain as plain_of};
+ghost use Rattle.golf_check_types.specs.Types.{with_layer as with_layer_of, inside};
 
 use golf_base::{List, Memory};
 use std::alloc::Global;

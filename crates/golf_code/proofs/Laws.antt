@@ -12,7 +12,8 @@ use Rattle.golf_code_of.specs.Files.{CodeOf}
 use Rattle.golf_code_facts.specs.Files.{tables_by, code_by, CodeBy}
 use Rattle.golf_code_facts.proofs.Files.{files-follow}
 
-pub code_is : (f : File) (s : Scope) (xs : List Decl) (fs : List Fact) → s ≡ scope_of f → xs ≡ f.declarations → fs ≡ facts_in f → code_by (tables_by xs fs) s.file xs fs ≡ CodeOf f
+pub code_is : (f : File) (s : Scope) (xs : List Decl) (fs : List Fact) → s ≡ scope_of f → xs ≡ f.declarations
+    → fs ≡ facts_in f → code_by (tables_by xs fs) s.file xs fs ≡ CodeOf f
 unfolding scope_of CodeBy
 code_is f s xs fs is at told =
     ap (λ ys. code_by (tables_by ys fs) s.file ys fs) at

@@ -22,7 +22,7 @@ use Rattle.golf_check_types.specs.Calls.{sets_finaliser}
 use Rattle.golf_code_of.specs.Calls.{pushes, calling, finalising, call}
 use Rattle.golf_code_facts.specs.Facts.{type_of_value, operand_in, type_in, next_is, skip}
 use Rattle.golf_code_facts.specs.Expressions.{Take, taking, taking_step, element_taking_step, arguments, pieces}
-use Rattle.golf_code_expressions.specs.declared.places.Place.TheVariants as place
+use Rattle.golf_code_expressions.specs.declared.places.LeftSide.TheVariants as place
 use Rattle.golf_code_expressions.specs.declared.writer.Draft.{Draft}
 use Rattle.golf_code_expressions.specs.declared.writer.Writer.{Writer}
 use Rattle.golf_code_expressions.specs.Writing.{with_piece, Extends}
@@ -53,32 +53,46 @@ module _ (t : Tables) (l : ℕ) where
   pieces_as_many (x ∷ xs) fs = ap (λ n. suc n) (pieces_as_many xs (skip fs))
 
   module _ (m : Fact) (fs : List Fact) where
-    taking-Call : (f : Expr) (xs : List Expr) → taking t (ex.Call f xs) l (m ∷ fs) ≡ call l (next_is fs) (taking t f l fs).piece (arguments l (map (taking t) xs) (skip fs))
+    taking-Call : (f : Expr) (xs : List Expr)
+        → taking t (ex.Call f xs) l (m ∷ fs) ≡ call l (next_is fs) (taking t f l fs).piece
+        (arguments l (map (taking t) xs) (skip fs))
     unfolding taking
-    taking-Call f xs = ap (λ (k : Take). k l (m ∷ fs)) (ap (taking t) (sym (ex.rolls-Call f xs)) ∙ fold-roll-Expr Take Take (taking_step t) element_taking_step (F.Call f xs))
+    taking-Call f xs = ap (λ (k : Take). k l (m ∷ fs))
+        (ap (taking t) (sym (ex.rolls-Call f xs))
+        ∙ fold-roll-Expr Take Take (taking_step t) element_taking_step (F.Call f xs))
 
     -- a call that sets a finaliser
     pub call_is : (e f : Expr) (xs ys : List Expr) → e ≡ ex.Call f xs → ys ≡ xs → sets_finaliser (next_is fs) ≡ true
         → finalising l (arguments l (map (taking t) ys) (skip fs)) ≡ (taking t e l (m ∷ fs)).piece
     call_is e f xs ys is also sets =
         ap (λ zs. finalising l (arguments l (map (taking t) zs) (skip fs))) also
-        ∙ (ap (λ c. cond c (finalising l (arguments l (map (taking t) xs) (skip fs))) (all ((taking t f l fs).piece ∷ pushes (arguments l (map (taking t) xs) (skip fs)) ∷ calling l (next_is fs) (length (arguments l (map (taking t) xs) (skip fs))) ∷ []))) (sym sets)
+        ∙ (ap (λ c. cond c (finalising l (arguments l (map (taking t) xs) (skip fs)))
+        (all ((taking t f l fs).piece ∷ pushes (arguments l (map (taking t) xs) (skip fs))
+        ∷ calling l (next_is fs) (length (arguments l (map (taking t) xs) (skip fs))) ∷ []))) (sym sets)
         ∙ sym (ap (λ z. (taking t z l (m ∷ fs)).piece) is ∙ ap (λ (x : Made). x.piece) (taking-Call f xs)))
 
-    taking-Slice : (w : TypeExpr) (xs : List Expr) → taking t (ex.SliceLiteral w xs) l (m ∷ fs) ≡ slice_literal l (type_in m) (pieces (arguments l (map (taking t) xs) fs))
+    taking-Slice : (w : TypeExpr) (xs : List Expr)
+        → taking t (ex.SliceLiteral w xs) l (m ∷ fs) ≡ slice_literal l (type_in m)
+        (pieces (arguments l (map (taking t) xs) fs))
     unfolding taking
-    taking-Slice w xs = ap (λ (k : Take). k l (m ∷ fs)) (ap (taking t) (sym (ex.rolls-SliceLiteral w xs)) ∙ fold-roll-Expr Take Take (taking_step t) element_taking_step (F.SliceLiteral w xs))
+    taking-Slice w xs = ap (λ (k : Take). k l (m ∷ fs))
+        (ap (taking t) (sym (ex.rolls-SliceLiteral w xs))
+        ∙ fold-roll-Expr Take Take (taking_step t) element_taking_step (F.SliceLiteral w xs))
 
-    pub slice_is : (e : Expr) (w : TypeExpr) (xs ys : List Expr) (o : Operand) → e ≡ ex.SliceLiteral w xs → ys ≡ xs → o ≡ operand_in m
-        → all (op l (Instr.Int (pos (length ys))) ∷ op l (makes (type_of_value o)) ∷ elements l 0 (pieces (arguments l (map (taking t) ys) fs)) ∷ []) ≡ (taking t e l (m ∷ fs)).piece
+    pub slice_is : (e : Expr) (w : TypeExpr) (xs ys : List Expr) (o : Operand) → e ≡ ex.SliceLiteral w xs → ys ≡ xs
+        → o ≡ operand_in m
+        → all (op l (Instr.Int (pos (length ys))) ∷ op l (makes (type_of_value o))
+        ∷ elements l 0 (pieces (arguments l (map (taking t) ys) fs)) ∷ []) ≡ (taking t e l (m ∷ fs)).piece
     slice_is e w xs ys o is also same =
-        ap (λ n. all (op l (Instr.Int (pos n)) ∷ op l (makes (type_of_value o)) ∷ elements l 0 (pieces (arguments l (map (taking t) ys) fs)) ∷ [])) (sym (pieces_as_many ys fs))
+        ap (λ n. all (op l (Instr.Int (pos n)) ∷ op l (makes (type_of_value o))
+        ∷ elements l 0 (pieces (arguments l (map (taking t) ys) fs)) ∷ [])) (sym (pieces_as_many ys fs))
         ∙ ap (λ k. (slice_literal l (type_of_value k) (pieces (arguments l (map (taking t) ys) fs))).piece) same
         ∙ ap (λ zs. (slice_literal l (type_in m) (pieces (arguments l (map (taking t) zs) fs))).piece) also
         ∙ sym (ap (λ z. (taking t z l (m ∷ fs)).piece) is ∙ ap (λ (x : Made). x.piece) (taking-Slice w xs))
 
 -- a piece is added whatever facts come next
-pub passed_over : {A : Type 0} (r : Result A Memory) (p : Piece) (old new : Writer) (fs : List Fact) → Extends r p (record { facts = fs; draft = old.draft }) new → Extends r p old new
+pub passed_over : {A : Type 0} (r : Result A Memory) (p : Piece) (old new : Writer) (fs : List Fact)
+    → Extends r p (record { facts = fs; draft = old.draft }) new → Extends r p old new
 passed_over (Ok a) p old new fs h = h
 passed_over (Err e) p old new fs h = tt
 
@@ -87,13 +101,17 @@ passed_over (Err e) p old new fs h = tt
 abbrev written : List Fact → Draft → Writer
 written fs d = record { facts = fs; draft = d }
 
-pub none_written : (l : ℕ) (e : Expr) (w : Writer) → w.facts ≡ [] → w.draft ≡ with_piece w.draft (taking w.draft.tables.now e l w.facts).piece
+pub none_written : (l : ℕ) (e : Expr) (w : Writer) → w.facts ≡ []
+    → w.draft ≡ with_piece w.draft (taking w.draft.tables.now e l w.facts).piece
 none_written l e w none =
     let t = w.draft.tables.now in
-    ap (λ (x : Made). with_piece w.draft x.piece) (sym (no_facts t l e)) ∙ ap (λ fs. with_piece w.draft (taking t e l fs).piece) (sym none)
+    ap (λ (x : Made). with_piece w.draft x.piece) (sym (no_facts t l e))
+    ∙ ap (λ fs. with_piece w.draft (taking t e l fs).piece) (sym none)
 
 pub no_place : (l : ℕ) (e : Expr) (w : Writer) (left : List Fact) → w.facts ≡ [] → left ≡ []
-    → IsPlace l place.Nothing (taking w.draft.tables.now e l w.facts) × (written left w.draft ≡ written (skip w.facts) (with_piece w.draft (taking w.draft.tables.now e l w.facts).parts))
+    → IsPlace l place.Nothing (taking w.draft.tables.now e l w.facts)
+    × (written left w.draft ≡ written (skip w.facts)
+    (with_piece w.draft (taking w.draft.tables.now e l w.facts).parts))
 no_place l e w left none h =
     let t = w.draft.tables.now in
     let same : taking t e l w.facts ≡ only Piece.Empty = ap (taking t e l) none ∙ no_facts t l e in (

@@ -8,26 +8,26 @@ use Rattle.golf_check_types.specs.declared.operands.Where.TheVariants as at
 use Rattle.golf_code_layout.specs.Piece.{Piece, op}
 use Rattle.golf_code_of.specs.declared.tables.Tables.{Tables}
 use Rattle.golf_code_of.specs.Expressions.{Made, name}
-use Rattle.golf_code_expressions.specs.declared.places.Place.{Place}
-use Rattle.golf_code_expressions.specs.declared.places.Place.TheVariants as place
+use Rattle.golf_code_expressions.specs.declared.places.LeftSide.{LeftSide}
+use Rattle.golf_code_expressions.specs.declared.places.LeftSide.TheVariants as place
 use Rattle.golf_code_expressions.specs.declared.writer.Writer.{Writer}
 use Rattle.golf_code_expressions.specs.Writing.{with_piece}
 
 -- what doubles what tells the place, what turns it into the value, and what takes it with a new value on top
 
-abbrev pub twice_of : ℕ → Place → Piece
+abbrev pub twice_of : ℕ → LeftSide → Piece
 twice_of l (place.Field i) = op l Instr.Dup
 twice_of l place.Element = op l Instr.Dup2
 twice_of l _ = Piece.Empty
 
-abbrev pub read_of : ℕ → Place → Piece
+abbrev pub read_of : ℕ → LeftSide → Piece
 read_of l (place.Variable (at.Slot i)) = op l (Instr.Load i)
 read_of l (place.Variable (at.Global g)) = op l (Instr.LoadGlobal g)
 read_of l (place.Field i) = op l (Instr.Field i)
 read_of l place.Element = op l Instr.Index
 read_of l _ = Piece.Empty
 
-abbrev pub store_of : ℕ → Place → Piece
+abbrev pub store_of : ℕ → LeftSide → Piece
 store_of l (place.Variable (at.Slot i)) = op l (Instr.Store i)
 store_of l (place.Variable (at.Global g)) = op l (Instr.StoreGlobal g)
 store_of l place.Blank = op l Instr.Drop
@@ -36,21 +36,21 @@ store_of l place.Element = op l Instr.SetIndex
 store_of l place.Nothing = Piece.Empty
 
 -- this is the kind of place of a left side with such code
-pub record IsPlace (l : ℕ) (p : Place) (x : Made) : Type 0 where
+pub record IsPlace (l : ℕ) (p : LeftSide) (x : Made) : Type 0 where
   pub twice : x.twice ≡ twice_of l p
   pub read : x.read ≡ read_of l p
   pub store : x.store ≡ store_of l p
 
 -- what tells the place was added, and the answer is its kind
-abbrev pub Tells : ℕ → Result Place Memory → Made → Writer → Writer → Type 0
+abbrev pub Tells : ℕ → Result LeftSide Memory → Made → Writer → Writer → Type 0
 Tells l (Ok p) x old new = IsPlace l p x × (new.draft ≡ with_piece old.draft x.parts)
 Tells l (Err e) x old new = Unit {0}
 
 -- the same, and these facts are left
-abbrev pub TellsAll : ℕ → Result Place Memory → Made → List Fact → Writer → Writer → Type 0
+abbrev pub TellsAll : ℕ → Result LeftSide Memory → Made → List Fact → Writer → Writer → Type 0
 TellsAll l (Ok p) x left old new = IsPlace l p x × (new ≡ record { facts = left; draft = with_piece old.draft x.parts })
 TellsAll l (Err e) x left old new = Unit {0}
 
 -- a name that means this is this kind of place, which no code tells
-abbrev pub IsVariable : Operand → Place → Type 0
+abbrev pub IsVariable : Operand → LeftSide → Type 0
 IsVariable m p = (l : ℕ) (t : Tables) → IsPlace l p (name l t m) × ((name l t m).parts ≡ Piece.Empty)

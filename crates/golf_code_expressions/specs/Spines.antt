@@ -1,5 +1,6 @@
 -- The code before and after that of a left operand, and how it grows while expressions wait for theirs.
-use Rattle.std.specs.Prelude.{◌≡◌, ℕ, ◌≤◌, Bool, true, false, cond, List, [], ◌∷◌, ◌++◌, map, drop, length, Option, Some, None, Result, Ok, Err}
+use Rattle.std.specs.Prelude.{◌≡◌, ℕ, ◌≤◌, Bool, true, false, cond, List, [], ◌∷◌, ◌++◌, map, drop, length, Option}
+use Rattle.std.specs.Prelude.{Some, None, Result, Ok, Err}
 use Rattle.std.specs.Borrow.{Bor}
 use Rattle.golf_base.specs.declared.Memory.{Memory}
 use Rattle.golf_syntax_trees.specs.declared.expressions.BinaryOperator.{BinaryOperator}
@@ -71,7 +72,8 @@ abbrev pub after_call : ℕ → Operand → ℕ → List Argument → List Emitt
 after_call l callee n xs ms = onto (onto ms (pushes xs)) (calling l callee n)
 
 abbrev pub after_either : ℕ → Bool → Piece → List Emitted → List Emitted
-after_either l value b ms = (((onto (ms ++ emit.Unless l 0 ∷ []) b ++ emit.Exit l 1 ∷ []) ++ emit.End ∷ []) ++ emit.Op (Instr.Bool value) l ∷ []) ++ emit.End ∷ []
+after_either l value b ms = (((onto (ms ++ emit.Unless l 0 ∷ []) b ++ emit.Exit l 1 ∷ []) ++ emit.End ∷ [])
+    ++ emit.Op (Instr.Bool value) l ∷ []) ++ emit.End ∷ []
 
 abbrev pub after_both : ℕ → BinaryOperator → Piece → List Emitted → List Emitted
 after_both l o b ms = onto (onto ms b) (combining l o)
@@ -84,7 +86,8 @@ after_binary l o b ms = after_both l o b ms
 abbrev pub ended_step : Tables → ℕ → Expr-F Expr Element → Operand → List Fact → List Emitted → List Emitted
 ended_step t l (Selector e n) m fs ms = after_selector l m ms
 ended_step t l (Index a i) m fs ms = after_index l (taking t i l (skip fs)).piece ms
-ended_step t l (Call g xs) m fs ms = after_call l (next_is fs) (length xs) (arguments l (map (taking t) xs) (skip fs)) ms
+ended_step t l (Call g xs) m fs ms = after_call l (next_is fs) (length xs)
+    (arguments l (map (taking t) xs) (skip fs)) ms
 ended_step t l (Binary o a b) m fs ms = after_binary l o (taking t b l (skip fs)).piece ms
 ended_step t l _ m fs ms = ms
 
@@ -109,7 +112,9 @@ Follows (Err e) ms old new = Unit {0}
 -- The loop followed the left operands from an expression to the one inside, and these wait for it.
 abbrev pub Descended : Expr → Writer → List (Bor Expr) → Expr → Writer → Type 0
 Descended e old ws inner new = record {
-  whole : (l : ℕ) → grown old.draft.tables.now l (shown ws) old.facts (onto new.draft.emitted (taking old.draft.tables.now inner l new.facts).piece) ≡ onto old.draft.emitted (taking old.draft.tables.now e l old.facts).piece;
+  whole : (l : ℕ) → grown old.draft.tables.now l (shown ws) old.facts
+      (onto new.draft.emitted (taking old.draft.tables.now inner l new.facts).piece) ≡ onto old.draft.emitted
+      (taking old.draft.tables.now e l old.facts).piece;
   draft : new.draft ≡ with_emitted old.draft new.draft.emitted;
   facts : new.facts ≡ drop (length ws) old.facts;
   enough : length ws ≤ length old.facts;
@@ -124,7 +129,8 @@ Stops e fs = (f : Fact) (gs : List Fact) → fs ≡ f ∷ gs → written e (oper
 -- these wait for what was written
 abbrev pub Rising : ℕ → Expr → Writer → List (Bor Expr) → Draft → Type 0
 Rising l e old ws d = record {
-  whole : grown old.draft.tables.now l (shown ws) old.facts d.emitted ≡ onto old.draft.emitted (taking old.draft.tables.now e l old.facts).piece;
+  whole : grown old.draft.tables.now l (shown ws) old.facts d.emitted ≡ onto old.draft.emitted
+      (taking old.draft.tables.now e l old.facts).piece;
   draft : d ≡ with_emitted old.draft d.emitted;
   enough : length ws ≤ length old.facts;
   within : Within size-Expr (size-Expr e) (shown ws);

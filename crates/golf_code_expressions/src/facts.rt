@@ -1,7 +1,10 @@
 //! The facts of what is still to be written.
 
 ghost use Rattle.std.specs.Prelude.{◌≡◌, ◌∷◌, [], drop, IfSome, IfNone};
-ghost use Rattle.golf_code_facts.specs.Facts.{skip as skip_of, past_one, next as next_of, next_is, operand_in as operand_in_of, parts_in as parts_in_of, number_in as number_in_of, field_in as field_in_of, hidden_in as hidden_in_of};
+ghost use Rattle.golf_code_facts.specs.Facts.{skip as skip_of, past_one, next as next_of, next_is};
+ghost use Rattle.golf_code_facts.specs.Facts.{operand_in as operand_in_of, parts_in as parts_in_of};
+ghost use Rattle.golf_code_facts.specs.Facts.{number_in as number_in_of, field_in as field_in_of};
+ghost use Rattle.golf_code_facts.specs.Facts.{hidden_in as hidden_in_of};
 
 use golf_check_types::{Fact, Operand};
 use std::marker::Model;

@@ -14,6 +14,6 @@ pub use calls::operation;
 pub use expressions::expression;
 pub use facts::Facts;
 pub use names::store;
-pub use places::{Place, left_side, read, twice, write};
+pub use places::{LeftSide, left_side, read, twice, write};
 pub use values::{base_zero, count, push, zero_value};
 pub use writer::{Draft, Writer};

@@ -1,6 +1,7 @@
 //! Names, and what is made by name.
 
-ghost use Rattle.golf_code_of.specs.Expressions.{name as name_of, variable as variable_of, new_struct as new_struct_of, new_sync as new_sync_of};
+ghost use Rattle.golf_code_of.specs.Expressions.{name as name_of, variable as variable_of, new_struct as new_struct_of};
+ghost use Rattle.golf_code_of.specs.Expressions.{new_sync as new_sync_of};
 ghost use Rattle.std.specs.Prelude.{◌≡◌};
 ghost use Rattle.golf_check_types.specs.Expressions.{struct_of as struct_of_of};
 ghost use Rattle.golf_code_of.specs.Values.{makes as makes_of};

@@ -17,7 +17,7 @@ use golf_syntax_trees::Expr;
 
 /// What stands on a left side.
 #[derive(Clone, Copy, Debug, PartialEq, Eq)]
-pub enum Place {
+pub enum LeftSide {
     /// A variable in a slot or a global.
     Variable(Where),
     /// `_`, which drops the value.
@@ -31,69 +31,69 @@ pub enum Place {
 }
 
 /// Doubles what tells the place.
-pub fn twice(emitted: &mut List<Emitted>, line: u32, place: Place) -> Result<(), Memory>
+pub fn twice(emitted: &mut List<Emitted>, line: u32, place: LeftSide) -> Result<(), Memory>
     ensures { Adds result (twice_of line place) emitted.old emitted.new }
 {
     match place {
-        Place::Field(_) => op(emitted, line, Instr::Dup),
-        Place::Element => op(emitted, line, Instr::Dup2),
-        Place::Variable(_) => Ok(()),
-        Place::Blank => Ok(()),
-        Place::Nothing => Ok(()),
+        LeftSide::Field(_) => op(emitted, line, Instr::Dup),
+        LeftSide::Element => op(emitted, line, Instr::Dup2),
+        LeftSide::Variable(_) => Ok(()),
+        LeftSide::Blank => Ok(()),
+        LeftSide::Nothing => Ok(()),
     }
 }
 
 /// Turns what tells the place into its value.
-pub fn read(emitted: &mut List<Emitted>, line: u32, place: Place) -> Result<(), Memory>
+pub fn read(emitted: &mut List<Emitted>, line: u32, place: LeftSide) -> Result<(), Memory>
     ensures { Adds result (read_of line place) emitted.old emitted.new }
 {
     match place {
-        Place::Variable(at) => match at {
+        LeftSide::Variable(at) => match at {
             Where::Slot(slot) => op(emitted, line, Instr::Load(slot)),
             Where::Global(number) => op(emitted, line, Instr::LoadGlobal(number)),
         },
-        Place::Field(field) => op(emitted, line, Instr::Field(field)),
-        Place::Element => op(emitted, line, Instr::Index),
-        Place::Blank => Ok(()),
-        Place::Nothing => Ok(()),
+        LeftSide::Field(field) => op(emitted, line, Instr::Field(field)),
+        LeftSide::Element => op(emitted, line, Instr::Index),
+        LeftSide::Blank => Ok(()),
+        LeftSide::Nothing => Ok(()),
     }
 }
 
 /// Takes what tells the place and a new value on top.
-pub fn write(emitted: &mut List<Emitted>, line: u32, place: Place) -> Result<(), Memory>
+pub fn write(emitted: &mut List<Emitted>, line: u32, place: LeftSide) -> Result<(), Memory>
     ensures { Adds result (store_of line place) emitted.old emitted.new }
 {
     match place {
-        Place::Variable(at) => match at {
+        LeftSide::Variable(at) => match at {
             Where::Slot(slot) => op(emitted, line, Instr::Store(slot)),
             Where::Global(number) => op(emitted, line, Instr::StoreGlobal(number)),
         },
-        Place::Blank => op(emitted, line, Instr::Drop),
-        Place::Field(field) => op(emitted, line, Instr::SetField(field)),
-        Place::Element => op(emitted, line, Instr::SetIndex),
-        Place::Nothing => Ok(()),
+        LeftSide::Blank => op(emitted, line, Instr::Drop),
+        LeftSide::Field(field) => op(emitted, line, Instr::SetField(field)),
+        LeftSide::Element => op(emitted, line, Instr::SetIndex),
+        LeftSide::Nothing => Ok(()),
     }
 }
 
 // The place that a name is, if the name means this.
-fn named(operand: &Operand) -> Place
+fn named(operand: &Operand) -> LeftSide
     ensures { IsVariable operand.now result }
 {
     match operand {
-        Operand::Variable(at, _) => Place::Variable(*at),
-        Operand::Blank => Place::Blank,
-        _ => Place::Nothing,
+        Operand::Variable(at, _) => LeftSide::Variable(*at),
+        Operand::Blank => LeftSide::Blank,
+        _ => LeftSide::Nothing,
     }
 }
 
 // What a selector is, after the struct that has the field.
-fn selected(writer: &mut Writer, line: u32, operand: &Operand, e: &Expr) -> Result<Place, Memory>
+fn selected(writer: &mut Writer, line: u32, operand: &Operand, e: &Expr) -> Result<LeftSide, Memory>
     ensures { Tells line result (selector line operand.now (taking writer.old.draft.tables.now e.now line writer.old.facts).piece) writer.old writer.new }
 {
     match operand {
         Operand::Field(field, _) => {
             expression(writer, line, e)?;
-            Ok(Place::Field(*field))
+            Ok(LeftSide::Field(*field))
         }
         Operand::Value(_)
         | Operand::Method(_)
@@ -110,23 +110,28 @@ fn selected(writer: &mut Writer, line: u32, operand: &Operand, e: &Expr) -> Resu
         | Operand::Function(_)
         | Operand::Package(_)
         | Operand::Struct(_)
-        | Operand::TypeName => Ok(Place::Nothing),
+        | Operand::TypeName => Ok(LeftSide::Nothing),
     }
 }
 
 // An element, after the slice and the index.
-fn element(writer: &mut Writer, line: u32, a: &Expr, i: &Expr) -> Result<Place, Memory>
+fn element(writer: &mut Writer, line: u32, a: &Expr, i: &Expr) -> Result<LeftSide, Memory>
     ensures { Tells line result (index line (taking writer.old.draft.tables.now a.now line writer.old.facts).piece (taking writer.old.draft.tables.now i.now line (skip writer.old.facts)).piece) writer.old writer.new }
 {
     expression(writer, line, a)?;
     expression(writer, line, i)?;
-    Ok(Place::Element)
+    Ok(LeftSide::Element)
 }
 
 // The left side has this fact, and its parts have those that come next.
 #[cycle(placing)]
 #[tactic(auto, unfolding(golf_code_facts::specs::Expressions::taking))]
-fn whole<'a>(writer: &mut Writer<'a>, line: u32, e: &Expr, fact: &'a Fact) -> Result<Place, Memory>
+fn whole<'a>(
+    writer: &mut Writer<'a>,
+    line: u32,
+    e: &Expr,
+    fact: &'a Fact,
+) -> Result<LeftSide, Memory>
     ensures { Tells line result (taking writer.old.draft.tables.now e.now line (fact.now ∷ writer.old.facts)) writer.old writer.new }
 {
     let operand = writer.facts.operand_of(fact);
@@ -135,32 +140,32 @@ fn whole<'a>(writer: &mut Writer<'a>, line: u32, e: &Expr, fact: &'a Fact) -> Re
         Expr::Parens(e) => left_side(writer, line, e.get()),
         Expr::Selector(e, _) => selected(writer, line, operand, e.get()),
         Expr::Index(a, i) => element(writer, line, a.get(), i.get()),
-        Expr::Integer(_) => Ok(Place::Nothing),
-        Expr::Text(_) => Ok(Place::Nothing),
-        Expr::StructLiteral(_, _) => Ok(Place::Nothing),
-        Expr::SyncLiteral(_) => Ok(Place::Nothing),
-        Expr::SliceLiteral(_, _) => Ok(Place::Nothing),
-        Expr::EmptyLiteral => Ok(Place::Nothing),
-        Expr::Make(_) => Ok(Place::Nothing),
-        Expr::MakeSized(_, _) => Ok(Place::Nothing),
-        Expr::New(_) => Ok(Place::Nothing),
-        Expr::NewSync(_) => Ok(Place::Nothing),
-        Expr::Call(_, _) => Ok(Place::Nothing),
-        Expr::Unary(_, _) => Ok(Place::Nothing),
-        Expr::Binary(_, _, _) => Ok(Place::Nothing),
+        Expr::Integer(_) => Ok(LeftSide::Nothing),
+        Expr::Text(_) => Ok(LeftSide::Nothing),
+        Expr::StructLiteral(_, _) => Ok(LeftSide::Nothing),
+        Expr::SyncLiteral(_) => Ok(LeftSide::Nothing),
+        Expr::SliceLiteral(_, _) => Ok(LeftSide::Nothing),
+        Expr::EmptyLiteral => Ok(LeftSide::Nothing),
+        Expr::Make(_) => Ok(LeftSide::Nothing),
+        Expr::MakeSized(_, _) => Ok(LeftSide::Nothing),
+        Expr::New(_) => Ok(LeftSide::Nothing),
+        Expr::NewSync(_) => Ok(LeftSide::Nothing),
+        Expr::Call(_, _) => Ok(LeftSide::Nothing),
+        Expr::Unary(_, _) => Ok(LeftSide::Nothing),
+        Expr::Binary(_, _, _) => Ok(LeftSide::Nothing),
     }
 }
 
 /// Adds what tells the place of a left side whose facts come next, passes over these, and says which kind of place
 /// it is.
 #[cycle(placing)]
-pub fn left_side(writer: &mut Writer, line: u32, e: &Expr) -> Result<Place, Memory>
+pub fn left_side(writer: &mut Writer, line: u32, e: &Expr) -> Result<LeftSide, Memory>
     ensures { TellsAll line result (taking writer.old.draft.tables.now e.now line writer.old.facts) (skip writer.old.facts) writer.old writer.new }
 {
     let mut after = writer.facts.copy();
     after.skip();
     let Some(fact) = writer.facts.take() else {
-        return Ok(Place::Nothing);
+        return Ok(LeftSide::Nothing);
     };
     let found = whole(writer, line, e, fact)?;
     writer.facts = after;

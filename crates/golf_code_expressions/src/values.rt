@@ -1,7 +1,9 @@
 //! Instructions that push values, and those that make slices and channels.
 
 ghost use Rattle.std.specs.Prelude.{◌≡◌, pos, IfOk};
-ghost use Rattle.golf_code_of.specs.Values.{base_zero as base_zero_of, type_zero as type_zero_of, zero_value as zero_value_of, push as push_of, constant as constant_of, new_container as new_container_of, makes as makes_of};
+ghost use Rattle.golf_code_of.specs.Values.{base_zero as base_zero_of, type_zero as type_zero_of};
+ghost use Rattle.golf_code_of.specs.Values.{zero_value as zero_value_of, push as push_of, constant as constant_of};
+ghost use Rattle.golf_code_of.specs.Values.{new_container as new_container_of, makes as makes_of};
 
 use golf_base::Memory;
 use golf_check_types::{Base, GoType, Layer};

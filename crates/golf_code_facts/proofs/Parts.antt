@@ -1,7 +1,8 @@
 -- The code by facts of statements put together, and of `go` and `defer`, is their code.
 -- For: `then`, `or_else` and `begin_lay`, golf_code_facts/specs/Statements.antt.
 -- By: computing; induction over the list of arguments for `go` and `defer`.
-use Rattle.std.proofs.Common.{◌≡◌, ℕ, suc, ◌+◌, List, [], ◌∷◌, ◌++◌, length, map, refl, sym, ap, ◌∙◌, append_assoc, arith}
+use Rattle.std.proofs.Common.{◌≡◌, ℕ, suc, ◌+◌, List, [], ◌∷◌, ◌++◌, length, map, refl, sym, ap, ◌∙◌, append_assoc}
+use Rattle.std.proofs.Common.{arith}
 use Rattle.std.specs.Prelude.{flat_map}
 use Rattle.golf_syntax_trees.specs.declared.expressions.Expr.{Expr}
 use Rattle.golf_data.specs.declared.code.Instr.{Instr}
@@ -19,10 +20,12 @@ use Rattle.golf_code_of.specs.Expressions.{Made}
 use Rattle.golf_code_of.specs.Coding.{piece_at, argument_at, coded}
 use Rattle.golf_code_of.specs.Calls.{Argument, pushes, makings, beginning}
 use Rattle.golf_code_of.proofs.Judgments.{judgments-agree}
-use Rattle.golf_code_of.specs.Statements.{Laid, Part, laid, follow, past, within, wrapped, then, in_block, behind_test, ends_here as ends_here_part, or_else as or_else_part, begin_part}
+use Rattle.golf_code_of.specs.Statements.{Laid, Part, laid, follow, past, within, wrapped, then, in_block, behind_test}
+use Rattle.golf_code_of.specs.Statements.{ends_here as ends_here_part, or_else as or_else_part, begin_part}
 use Rattle.golf_code_facts.specs.Facts.{skip, skip_all}
 use Rattle.golf_code_facts.specs.Expressions.{taking, arguments}
-use Rattle.golf_code_facts.specs.Statements.{LaidBy, LayBy, PieceBy, by, by_piece, then as then_by, after, after_test, ends_here, branches, or_else, begin_lay}
+use Rattle.golf_code_facts.specs.Statements.{LaidBy, LayBy, PieceBy, by, by_piece, then as then_by, after, after_test}
+use Rattle.golf_code_facts.specs.Statements.{ends_here, branches, or_else, begin_lay}
 use Rattle.golf_code_facts.proofs.Steps.{One, takes, facts, args, all_taken, all_skipped, called_inner}
 use Rattle.golf_code_facts.proofs.Expressions.{made-alone, made-among, past-among}
 use Rattle.golf_code_facts.proofs.Simple.{PieceFollows}
@@ -31,7 +34,8 @@ use Rattle.golf_code_facts.proofs.Simple.{PieceFollows}
 pub record Follows (x : Part) (k : LayBy) : Type 0 where
   pub code : (a : Around) (s : Scope) (rest : List Fact) → k a ((x.walk s).facts ++ rest) ≡ by (x.lay a s) rest
 
-pub on_piece : (w : Walk) (p : Scope → Piece) (k : List Fact → PieceBy) → PieceFollows w p k → Follows (record { walk = w; lay = λ a s. laid (p s) }) (by_piece k)
+pub on_piece : (w : Walk) (p : Scope → Piece) (k : List Fact → PieceBy) → PieceFollows w p k
+    → Follows (record { walk = w; lay = λ a s. laid (p s) }) (by_piece k)
 on_piece w p k f = record { code = λ a s rest. ap (λ (z : PieceBy). by (laid z.piece) z.left) (f.code s rest) }
 
 -- if no function is made, as many stand before the next one
@@ -45,11 +49,14 @@ module _ (x y : Part) (k j : LayBy) (fx : Follows x k) (fy : Follows y j) where
       step : Around → LaidBy → LaidBy
       step a f = let g = j (past a f.laid) f.left in by (follow f.laid g.laid) g.left
 
-      at : (a : Around) (s : Scope) (rest : List Fact) → then_by k j a (((x.walk s).facts ++ (y.walk (behind s (x.walk s))).facts) ++ rest) ≡ by ((then x y).lay a s) rest
+      at : (a : Around) (s : Scope) (rest : List Fact)
+          → then_by k j a (((x.walk s).facts ++ (y.walk (behind s (x.walk s))).facts) ++ rest) ≡ by
+          ((then x y).lay a s) rest
       at a s rest =
           ap (λ fs. step a (k a fs)) (append_assoc (x.walk s).facts (y.walk (behind s (x.walk s))).facts rest)
           ∙ ap (step a) (fx.code a s ((y.walk (behind s (x.walk s))).facts ++ rest))
-          ∙ ap (λ (g : LaidBy). by (follow (x.lay a s) g.laid) g.left) (fy.code (past a (x.lay a s)) (behind s (x.walk s)) rest)
+          ∙ ap (λ (g : LaidBy). by (follow (x.lay a s) g.laid) g.left)
+          (fy.code (past a (x.lay a s)) (behind s (x.walk s)) rest)
 
   pub on_or_else : (l : ℕ) → Follows (or_else_part l x y) (or_else l k j)
   on_or_else l = record { code = at }
@@ -57,24 +64,32 @@ module _ (x y : Part) (k j : LayBy) (fx : Follows x k) (fy : Follows y j) where
       step : Around → LaidBy → LaidBy
       step a f = let g = j (within 1 (past a f.laid)) f.left in by (branches l f.laid g.laid) g.left
 
-      at : (a : Around) (s : Scope) (rest : List Fact) → or_else l k j a (((x.walk s).facts ++ (y.walk (behind s (x.walk s))).facts) ++ rest) ≡ by ((or_else_part l x y).lay a s) rest
+      at : (a : Around) (s : Scope) (rest : List Fact)
+          → or_else l k j a (((x.walk s).facts ++ (y.walk (behind s (x.walk s))).facts) ++ rest) ≡ by
+          ((or_else_part l x y).lay a s) rest
       at a s rest =
-          ap (λ fs. step a (k (within 2 a) fs)) (append_assoc (x.walk s).facts (y.walk (behind s (x.walk s))).facts rest)
+          ap (λ fs. step a (k (within 2 a) fs))
+          (append_assoc (x.walk s).facts (y.walk (behind s (x.walk s))).facts rest)
           ∙ ap (step a) (fx.code (within 2 a) s ((y.walk (behind s (x.walk s))).facts ++ rest))
-          ∙ ap (λ (g : LaidBy). by (branches l (x.lay (within 2 a) s) g.laid) g.left) (fy.code (within 1 (past a (x.lay (within 2 a) s))) (behind s (x.walk s)) rest)
+          ∙ ap (λ (g : LaidBy). by (branches l (x.lay (within 2 a) s) g.laid) g.left)
+          (fy.code (within 1 (past a (x.lay (within 2 a) s))) (behind s (x.walk s)) rest)
 
 -- after code for which no function is made
-pub on_after : (x y : Part) (p : Scope → Piece) (k : List Fact → PieceBy) (j : LayBy) → PieceFollows x.walk p k → ((a : Around) (s : Scope) → x.lay a s ≡ laid (p s)) → Follows y j → Follows (then x y) (after k j)
+pub on_after : (x y : Part) (p : Scope → Piece) (k : List Fact → PieceBy) (j : LayBy) → PieceFollows x.walk p k
+    → ((a : Around) (s : Scope) → x.lay a s ≡ laid (p s)) → Follows y j → Follows (then x y) (after k j)
 on_after x y p k j fx is fy = record { code = at }
   where
     step : Around → PieceBy → LaidBy
     step a f = let g = j a f.left in by (wrapped (λ q. Piece.Then f.piece q) g.laid) g.left
 
-    at : (a : Around) (s : Scope) (rest : List Fact) → after k j a (((x.walk s).facts ++ (y.walk (behind s (x.walk s))).facts) ++ rest) ≡ by ((then x y).lay a s) rest
+    at : (a : Around) (s : Scope) (rest : List Fact)
+        → after k j a (((x.walk s).facts ++ (y.walk (behind s (x.walk s))).facts) ++ rest) ≡ by
+        ((then x y).lay a s) rest
     at a s rest =
         ap (λ fs. step a (k fs)) (append_assoc (x.walk s).facts (y.walk (behind s (x.walk s))).facts rest)
         ∙ ap (step a) (fx.code s ((y.walk (behind s (x.walk s))).facts ++ rest))
-        ∙ ap (λ (g : LaidBy). by (wrapped (λ q. Piece.Then (p s) q) g.laid) g.left) (fy.code a (behind s (x.walk s)) rest)
+        ∙ ap (λ (g : LaidBy). by (wrapped (λ q. Piece.Then (p s) q) g.laid) g.left)
+        (fy.code a (behind s (x.walk s)) rest)
         ∙ ap (λ b. by (follow (laid (p s)) (y.lay b (behind s (x.walk s)))) rest) (sym (none_made a))
         ∙ ap (λ f. by (follow f (y.lay (past a f) (behind s (x.walk s)))) rest) (sym (is a s))
 
@@ -83,7 +98,10 @@ module _ (x : Part) (k : LayBy) (fx : Follows x k) where
   on_block = record { code = λ a s rest. fx.code a (begun s) rest }
 
   pub on_end : Follows (ends_here_part x) (ends_here k)
-  on_end = record { code = λ a s rest. ap (λ (g : LaidBy). by (wrapped Piece.Block g.laid) g.left) (fx.code (within 1 a) s rest) }
+  on_end = record {
+    code = λ a s rest. ap (λ (g : LaidBy). by (wrapped Piece.Block g.laid) g.left)
+        (fx.code (within 1 a) s rest);
+  }
 
   pub on_test : (t : Tables) (l : ℕ) (e : Expr) → Follows (behind_test t l e x) (after_test t l e k)
   on_test t l e = record { code = at }
@@ -94,9 +112,12 @@ module _ (x : Part) (k : LayBy) (fx : Follows x k) where
       step : Piece → LaidBy → LaidBy
       step p g = by (tested p g.laid) g.left
 
-      at : (a : Around) (s : Scope) (rest : List Fact) → after_test t l e k a ((facts_of (judge_at l s e) ++ (x.walk s).facts) ++ rest) ≡ by ((behind_test t l e x).lay a s) rest
+      at : (a : Around) (s : Scope) (rest : List Fact)
+          → after_test t l e k a ((facts_of (judge_at l s e) ++ (x.walk s).facts) ++ rest) ≡ by
+          ((behind_test t l e x).lay a s) rest
       at a s rest =
-          ap (λ (c : Made). step c.piece (k a (skip ((facts_of (judge_at l s e) ++ (x.walk s).facts) ++ rest)))) (made-among t l s e (x.walk s).facts rest)
+          ap (λ (c : Made). step c.piece (k a (skip ((facts_of (judge_at l s e) ++ (x.walk s).facts) ++ rest))))
+          (made-among t l s e (x.walk s).facts rest)
           ∙ ap (λ fs. step (piece_at t l s e) (k a fs)) (past-among t l s e (x.walk s).facts rest)
           ∙ ap (λ (g : LaidBy). by (tested (piece_at t l s e) g.laid) g.left) (fx.code a s rest)
 
@@ -125,10 +146,12 @@ module _ (t : Tables) (l : ℕ) (s : Scope) where
 
   args-are : (xs : List Expr) → args l (map one xs) ≡ map (argument_at t l s) xs
   args-are [] = refl
-  args-are (x ∷ xs) = ap (λ j. known x j ∷ args l (map one xs)) (sym (judgments-agree t x)) ∙ ap (λ z. argument_at t l s x ∷ z) (args-are xs)
+  args-are (x ∷ xs) = ap (λ j. known x j ∷ args l (map one xs)) (sym (judgments-agree t x))
+      ∙ ap (λ z. argument_at t l s x ∷ z) (args-are xs)
 
   -- the arguments of a call that is begun
-  pub all-pushed : (xs : List Expr) (rest : List Fact) → arguments l (map (taking t) xs) (flat_map facts_of (map (judge_at l s) xs) ++ rest) ≡ map (argument_at t l s) xs
+  pub all-pushed : (xs : List Expr) (rest : List Fact)
+      → arguments l (map (taking t) xs) (flat_map facts_of (map (judge_at l s) xs) ++ rest) ≡ map (argument_at t l s) xs
   all-pushed xs rest =
       ap (λ fs. arguments l (map (taking t) xs) (fs ++ rest)) (facts-are xs)
       ∙ ap (λ ts. arguments l ts (facts l (map one xs) ++ rest)) (takes-are xs)
@@ -139,18 +162,23 @@ module _ (t : Tables) (l : ℕ) (s : Scope) where
   as-many [] = refl
   as-many (x ∷ xs) = ap (λ n. suc n) (as-many xs)
 
-  pub all-past : (xs : List Expr) (rest : List Fact) → skip_all (length xs) (flat_map facts_of (map (judge_at l s) xs) ++ rest) ≡ rest
+  pub all-past : (xs : List Expr) (rest : List Fact)
+      → skip_all (length xs) (flat_map facts_of (map (judge_at l s) xs) ++ rest) ≡ rest
   all-past xs rest =
       ap (λ fs. skip_all (length xs) (fs ++ rest)) (facts-are xs)
       ∙ ap (λ n. skip_all n (facts l (map one xs) ++ rest)) (as-many xs)
       ∙ all_skipped l (map one xs) rest
 
-pub on_begin : (t : Tables) (l : ℕ) (begin : ℕ → ℕ → Instr) (f : Expr) (xs : List Expr) → Follows (begin_part t l begin f xs) (begin_lay t l begin f xs)
+pub on_begin : (t : Tables) (l : ℕ) (begin : ℕ → ℕ → Instr) (f : Expr) (xs : List Expr)
+    → Follows (begin_part t l begin f xs) (begin_lay t l begin f xs)
 on_begin t l begin f xs = record { code = at }
   where
-    at : (a : Around) (s : Scope) (rest : List Fact) → begin_lay t l begin f xs a (((begin_part t l begin f xs).walk s).facts ++ rest) ≡ by ((begin_part t l begin f xs).lay a s) rest
+    at : (a : Around) (s : Scope) (rest : List Fact)
+        → begin_lay t l begin f xs a (((begin_part t l begin f xs).walk s).facts ++ rest) ≡ by
+        ((begin_part t l begin f xs).lay a s) rest
     at a s rest =
-        ap (λ gs. begin_lay t l begin f xs a ((facts_of (judge_at l s f) ++ gs) ++ rest)) (called_inner l s m (map (judge_at l s) xs))
+        ap (λ gs. begin_lay t l begin f xs a ((facts_of (judge_at l s f) ++ gs) ++ rest))
+        (called_inner l s m (map (judge_at l s) xs))
         ∙ ap (λ (c : Made). begun c.piece (skip ((facts_of (judge_at l s f) ++ X) ++ rest))) (made-among t l s f X rest)
         ∙ ap (begun (piece_at t l s f)) (past-among t l s f X rest)
         ∙ ap (λ ys. last (piece_at t l s f) ys (skip_all (length xs) (X ++ rest))) (all-pushed t l s xs rest)
@@ -163,7 +191,10 @@ on_begin t l begin f xs = record { code = at }
         X = flat_map facts_of (map (judge_at l s) xs)
 
         last : Piece → List Argument → List Fact → LaidBy
-        last p ys fs = by (record { piece = all (p ∷ pushes ys ∷ beginning l begin a.functions m ys ∷ []); made = makings l m ys }) fs
+        last p ys fs = by (record {
+          piece = all (p ∷ pushes ys ∷ beginning l begin a.functions m ys ∷ []);
+          made = makings l m ys;
+        }) fs
 
         begun : Piece → List Fact → LaidBy
         begun p fs = last p (arguments l (map (taking t) xs) fs) (skip_all (length xs) fs)

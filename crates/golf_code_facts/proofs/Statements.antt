@@ -6,8 +6,10 @@ use Rattle.golf_syntax_trees.specs.declared.statements.Stmt.{Stmt, roll-Stmt}
 use Rattle.golf_syntax_trees.specs.declared.statements.Clause.{Clause, roll-Clause}
 use Rattle.golf_syntax_trees.specs.declared.statements.Clause.TheOpen.{Stmt-F}
 use Rattle.golf_syntax_trees.specs.declared.statements.Clause.TheOpen as F
-use Rattle.golf_syntax_trees.specs.declared.statements.Clause.TheFolds.{fold-roll-Stmt, fold-roll-Clause, map-Stmt, map-Clause}
-use Rattle.golf_syntax_induction.proofs.Statements.{KnownClause, KnownStmt, bare_clauses, bare_stmts, ClauseLayer, StmtLayer, bare_clause, bare_stmt, every-stmt}
+use Rattle.golf_syntax_trees.specs.declared.statements.Clause.TheFolds.{fold-roll-Stmt, fold-roll-Clause, map-Stmt}
+use Rattle.golf_syntax_trees.specs.declared.statements.Clause.TheFolds.{map-Clause}
+use Rattle.golf_syntax_trees.proofs.StatementInduction.{KnownClause, KnownStmt, bare_clauses, bare_stmts, ClauseLayer}
+use Rattle.golf_syntax_trees.proofs.StatementInduction.{StmtLayer, bare_clause, bare_stmt, every-stmt}
 use Rattle.golf_data.specs.declared.code.Instr.{Instr}
 use Rattle.golf_check_types.specs.Statements.{Walk}
 use Rattle.golf_code_of.specs.declared.tables.Tables.{Tables}
@@ -21,7 +23,8 @@ use Rattle.golf_code_facts.specs.Selects.{ClauseBy, select_lay}
 use Rattle.golf_code_facts.specs.Laying.{stmt_by, clause_by, stmt_by_step, clause_by_step}
 use Rattle.golf_code_facts.specs.Laws.{StatementsFollow}
 use Rattle.golf_code_facts.proofs.Simple.{on_simple, on_var, on_return, optional_piece, optional-lay, on_optional}
-use Rattle.golf_code_facts.proofs.Parts.{Follows, on_piece, on_then, on_or_else, on_after, on_block, on_end, on_test, on_begin}
+use Rattle.golf_code_facts.proofs.Parts.{Follows, on_piece, on_then, on_or_else, on_after, on_block, on_end, on_test}
+use Rattle.golf_code_facts.proofs.Parts.{on_begin}
 use Rattle.golf_code_facts.proofs.Loops.{on_for}
 use Rattle.golf_code_facts.proofs.Selects.{ClauseFollows, EachClause, parts, lays, on_case, on_default, on_select}
 use Rattle.std.specs.Prelude.{Option}
@@ -36,11 +39,13 @@ module _ (t : Tables) where
   P x = Follows (stmt_part t x) (stmt_by t x)
 
   -- statements one after the other
-  bodies : (xs : List (KnownStmt P)) → Follows (in_order (map (stmt_part t) (bare_stmts P xs))) (in_order_by (map (stmt_by t) (bare_stmts P xs)))
+  bodies : (xs : List (KnownStmt P)) → Follows (in_order (map (stmt_part t) (bare_stmts P xs)))
+      (in_order_by (map (stmt_by t) (bare_stmts P xs)))
   bodies [] = record { code = λ a s rest. refl }
   bodies (x ∷ xs) = record {
     code = λ a s rest.
-        (on_then (stmt_part t x.0) (in_order (map (stmt_part t) (bare_stmts P xs))) (stmt_by t x.0) (in_order_by (map (stmt_by t) (bare_stmts P xs))) x.1 (bodies xs)).code a s rest;
+        (on_then (stmt_part t x.0) (in_order (map (stmt_part t) (bare_stmts P xs))) (stmt_by t x.0)
+        (in_order_by (map (stmt_by t) (bare_stmts P xs))) x.1 (bodies xs)).code a s rest;
   }
 
   abbrev each : KnownClause Q → EachClause
@@ -56,12 +61,15 @@ module _ (t : Tables) where
 
   -- a condition, and the body after it
   on_branch : (l : ℕ) (first : Option Simple) (test : Expr) (body : List (KnownStmt P))
-      → Follows (then_part t l first test (map (stmt_part t) (bare_stmts P body))) (then_lay t l first test (map (stmt_by t) (bare_stmts P body)))
+      → Follows (then_part t l first test (map (stmt_part t) (bare_stmts P body)))
+      (then_lay t l first test (map (stmt_by t) (bare_stmts P body)))
   on_branch l first test body =
       let xs = map (stmt_part t) (bare_stmts P body) in
       let ks = map (stmt_by t) (bare_stmts P body) in
-      on_after (optional t first) (behind_test t l test (block xs)) (optional_piece t first) (optional_by t first) (after_test t l test (in_order_by ks))
-      (on_optional t first) (optional-lay t first) (on_test (block xs) (in_order_by ks) (on_block (in_order xs) (in_order_by ks) (bodies body)) t l test)
+      on_after (optional t first) (behind_test t l test (block xs)) (optional_piece t first) (optional_by t first)
+      (after_test t l test (in_order_by ks))
+      (on_optional t first) (optional-lay t first)
+      (on_test (block xs) (in_order_by ks) (on_block (in_order xs) (in_order_by ks) (bodies body)) t l test)
 
   abbrev lay-of : Stmt-F Clause Stmt → LayBy
   lay-of z = stmt_by_step t (map-Stmt Clause Stmt ClauseBy LayBy (clause_by t) (stmt_by t) z)
@@ -76,11 +84,15 @@ module _ (t : Tables) where
   at (F.Continue l) = record { code = λ a s rest. refl }
   at (F.Block l body) = on_block _ _ (bodies body)
   at (F.If l first test body) = on_block _ _ (on_end _ _ (on_branch l first test body))
-  at (F.IfElse l first test body otherwise) = on_block _ _ (on_or_else _ _ _ _ (on_branch l first test body) otherwise.1 l)
+  at (F.IfElse l first test body otherwise) =
+      on_block _ _ (on_or_else _ _ _ _ (on_branch l first test body) otherwise.1 l)
   at (F.For l h body) = on_for t l _ _ (bodies body) h
-  at (F.Select l cs) = subst (λ ps. Follows (select_part l ps) (select_lay l (map (clause_by t) (bare_clauses Q cs)))) (parts-are cs) (subst (λ ks. Follows (select_part l (parts (map each cs))) (select_lay l ks)) (lays-are cs) (on_select l (map each cs)))
+  at (F.Select l cs) = subst (λ ps. Follows (select_part l ps) (select_lay l (map (clause_by t) (bare_clauses Q cs))))
+      (parts-are cs) (subst (λ ks. Follows (select_part l (parts (map each cs))) (select_lay l ks)) (lays-are cs)
+      (on_select l (map each cs)))
 
-  at-clause : (y : ClauseLayer Q P) → ClauseFollows (clause_layer t (bare_clause Q P y)) (clause_by_step t (map-Clause Clause Stmt ClauseBy LayBy (clause_by t) (stmt_by t) (bare_clause Q P y)))
+  at-clause : (y : ClauseLayer Q P) → ClauseFollows (clause_layer t (bare_clause Q P y))
+      (clause_by_step t (map-Clause Clause Stmt ClauseBy LayBy (clause_by t) (stmt_by t) (bare_clause Q P y)))
   at-clause (F.Case k c body) = on_case _ _ (bodies body) t k c
   at-clause (F.Default k body) = on_default _ _ (bodies body) k
 
@@ -88,13 +100,16 @@ module _ (t : Tables) where
   unfolding stmt_by clause_by
   rolled y =
       subst (λ p. Follows p (stmt_by t (roll-Stmt (bare_stmt Q P y)))) (sym (part-rolls t (bare_stmt Q P y)))
-      (subst (λ k. Follows (part_layer t (bare_stmt Q P y)) k) (sym (fold-roll-Stmt ClauseBy LayBy (clause_by_step t) (stmt_by_step t) (bare_stmt Q P y))) (at y))
+      (subst (λ k. Follows (part_layer t (bare_stmt Q P y)) k)
+      (sym (fold-roll-Stmt ClauseBy LayBy (clause_by_step t) (stmt_by_step t) (bare_stmt Q P y))) (at y))
 
   clause-rolled : (y : ClauseLayer Q P) → Q (roll-Clause (bare_clause Q P y))
   unfolding stmt_by clause_by
   clause-rolled y =
-      subst (λ p. ClauseFollows p (clause_by t (roll-Clause (bare_clause Q P y)))) (sym (clause-rolls t (bare_clause Q P y)))
-      (subst (λ k. ClauseFollows (clause_layer t (bare_clause Q P y)) k) (sym (fold-roll-Clause ClauseBy LayBy (clause_by_step t) (stmt_by_step t) (bare_clause Q P y))) (at-clause y))
+      subst (λ p. ClauseFollows p (clause_by t (roll-Clause (bare_clause Q P y))))
+      (sym (clause-rolls t (bare_clause Q P y)))
+      (subst (λ k. ClauseFollows (clause_layer t (bare_clause Q P y)) k)
+      (sym (fold-roll-Clause ClauseBy LayBy (clause_by_step t) (stmt_by_step t) (bare_clause Q P y))) (at-clause y))
 
   pub statement : (x : Stmt) → P x
   statement = every-stmt Q P clause-rolled rolled
@@ -102,7 +117,12 @@ module _ (t : Tables) where
   -- the statements of a body
   pub body : (xs : List Stmt) → Follows (in_order (map (stmt_part t) xs)) (in_order_by (map (stmt_by t) xs))
   body [] = record { code = λ a s rest. refl }
-  body (x ∷ xs) = record { code = λ a s rest. (on_then (stmt_part t x) (in_order (map (stmt_part t) xs)) (stmt_by t x) (in_order_by (map (stmt_by t) xs)) (statement x) (body xs)).code a s rest }
+  body (x ∷ xs) = record {
+    code = λ a s rest.
+        (on_then (stmt_part t x) (in_order (map (stmt_part t) xs)) (stmt_by t x) (in_order_by (map (stmt_by t) xs))
+        (statement x) (body xs)).code a s rest;
+  }
 
 pub statements-follow : StatementsFollow
-statements-follow t x a s rest = ap (λ (w : Walk). stmt_by t x a ((w s).facts ++ rest)) (sym (walks-agree.statements t x)) ∙ (statement t x).code a s rest
+statements-follow t x a s rest = ap (λ (w : Walk). stmt_by t x a ((w s).facts ++ rest))
+    (sym (walks-agree.statements t x)) ∙ (statement t x).code a s rest

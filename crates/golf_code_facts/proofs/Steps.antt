@@ -1,7 +1,8 @@
 -- Taking the facts of one expression from the list, and of several expressions one after the other.
 -- For: `skip`, golf_code_facts/specs/Facts.antt; `arguments`, golf_code_facts/specs/Expressions.antt.
 -- By: induction over the list of arguments, and over the list of fields.
-use Rattle.std.proofs.Common.{◌≡◌, ℕ, Bool, true, false, cond, List, [], ◌∷◌, ◌++◌, length, map, refl, ap, ◌∙◌, append_assoc}
+use Rattle.std.proofs.Common.{◌≡◌, ℕ, Bool, true, false, cond, List, [], ◌∷◌, ◌++◌, length, map, refl, ap, ◌∙◌}
+use Rattle.std.proofs.Common.{append_assoc}
 use Rattle.std.specs.Prelude.{Option, Some, None, flat_map}
 use Rattle.std.specs.Option.{option_map}
 use Rattle.std.proofs.Math.Seq.{drop-append_seam}
@@ -30,7 +31,8 @@ pub skipped-among : (m : Operand) (fs gs rest : List Fact) → skip ((with_parts
 skipped-among m fs gs rest = ap skip (append_assoc (with_parts m fs) gs rest) ∙ skipped m fs (gs ++ rest)
 
 -- Two parts, one after the other.
-pub two_parts : (k : Piece → Piece → Made) (x y : List Fact → Made) (m : Operand) (fs q r : List Fact) (a b : Made) → x (with_parts m fs ++ (q ++ r)) ≡ a → y (q ++ r) ≡ b
+pub two_parts : (k : Piece → Piece → Made) (x y : List Fact → Made) (m : Operand) (fs q r : List Fact) (a b : Made)
+    → x (with_parts m fs ++ (q ++ r)) ≡ a → y (q ++ r) ≡ b
     → k (x ((with_parts m fs ++ q) ++ r)).piece (y (skip ((with_parts m fs ++ q) ++ r))).piece ≡ k a.piece b.piece
 two_parts k x y m fs q r a b h i =
     ap (λ z. k (x z).piece (y (skip z)).piece) (append_assoc (with_parts m fs) q r)
@@ -67,14 +69,18 @@ module _ (l : ℕ) where
   pub all_taken : (xs : List (One l)) (rest : List Fact) → arguments l (takes xs) (facts xs ++ rest) ≡ args xs
   all_taken [] rest = refl
   all_taken (x ∷ xs) rest =
-      ap (λ fs. argument_of x.meaning (x.take l fs) ∷ arguments l (takes xs) (skip fs)) (append_assoc (with_parts x.meaning x.inner) (facts xs) rest)
-      ∙ ap (λ c. argument_of x.meaning c ∷ arguments l (takes xs) (skip (with_parts x.meaning x.inner ++ (facts xs ++ rest)))) (x.reads.code (facts xs ++ rest))
-      ∙ ap (λ fs. argument_of x.meaning x.code ∷ arguments l (takes xs) fs) (skipped x.meaning x.inner (facts xs ++ rest))
+      ap (λ fs. argument_of x.meaning (x.take l fs) ∷ arguments l (takes xs) (skip fs))
+      (append_assoc (with_parts x.meaning x.inner) (facts xs) rest)
+      ∙ ap (λ c. argument_of x.meaning c ∷ arguments l (takes xs)
+      (skip (with_parts x.meaning x.inner ++ (facts xs ++ rest)))) (x.reads.code (facts xs ++ rest))
+      ∙ ap (λ fs. argument_of x.meaning x.code ∷ arguments l (takes xs) fs)
+      (skipped x.meaning x.inner (facts xs ++ rest))
       ∙ ap (λ ys. argument_of x.meaning x.code ∷ ys) (all_taken xs rest)
 
   pub all_skipped : (xs : List (One l)) (rest : List Fact) → skip_all (length xs) (facts xs ++ rest) ≡ rest
   all_skipped [] rest = refl
-  all_skipped (x ∷ xs) rest = ap (λ fs. skip_all (length xs) fs) (skipped-among x.meaning x.inner (facts xs) rest) ∙ all_skipped xs rest
+  all_skipped (x ∷ xs) rest = ap (λ fs. skip_all (length xs) fs) (skipped-among x.meaning x.inner (facts xs) rest)
+      ∙ all_skipped xs rest
 
   -- the places of fields stand before what is put into them
   abbrev pub fields : FileScope → Option Base → List (List ℕ × One l) → List Fact
@@ -82,11 +88,14 @@ module _ (l : ℕ) where
   fields s b (x ∷ xs) = fact.Field (field_place s b x.0) ∷ (with_parts x.1.meaning x.1.inner ++ fields s b xs)
 
   pub all_put : (s : FileScope) (b : Option Base) (xs : List (List ℕ × One l)) (rest : List Fact)
-      → puts l (map (λ x. x.1.take) xs) (fields s b xs ++ rest) ≡ puts_of l s b (map (λ x. x.0) xs) (map (λ x. x.1.code.piece) xs)
+      → puts l (map (λ x. x.1.take) xs) (fields s b xs ++ rest) ≡ puts_of l s b (map (λ x. x.0) xs)
+      (map (λ x. x.1.code.piece) xs)
   all_put s b [] rest = refl
   all_put s b (x ∷ xs) rest =
-      ap (λ fs. Piece.Then (into (x.1.take l fs)) (others (skip fs))) (append_assoc (with_parts x.1.meaning x.1.inner) (fields s b xs) rest)
-      ∙ ap (λ c. Piece.Then (into c) (others (skip (with_parts x.1.meaning x.1.inner ++ (fields s b xs ++ rest))))) (x.1.reads.code (fields s b xs ++ rest))
+      ap (λ fs. Piece.Then (into (x.1.take l fs)) (others (skip fs)))
+      (append_assoc (with_parts x.1.meaning x.1.inner) (fields s b xs) rest)
+      ∙ ap (λ c. Piece.Then (into c) (others (skip (with_parts x.1.meaning x.1.inner ++ (fields s b xs ++ rest)))))
+      (x.1.reads.code (fields s b xs ++ rest))
       ∙ ap (λ fs. Piece.Then (into x.1.code) (others fs)) (skipped x.1.meaning x.1.inner (fields s b xs ++ rest))
       ∙ ap (λ p. Piece.Then (into x.1.code) p) (all_put s b xs rest)
     where
@@ -98,7 +107,8 @@ module _ (l : ℕ) where
 
 -- The facts of the arguments of a call stand in their order, whatever is called.
 
-finaliser_inner : (l : ℕ) (s : Scope) (m : Operand) (js : List Judged) → (finaliser_call l s m js).inner ≡ flat_map facts_of js
+finaliser_inner : (l : ℕ) (s : Scope) (m : Operand) (js : List Judged)
+    → (finaliser_call l s m js).inner ≡ flat_map facts_of js
 finaliser_inner l s m [] = refl
 finaliser_inner l s m (x ∷ []) = refl
 finaliser_inner l s m (x ∷ (y ∷ ys)) = refl
@@ -107,8 +117,10 @@ either_inner : (b : Bool) (x y : Judged) (fs : List Fact) → x.inner ≡ fs →
 either_inner true x y fs h i = h
 either_inner false x y fs h i = i
 
-pub called_inner : (l : ℕ) (s : Scope) (m : Operand) (js : List Judged) → (called_with l s m js).inner ≡ flat_map facts_of js
-called_inner l s m js = either_inner (sets_finaliser m) (finaliser_call l s m js) (plain_judged l s m js) (flat_map facts_of js) (finaliser_inner l s m js) refl
+pub called_inner : (l : ℕ) (s : Scope) (m : Operand) (js : List Judged)
+    → (called_with l s m js).inner ≡ flat_map facts_of js
+called_inner l s m js = either_inner (sets_finaliser m) (finaliser_call l s m js) (plain_judged l s m js)
+    (flat_map facts_of js) (finaliser_inner l s m js) refl
 
 -- a type of no layers has its base
 pub base_is : (b : Option Base) → base_of (option_map plain b) ≡ b

@@ -1,16 +1,21 @@
 -- The code of an expression by its facts, which stand before others: one equation a construct.
 use Rattle.std.specs.Prelude.{ℕ, List, [], ◌∷◌, map}
 use Rattle.golf_syntax_trees.specs.declared.expressions.Expr.{Expr}
-use Rattle.golf_syntax_trees.specs.declared.expressions.Expr.TheOpen.{Expr-F, Element-F, Integer, Text, Name, Parens, StructLiteral, SyncLiteral, SliceLiteral, EmptyLiteral, Make, MakeSized, New, NewSync, Selector, Index, Call, Unary, Binary}
+use Rattle.golf_syntax_trees.specs.declared.expressions.Expr.TheOpen.{Expr-F, Element-F, Integer, Text, Name, Parens}
+use Rattle.golf_syntax_trees.specs.declared.expressions.Expr.TheOpen.{StructLiteral, SyncLiteral, SliceLiteral}
+use Rattle.golf_syntax_trees.specs.declared.expressions.Expr.TheOpen.{EmptyLiteral, Make, MakeSized, New, NewSync}
+use Rattle.golf_syntax_trees.specs.declared.expressions.Expr.TheOpen.{Selector, Index, Call, Unary, Binary}
 use Rattle.golf_syntax_trees.specs.declared.expressions.Expr.TheFolds.{fold-Expr}
 use Rattle.golf_data.specs.declared.code.Instr.{Instr}
 use Rattle.golf_check_types.specs.declared.facts.Fact.{Fact}
 use Rattle.golf_code_layout.specs.Piece.{Piece, all, op}
 use Rattle.golf_code_of.specs.Table.{text_number}
 use Rattle.golf_code_of.specs.declared.tables.Tables.{Tables}
-use Rattle.golf_code_of.specs.Expressions.{Made, only, name, put, new_struct, new_sync, slice_literal, made, made_sized, selector, index, unary_operator, binary_operator}
+use Rattle.golf_code_of.specs.Expressions.{Made, only, name, put, new_struct, new_sync, slice_literal, made, made_sized}
+use Rattle.golf_code_of.specs.Expressions.{selector, index, unary_operator, binary_operator}
 use Rattle.golf_code_of.specs.Calls.{Argument, call}
-use Rattle.golf_code_facts.specs.Facts.{operand_in, number_in, field_in, type_in, base_in, next, next_is, past_one, skip}
+use Rattle.golf_code_facts.specs.Facts.{operand_in, number_in, field_in, type_in, base_in, next, next_is, past_one}
+use Rattle.golf_code_facts.specs.Facts.{skip}
 
 -- the code of an expression on a line by the first facts
 abbrev pub Take : Type 0

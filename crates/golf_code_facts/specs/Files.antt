@@ -1,4 +1,5 @@
--- The code of a file by its facts. No scope of a function stands in it; the types of globals, fields and functions are the file's.
+-- The code of a file by its facts. No scope of a function stands in it; the types of globals, fields and functions are
+-- the file's.
 use Rattle.std.specs.Prelude.{ℕ, ◌+◌, Bool, List, [], ◌∷◌, ◌++◌, length, map, Option, None}
 use Rattle.golf_syntax_trees.specs.declared.statements.VarContent.{VarContent}
 use Rattle.golf_syntax_trees.specs.declared.statements.VarContent.TheVariants as content
@@ -23,7 +24,8 @@ use Rattle.golf_code_of.specs.Table.{Texts}
 use Rattle.golf_code_of.specs.declared.making.Making.{Making}
 use Rattle.golf_code_of.specs.Texts.{texts_of}
 use Rattle.golf_code_of.specs.Values.{zero_value, const_value}
-use Rattle.golf_code_of.specs.Files.{Functions, no_functions, function, last_return, made_function, main_number, main_line, giving}
+use Rattle.golf_code_of.specs.Files.{Functions, no_functions, function, last_return, made_function, main_number}
+use Rattle.golf_code_of.specs.Files.{main_line, giving}
 use Rattle.golf_code_facts.specs.Facts.{number_in, arguments_in, slots_in, next, past_one, skip}
 use Rattle.golf_code_facts.specs.Expressions.{pushed_at}
 use Rattle.golf_code_facts.specs.Statements.{LaidBy, PieceBy, piece_by, in_order}
@@ -66,7 +68,8 @@ tables_by xs fs = record { texts = texts_of xs; constants = constants_by (texts_
 
 -- the body of a function, if so many functions stand before the next one that is made
 abbrev pub body_by : Tables → ℕ → Func → List Fact → LaidBy
-body_by t functions f fs = in_order (map (stmt_by t) f.body) (record { breaks = 0; continues = 0; functions = functions }) (past_one fs)
+body_by t functions f fs = in_order (map (stmt_by t) f.body)
+    (record { breaks = 0; continues = 0; functions = functions }) (past_one fs)
 
 -- the type of the result of the next function
 abbrev pub next_result : List Signature → Option GoType
@@ -78,14 +81,17 @@ past_signature [] = []
 past_signature (s ∷ ss) = ss
 
 abbrev pub function_by : List Bool → Func → Option GoType → Fact → Piece → Function
-function_by gives f result head body = function gives (arguments_in head) (slots_in head) f.line (all (body ∷ last_return f.line result ∷ []))
+function_by gives f result head body = function gives (arguments_in head) (slots_in head) f.line
+    (all (body ∷ last_return f.line result ∷ []))
 
 -- Function 0.
 
 abbrev pub initial_by : Tables → ℕ → ℕ → VarContent → List Fact → PieceBy
 initial_by t g l (content.Zero w) fs = piece_by Piece.Empty fs
-initial_by t g l (content.Typed w e) fs = piece_by (all (pushed_at t l fs e ∷ op l (Instr.StoreGlobal g) ∷ [])) (skip fs)
-initial_by t g l (content.Untyped e) fs = piece_by (all (pushed_at t l fs e ∷ op l (Instr.StoreGlobal g) ∷ [])) (skip fs)
+initial_by t g l (content.Typed w e) fs =
+    piece_by (all (pushed_at t l fs e ∷ op l (Instr.StoreGlobal g) ∷ [])) (skip fs)
+initial_by t g l (content.Untyped e) fs =
+    piece_by (all (pushed_at t l fs e ∷ op l (Instr.StoreGlobal g) ∷ [])) (skip fs)
 
 -- what ends it: `main` is called
 abbrev pub entry_by : ℕ → ℕ → Piece → Piece
@@ -102,26 +108,39 @@ abbrev pub initial_before : Piece → DeclsBy → DeclsBy
 initial_before p xs = record xs { initials = Piece.Then p xs.initials }
 
 abbrev pub function_before : Function → List Making → DeclsBy → DeclsBy
-function_before f made xs = record xs { functions = record { own = f ∷ xs.functions.own; made = made ++ xs.functions.made } }
+function_before f made xs = record xs {
+  functions =
+      record { own = f ∷ xs.functions.own; made = made ++ xs.functions.made };
+}
 
--- if the next functions have these signatures, so many globals stand above, and so many functions before the next one that is made
+-- if the next functions have these signatures, so many globals stand above, and so many functions before the next one
+-- that is made
 abbrev pub decls_by : Tables → List Bool → List Signature → ℕ → ℕ → List Decl → List Fact → DeclsBy
 decls_by t gives ss g n [] fs = record { initials = Piece.Empty; functions = no_functions }
 decls_by t gives ss g n (d.Const l m c ∷ xs) fs = decls_by t gives ss g n xs (past_const c fs)
-decls_by t gives ss g n (d.Var v ∷ xs) fs = let x = initial_by t g v.line v.content fs in initial_before x.piece (decls_by t gives ss (g + 1) n xs x.left)
+decls_by t gives ss g n (d.Var v ∷ xs) fs = let x =
+    initial_by t g v.line v.content fs in initial_before x.piece (decls_by t gives ss (g + 1) n xs x.left)
 decls_by t gives ss g n (d.Struct l m fields ∷ xs) fs = decls_by t gives ss g n xs fs
 decls_by t gives ss g n (d.Func f ∷ xs) fs =
     let x = body_by t n f fs in
-    function_before (function_by gives f (next_result ss) (next fs) x.laid.piece) x.laid.made (decls_by t gives (past_signature ss) g (n + length x.laid.made) xs x.left)
+    function_before (function_by gives f (next_result ss) (next fs) x.laid.piece) x.laid.made
+    (decls_by t gives (past_signature ss) g (n + length x.laid.made) xs x.left)
 
 -- The whole code.
 
 -- function 0, functions and methods, and those that are made, if `main` has this number and this line
 abbrev pub all_functions : List Bool → ℕ → ℕ → DeclsBy → List Function
-all_functions gives main line xs = function gives 0 0 line (entry_by main line xs.initials) ∷ (xs.functions.own ++ map (made_function gives) xs.functions.made)
+all_functions gives main line xs = function gives 0 0 line (entry_by main line xs.initials)
+    ∷ (xs.functions.own ++ map (made_function gives) xs.functions.made)
 
 abbrev pub code_of : Tables → FileScope → ℕ → DeclsBy → Code
-code_of t f line xs = record { functions = all_functions (giving f) (main_number f) line xs; globals = map zero_value f.globals; structs = map (map zero_value) f.fields; texts = t.texts; main_line = line }
+code_of t f line xs = record {
+  functions = all_functions (giving f) (main_number f) line xs;
+  globals = map zero_value f.globals;
+  structs = map (map zero_value) f.fields;
+  texts = t.texts;
+  main_line = line;
+}
 
 -- all declarations of a file
 abbrev pub file_by : Tables → FileScope → List Decl → List Fact → DeclsBy
@@ -132,4 +151,5 @@ code_by t f xs facts = code_of t f (main_line xs) (file_by t f xs facts)
 
 -- the code of a file by what was written down of it
 unfoldable pub CodeBy : File → List Fact → Code
-CodeBy file facts = code_by (tables_by file.declarations facts) (file_scope (with_imports no_imports file.imports) file.declarations) file.declarations facts
+CodeBy file facts = code_by (tables_by file.declarations facts)
+    (file_scope (with_imports no_imports file.imports) file.declarations) file.declarations facts

@@ -1,4 +1,5 @@
--- The laws of code by facts, as statements: it is the code of `golf_code_of`, for all trees, also for those that break rules.
+-- The laws of code by facts, as statements: it is the code of `golf_code_of`, for all trees, also for those that break
+-- rules.
 use Rattle.std.specs.Prelude.{◌≡◌, ℕ, List, ◌++◌}
 use Rattle.golf_syntax_trees.specs.declared.expressions.Expr.{Expr}
 use Rattle.golf_syntax_trees.specs.declared.statements.Stmt.{Stmt}
@@ -22,10 +23,12 @@ use Rattle.golf_code_facts.specs.Files.{CodeBy}
 
 abbrev pub ExpressionsFollow : Type 0
 ExpressionsFollow = (t : Tables) (l : ℕ) (s : Scope) (e : Expr) (rest : List Fact) →
-    (taken_at t l (facts_of (judge_at l s e) ++ rest) e ≡ code_at t l s e) × (skip (facts_of (judge_at l s e) ++ rest) ≡ rest)
+    (taken_at t l (facts_of (judge_at l s e) ++ rest) e ≡ code_at t l s e)
+    × (skip (facts_of (judge_at l s e) ++ rest) ≡ rest)
 
 abbrev pub StatementsFollow : Type 0
-StatementsFollow = (t : Tables) (x : Stmt) (a : Around) (s : Scope) (rest : List Fact) → stmt_by t x a ((walk x s).facts ++ rest) ≡ by ((stmt_part t x).lay a s) rest
+StatementsFollow = (t : Tables) (x : Stmt) (a : Around) (s : Scope) (rest : List Fact)
+    → stmt_by t x a ((walk x s).facts ++ rest) ≡ by ((stmt_part t x).lay a s) rest
 
 abbrev pub FilesFollow : Type 0
 FilesFollow = (file : File) → CodeBy file (facts_in file) ≡ CodeOf file

@@ -6,7 +6,8 @@ use Rattle.golf_syntax_trees.specs.declared.statements.Clause.TheOpen.{Stmt-F, C
 use Rattle.golf_syntax_trees.specs.declared.statements.Clause.TheFolds.{fold-Stmt, fold-Clause}
 use Rattle.golf_data.specs.declared.code.Instr.{Instr}
 use Rattle.golf_code_of.specs.declared.tables.Tables.{Tables}
-use Rattle.golf_code_facts.specs.Statements.{LayBy, by_piece, in_order, simple_by, var_by, begin_lay, return_by, break_lay, continue_lay, if_lay, else_lay}
+use Rattle.golf_code_facts.specs.Statements.{LayBy, by_piece, in_order, simple_by, var_by, begin_lay, return_by}
+use Rattle.golf_code_facts.specs.Statements.{break_lay, continue_lay, if_lay, else_lay}
 use Rattle.golf_code_facts.specs.Loops.{for_lay}
 use Rattle.golf_code_facts.specs.Selects.{ClauseBy, case_clause, default_clause, select_lay}
 

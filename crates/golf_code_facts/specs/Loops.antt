@@ -18,7 +18,8 @@ use Rattle.golf_code_of.specs.Statements.{wrapped}
 use Rattle.golf_code_of.specs.Loops.{round, over_slice, over_channel}
 use Rattle.golf_code_facts.specs.Facts.{hidden_in, next, next_is, past_one, skip}
 use Rattle.golf_code_facts.specs.Expressions.{pushed_at}
-use Rattle.golf_code_facts.specs.Statements.{LayBy, PieceBy, by, piece_by, stores, past_two, after, in_order, optional_by}
+use Rattle.golf_code_facts.specs.Statements.{LayBy, PieceBy, by, piece_by, stores, past_two, after, in_order}
+use Rattle.golf_code_facts.specs.Statements.{optional_by}
 
 -- inside of a loop, which `break` and `continue` leave by these targets
 abbrev pub in_loop : ℕ → ℕ → LayBy → LayBy
@@ -62,7 +63,8 @@ abbrev pub index_name : Tables → ℕ → ℕ → List ℕ → List Fact → Pi
 index_name t l h n fs = cond (is_blank n) Piece.Empty (all (op l (Instr.Load (h + 2)) ∷ stores l t (next_is fs) ∷ []))
 
 abbrev pub element_name : Tables → ℕ → ℕ → List ℕ → List Fact → Piece
-element_name t l h n fs = cond (is_blank n) Piece.Empty (all (op l (Instr.Load h) ∷ op l (Instr.Load (h + 2)) ∷ op l Instr.Index ∷ stores l t (next_is fs) ∷ []))
+element_name t l h n fs = cond (is_blank n) Piece.Empty
+    (all (op l (Instr.Load h) ∷ op l (Instr.Load (h + 2)) ∷ op l Instr.Index ∷ stores l t (next_is fs) ∷ []))
 
 abbrev pub slice_names : Tables → ℕ → ℕ → RangeNames → List Fact → Piece
 slice_names t l h range.Neither fs = Piece.Empty
@@ -76,13 +78,15 @@ channel_name t l (range.One n) fs = stores l t (next_is fs)
 channel_name t l (range.Two n m) fs = op l Instr.Drop
 
 abbrev pub range_piece : Tables → ℕ → RangeNames → Given → ℕ → List Fact → Piece → Piece → Piece
-range_piece t l names v h fs e body = cond (is_outer is_slice v) (over_slice l h e (slice_names t l h names fs) body) (over_channel l h e (channel_name t l names fs) body)
+range_piece t l names v h fs e body = cond (is_outer is_slice v) (over_slice l h e (slice_names t l h names fs) body)
+    (over_channel l h e (channel_name t l names fs) body)
 
 abbrev pub ranging : Tables → ℕ → RangeNames → Expr → List LayBy → LayBy
 ranging t l names e body a fs =
     let ns = past_one (skip fs) in
     let g = in_loop 2 0 (in_order body) a (past_names names ns) in
-    by (wrapped (range_piece t l names (given (next_is fs)) (hidden_in (next (skip fs))) ns (pushed_at t l fs e)) g.laid) g.left
+    by (wrapped (range_piece t l names (given (next_is fs)) (hidden_in (next (skip fs))) ns (pushed_at t l fs e))
+    g.laid) g.left
 
 abbrev pub for_lay : Tables → ℕ → Header → List LayBy → LayBy
 for_lay t l header.Forever body = forever l (in_loop 1 0 (in_order body))

@@ -1,4 +1,5 @@
--- The code of `select` by its facts. The facts of each clause begin with their number, so that the operands of all clauses are found before any body.
+-- The code of `select` by its facts. The facts of each clause begin with their number, so that the operands of all
+-- clauses are found before any body.
 use Rattle.std.specs.Prelude.{ℕ, ◌+◌, List, [], ◌∷◌, ◌++◌, length, Option, Some, None}
 use Rattle.golf_syntax_trees.specs.declared.statements.Communication.{Communication}
 use Rattle.golf_syntax_trees.specs.declared.statements.Communication.TheVariants as comm
@@ -12,9 +13,11 @@ use Rattle.golf_code_of.specs.Statements.{laid, wrapped, past}
 use Rattle.golf_code_of.specs.Selects.{kind_of, case_to, default_or, in_clause}
 use Rattle.golf_code_facts.specs.Facts.{past_one, skip}
 use Rattle.golf_code_facts.specs.Expressions.{pushed_at}
-use Rattle.golf_code_facts.specs.Statements.{LayBy, PieceBy, by, piece_by, stores_next, stores_two, past_two, after, in_order}
+use Rattle.golf_code_facts.specs.Statements.{LayBy, PieceBy, by, piece_by, stores_next, stores_two, past_two, after}
+use Rattle.golf_code_facts.specs.Statements.{in_order}
 
--- A clause: what it communicates, none for `default`, what pushes its operands, on the line of `select`, the code after the choice, and its own line.
+-- A clause: what it communicates, none for `default`, what pushes its operands, on the line of `select`, the code after
+-- the choice, and its own line.
 pub record ClauseBy : Type 0 where
   pub kind : Option CaseKind
   pub operands : ℕ → List Fact → Piece
@@ -44,10 +47,20 @@ abbrev pub case_lay : Tables → ℕ → Communication → List LayBy → LayBy
 case_lay t k c body a fs = after (takes_in t k c) (in_order body) a (past_one fs)
 
 abbrev pub case_clause : Tables → ℕ → Communication → List LayBy → ClauseBy
-case_clause t k c body = record { kind = Some (kind_of c); operands = λ l fs. operands_by t c l (past_one fs); lay = case_lay t k c body; line = k }
+case_clause t k c body = record {
+  kind = Some (kind_of c);
+  operands = λ l fs. operands_by t c l (past_one fs);
+  lay = case_lay t k c body;
+  line = k;
+}
 
 abbrev pub default_clause : ℕ → List LayBy → ClauseBy
-default_clause k body = record { kind = None; operands = λ l fs. Piece.Empty; lay = λ a fs. in_order body a (past_one fs); line = k }
+default_clause k body = record {
+  kind = None;
+  operands = λ l fs. Piece.Empty;
+  lay = λ a fs. in_order body a (past_one fs);
+  line = k;
+}
 
 abbrev pub cases_from : ℕ → List ClauseBy → List SelectCase
 cases_from i [] = []
@@ -70,7 +83,8 @@ abbrev pub clauses_lay : Piece → List ClauseBy → LayBy
 clauses_lay p [] a fs = by (laid p) fs
 clauses_lay p (c ∷ cs) a fs =
     let x = c.lay (in_clause (length cs) a) fs in
-    let rest = clauses_lay (all (Piece.Block p ∷ x.laid.piece ∷ Piece.Exit c.line (length cs) ∷ [])) cs (past a x.laid) x.left in
+    let rest = clauses_lay (all (Piece.Block p ∷ x.laid.piece ∷ Piece.Exit c.line (length cs) ∷ [])) cs
+    (past a x.laid) x.left in
     by (record { piece = rest.laid.piece; made = x.laid.made ++ rest.laid.made }) rest.left
 
 abbrev pub select_lay : ℕ → List ClauseBy → LayBy

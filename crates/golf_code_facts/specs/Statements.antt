@@ -16,7 +16,8 @@ use Rattle.golf_code_of.specs.declared.tables.Tables.{Tables}
 use Rattle.golf_code_of.specs.Values.{push, zero_value}
 use Rattle.golf_code_of.specs.Expressions.{name}
 use Rattle.golf_code_of.specs.Calls.{pushes, makings, beginning}
-use Rattle.golf_code_of.specs.Statements.{Laid, no_code, laid, wrapped, follow, past, within, drops, update_instr, updates, assigns}
+use Rattle.golf_code_of.specs.Statements.{Laid, no_code, laid, wrapped, follow, past, within, drops, update_instr}
+use Rattle.golf_code_of.specs.Statements.{updates, assigns}
 use Rattle.golf_code_facts.specs.Facts.{next_is, past_one, skip, skip_all}
 use Rattle.golf_code_facts.specs.Expressions.{taking, taken_at, pushed_at, arguments}
 
@@ -80,14 +81,20 @@ defines_by t l e fs = let y = stores_next l t (skip fs) in piece_by (all (pushed
 
 abbrev pub simple_by : Tables → ℕ → SimpleKind → List Fact → PieceBy
 simple_by t l (simple.Expression e) fs = piece_by (all (pushed_at t l fs e ∷ drops l (next_is fs) ∷ [])) (skip fs)
-simple_by t l (simple.Send c e) fs = piece_by (all (pushed_at t l fs c ∷ pushed_at t l (skip fs) e ∷ op l Instr.Send ∷ [])) (skip (skip fs))
+simple_by t l (simple.Send c e) fs = piece_by
+    (all (pushed_at t l fs c ∷ pushed_at t l (skip fs) e ∷ op l Instr.Send ∷ [])) (skip (skip fs))
 simple_by t l (simple.Increment p) fs = steps_by t l p Instr.Add fs
 simple_by t l (simple.Decrement p) fs = steps_by t l p Instr.Sub fs
-simple_by t l (simple.Assign p e) fs = piece_by (assigns (taken_at t l fs p) (pushed_at t l (skip fs) e)) (skip (skip fs))
-simple_by t l (simple.Update p o e) fs = piece_by (updates l (taken_at t l fs p) (pushed_at t l (skip fs) e) (update_instr o)) (skip (skip fs))
+simple_by t l (simple.Assign p e) fs = piece_by (assigns (taken_at t l fs p) (pushed_at t l (skip fs) e))
+    (skip (skip fs))
+simple_by t l (simple.Update p o e) fs =
+    piece_by (updates l (taken_at t l fs p) (pushed_at t l (skip fs) e) (update_instr o)) (skip (skip fs))
 simple_by t l (simple.Define n e) fs = defines_by t l e fs
-simple_by t l (simple.DefineReceived n m e) fs = piece_by (all (pushed_at t l fs e ∷ op l Instr.ReceiveOk ∷ stores_two l t (skip fs) ∷ [])) (past_two (skip fs))
-simple_by t l (simple.AssignReceived n m e) fs = piece_by (all (pushed_at t l fs e ∷ op l Instr.ReceiveOk ∷ stores l t (next_is (past_one (skip fs))) ∷ stores l t (next_is (skip fs)) ∷ [])) (past_two (skip fs))
+simple_by t l (simple.DefineReceived n m e) fs =
+    piece_by (all (pushed_at t l fs e ∷ op l Instr.ReceiveOk ∷ stores_two l t (skip fs) ∷ [])) (past_two (skip fs))
+simple_by t l (simple.AssignReceived n m e) fs =
+    piece_by (all (pushed_at t l fs e ∷ op l Instr.ReceiveOk ∷ stores l t (next_is (past_one (skip fs)))
+    ∷ stores l t (next_is (skip fs)) ∷ [])) (past_two (skip fs))
 
 abbrev pub optional_by : Tables → Option Simple → List Fact → PieceBy
 optional_by t None fs = piece_by Piece.Empty fs
@@ -96,7 +103,8 @@ optional_by t (Some x) fs = simple_by t x.line x.kind fs
 -- Variables: without a value, the zero value of the type.
 
 abbrev pub var_by : Tables → ℕ → VarContent → List Fact → PieceBy
-var_by t l (content.Zero w) fs = piece_by (all (op l (push (zero_value (type_of (next_is fs)))) ∷ stores l t (next_is fs) ∷ [])) (past_one fs)
+var_by t l (content.Zero w) fs = piece_by
+    (all (op l (push (zero_value (type_of (next_is fs)))) ∷ stores l t (next_is fs) ∷ [])) (past_one fs)
 var_by t l (content.Typed w e) fs = defines_by t l e fs
 var_by t l (content.Untyped e) fs = defines_by t l e fs
 
@@ -138,7 +146,10 @@ ends_here x a fs = let g = x (within 1 a) fs in by (wrapped Piece.Block g.laid) 
 
 -- one branch or the other
 abbrev pub branches : ℕ → Laid → Laid → Laid
-branches l x y = record { piece = Piece.Block (all (Piece.Block (all (x.piece ∷ Piece.Exit l 1 ∷ [])) ∷ y.piece ∷ [])); made = x.made ++ y.made }
+branches l x y = record {
+  piece = Piece.Block (all (Piece.Block (all (x.piece ∷ Piece.Exit l 1 ∷ [])) ∷ y.piece ∷ []));
+  made = x.made ++ y.made;
+}
 
 abbrev pub or_else : ℕ → LayBy → LayBy → LayBy
 or_else l x y a fs =

@@ -15,7 +15,8 @@ use Rattle.golf_code_files.specs.declared.walk.Walk.{Walk}
 
 -- a declaration was passed over, and its value added, if it is a constant: the constants in the end stay the same
 abbrev pub PassesOver : Texts → Decl → List Fact → List Value → List Fact → List Value → Type 0
-PassesOver texts x fs vs gs ws = (xs : List Decl) → vs ++ constants_by texts (x ∷ xs) fs ≡ ws ++ constants_by texts xs gs
+PassesOver texts x fs vs gs ws = (xs : List Decl) → vs ++ constants_by texts (x ∷ xs) fs ≡ ws
+    ++ constants_by texts xs gs
 
 -- the parts of the initialisers in the end, the functions and methods that follow, and what is made in the end
 pub record Ended : Type 0 where
@@ -30,7 +31,8 @@ ended_by ms made xs = record { emitted = onto ms xs.initials; own = xs.functions
 abbrev pub ended : Walk → List Decl → Ended
 ended w xs =
     let d = w.writer.draft in
-    ended_by w.initials d.made (decls_by d.tables.now w.gives.now w.signatures.now w.globals d.functions xs w.writer.facts)
+    ended_by w.initials d.made (decls_by d.tables.now w.gives.now w.signatures.now w.globals d.functions xs
+    w.writer.facts)
 
 -- with these functions before
 abbrev pub with_own : List Function → Ended → Ended

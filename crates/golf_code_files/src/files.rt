@@ -1,7 +1,7 @@
 //! The code of a file.
 
 ghost use Rattle.std.specs.Prelude.{◌≡◌, IfOk};
-ghost use Rattle.golf_code_of.specs.Files.{giving as giving_in, main_number as main_number_in};
+ghost use Rattle.golf_code_of.specs.Files.{giving as giving_of, main_number as main_number_of};
 ghost use Rattle.golf_code_facts.specs.Files.{tables_by, all_functions, file_by, code_by};
 
 use crate::constants::tables;
@@ -28,7 +28,7 @@ fn functions(
     decls: &[Decl],
     facts: Facts,
 ) -> Result<List<Function>, Memory>
-    ensures { IfOk result (λ fs. fs ≡ all_functions (giving_in file.now) (main_number_in file.now) line (file_by tables.now file.now decls.now facts.entry)) }
+    ensures { IfOk result (λ fs. fs ≡ all_functions (giving_of file.now) (main_number_of file.now) line (file_by tables.now file.now decls.now facts.entry)) }
 {
     let gives = giving(alloc, file)?;
     let gives = gives.as_slice();

@@ -2,7 +2,8 @@
 
 ghost use Rattle.std.specs.Prelude.{◌≡◌, ◌++◌, ◌+◌, map, length, IfOk, OnOk};
 ghost use Rattle.golf_code_layout.specs.Emission.{Adds};
-ghost use Rattle.golf_code_of.specs.Files.{loads as loads_of, made_body as made_body_of, made_function as made_function_of};
+ghost use Rattle.golf_code_of.specs.Files.{loads as loads_of, made_body as made_body_of};
+ghost use Rattle.golf_code_of.specs.Files.{made_function as made_function_of};
 
 use golf_base::{List, Memory};
 use golf_check_types::GoType;

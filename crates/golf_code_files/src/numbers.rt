@@ -2,7 +2,8 @@
 
 ghost use Rattle.std.specs.Prelude.{◌≡◌, ◌+◌, false, length, is_some, IfOk};
 ghost use Rattle.golf_check_types.specs.Scopes.{meaning_in};
-ghost use Rattle.golf_code_of.specs.Files.{number_of_function as number_of_function_at, main_number as main_number_in, main_line as main_line_in, giving as giving_in};
+ghost use Rattle.golf_code_of.specs.Files.{number_of_function as number_of_function_of, main_number as main_number_of};
+ghost use Rattle.golf_code_of.specs.Files.{main_line as main_line_of, giving as giving_of};
 
 use golf_base::{List, Memory};
 use golf_check_names::{declares_main, line_of};
@@ -21,7 +22,7 @@ fn meaning_of(file: &FileScope, name: &[u8]) -> Option<Entity>
 }
 
 fn number_of_function(meaning: Option<Entity>) -> Result<u32, Memory>
-    ensures { IfOk result (λ n. n ≡ number_of_function_at meaning) }
+    ensures { IfOk result (λ n. n ≡ number_of_function_of meaning) }
 {
     match meaning {
         Some(Entity::Function(number)) => Ok(number.checked_add(1).ok_or(Memory)?),
@@ -34,14 +35,14 @@ fn number_of_function(meaning: Option<Entity>) -> Result<u32, Memory>
 
 /// The number of `main`.
 pub fn main_number(file: &FileScope) -> Result<u32, Memory>
-    ensures { IfOk result (λ n. n ≡ main_number_in file.now) }
+    ensures { IfOk result (λ n. n ≡ main_number_of file.now) }
 {
     number_of_function(meaning_of(file, b"main".as_slice()))
 }
 
 /// The line of `main`, or 0 if it is not declared.
 pub fn main_line(decls: &[Decl]) -> u32
-    ensures { result ≡ main_line_in decls.now }
+    ensures { result ≡ main_line_of decls.now }
 {
     for decl in decls {
         if declares_main(decl) {
@@ -53,7 +54,7 @@ pub fn main_line(decls: &[Decl]) -> u32
 
 /// Which functions give a value.
 pub fn giving(alloc: Global, file: &FileScope) -> Result<List<bool>, Memory>
-    ensures { IfOk result (λ gives. gives ≡ giving_in file.now) }
+    ensures { IfOk result (λ gives. gives ≡ giving_of file.now) }
 {
     let functions = file.functions.as_slice();
     let mut gives = List::new(alloc);

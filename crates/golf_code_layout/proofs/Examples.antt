@@ -13,7 +13,8 @@ loop = Piece.Block (Piece.Again (all (
     ∷ Piece.Exit 4 1 ∷ Piece.Exit 1 0 ∷ [])))
 
 loop-placed : placed loop 10 [] ≡
-    on (Instr.Load 0) 1 ∷ on (Instr.JumpIfNot 17) 1 ∷ on (Instr.Load 1) 2 ∷ on (Instr.JumpIfNot 15) 2 ∷ on (Instr.Jump 10) 3 ∷ on (Instr.Jump 17) 4 ∷ on (Instr.Jump 10) 1 ∷ []
+    on (Instr.Load 0) 1 ∷ on (Instr.JumpIfNot 17) 1 ∷ on (Instr.Load 1) 2 ∷ on (Instr.JumpIfNot 15) 2
+    ∷ on (Instr.Jump 10) 3 ∷ on (Instr.Jump 17) 4 ∷ on (Instr.Jump 10) 1 ∷ []
 unfolding loop
 loop-placed = refl
 
@@ -21,7 +22,8 @@ loop-placed = refl
 both : Piece
 both = all (
     op 1 (Instr.Int (pos 5))
-    ∷ Piece.Block (all (Piece.Block (all (op 1 (Instr.Load 0) ∷ Piece.Unless 1 0 ∷ op 1 (Instr.Load 1) ∷ Piece.Exit 1 1 ∷ [])) ∷ op 1 (Instr.Bool false) ∷ []))
+    ∷ Piece.Block (all (Piece.Block (all (op 1 (Instr.Load 0) ∷ Piece.Unless 1 0 ∷ op 1 (Instr.Load 1) ∷ Piece.Exit 1 1
+    ∷ [])) ∷ op 1 (Instr.Bool false) ∷ []))
     ∷ op 1 (Instr.Print 2) ∷ op 1 Instr.Return ∷ [])
 
 both-depth : depth [] both ≡ 2
@@ -29,7 +31,8 @@ unfolding both depth
 both-depth = refl
 
 -- a call that leaves a value, and one that does not
-calls-depth : depth (false ∷ true ∷ []) (all (op 1 (Instr.Call 0 0) ∷ op 1 (Instr.Call 1 0) ∷ op 1 (Instr.Print 1) ∷ op 1 Instr.Return ∷ [])) ≡ 1
+calls-depth : depth (false ∷ true ∷ []) (all
+    (op 1 (Instr.Call 0 0) ∷ op 1 (Instr.Call 1 0) ∷ op 1 (Instr.Print 1) ∷ op 1 Instr.Return ∷ [])) ≡ 1
 unfolding depth
 calls-depth = refl
 
@@ -37,13 +40,15 @@ calls-depth = refl
 choice : Piece
 choice = Piece.Block (all (
     Piece.Block (all (
-    Piece.Block (all (op 1 (Instr.Load 0) ∷ Piece.Choose 1 (record { kind = CaseKind.TakeOk; target = 0 } ∷ []) (Some 1) ∷ []))
+    Piece.Block (all (op 1 (Instr.Load 0) ∷ Piece.Choose 1 (record { kind = CaseKind.TakeOk; target = 0 } ∷ []) (Some 1)
+    ∷ []))
     ∷ op 2 Instr.Drop ∷ op 2 Instr.Drop ∷ Piece.Exit 2 1 ∷ []))
     ∷ Piece.Exit 3 0 ∷ op 3 Instr.Nil ∷ op 3 Instr.Nil ∷ op 3 Instr.Nil ∷ []))
 
 choice-placed : placed choice 0 [] ≡
     on (Instr.Load 0) 1 ∷ on (Instr.Select (record { kind = CaseKind.TakeOk; target = 2 } ∷ []) (Some 5)) 1
-    ∷ on Instr.Drop 2 ∷ on Instr.Drop 2 ∷ on (Instr.Jump 9) 2 ∷ on (Instr.Jump 9) 3 ∷ on Instr.Nil 3 ∷ on Instr.Nil 3 ∷ on Instr.Nil 3 ∷ []
+    ∷ on Instr.Drop 2 ∷ on Instr.Drop 2 ∷ on (Instr.Jump 9) 2 ∷ on (Instr.Jump 9) 3 ∷ on Instr.Nil 3 ∷ on Instr.Nil 3
+    ∷ on Instr.Nil 3 ∷ []
 unfolding choice
 choice-placed = refl
 

@@ -60,16 +60,25 @@ defaulted below (Some k) f = record f { targets = reached f.targets k below }
 -- a piece that begins with so many operands
 abbrev pub flow : List Bool → Piece → Option ℕ → List (Option ℕ) → Flow
 flow gives Piece.Empty h ts = record { most = 0; behind = h; targets = ts }
-flow gives (Piece.Op i line) h ts = let after = behind gives i h in record { most = height after; behind = after; targets = ts }
+flow gives (Piece.Op i line) h ts = let after =
+    behind gives i h in record { most = height after; behind = after; targets = ts }
 flow gives (Piece.Then p q) h ts =
     let a = flow gives p h ts in
     let b = flow gives q a.behind a.targets in
     record { most = max a.most b.most; behind = b.behind; targets = b.targets }
 flow gives (Piece.Exit line k) h ts = record { most = 0; behind = None; targets = reached ts k h }
-flow gives (Piece.Unless line k) h ts = let after = option_map (λ n. n - 1) h in record { most = height after; behind = after; targets = reached ts k after }
-flow gives (Piece.Choose line cases otherwise) h ts = let below = option_map (λ n. n - cases_taken cases) h in defaulted below otherwise (chosen below cases ts)
-flow gives (Piece.Block p) h ts = let a = flow gives p h (None ∷ ts) in record { most = a.most; behind = met a.behind (innermost a.targets); targets = outer a.targets }
-flow gives (Piece.Again p) h ts = let a = flow gives p h (h ∷ ts) in record { most = a.most; behind = a.behind; targets = outer a.targets }
+flow gives (Piece.Unless line k) h ts = let after =
+    option_map (λ n. n - 1) h in record { most = height after; behind = after; targets = reached ts k after }
+flow gives (Piece.Choose line cases otherwise) h ts = let below =
+    option_map (λ n. n - cases_taken cases) h in defaulted below otherwise (chosen below cases ts)
+flow gives (Piece.Block p) h ts = let a =
+    flow gives p h (None ∷ ts) in record {
+      most = a.most;
+      behind = met a.behind (innermost a.targets);
+      targets = outer a.targets;
+    }
+flow gives (Piece.Again p) h ts = let a =
+    flow gives p h (h ∷ ts) in record { most = a.most; behind = a.behind; targets = outer a.targets }
 
 -- the most operands in the body of a function, which begins without any
 unfoldable pub depth : List Bool → Piece → ℕ

@@ -1,4 +1,5 @@
--- Structured code: what a construct's code is, before it has a place. A jump names its target by how many others stand around it further in.
+-- Structured code: what a construct's code is, before it has a place. A jump names its target by how many others stand
+-- around it further in.
 use Rattle.std.specs.Prelude.{ℕ, zero, suc, ◌+◌, List, [], ◌∷◌, ◌++◌, map, Option}
 use Rattle.std.specs.Option.{option_map}
 use Rattle.golf_data.specs.declared.code.Instr.{Instr}
@@ -60,6 +61,7 @@ placed (Piece.Op i line) at ts = on i line ∷ []
 placed (Piece.Then p q) at ts = placed p at ts ++ placed q (at + size p) ts
 placed (Piece.Exit line k) at ts = on (Instr.Jump (target ts k)) line ∷ []
 placed (Piece.Unless line k) at ts = on (Instr.JumpIfNot (target ts k)) line ∷ []
-placed (Piece.Choose line cases otherwise) at ts = on (Instr.Select (map (case_at ts) cases) (option_map (target ts) otherwise)) line ∷ []
+placed (Piece.Choose line cases otherwise) at ts =
+    on (Instr.Select (map (case_at ts) cases) (option_map (target ts) otherwise)) line ∷ []
 placed (Piece.Block p) at ts = placed p at ((at + size p) ∷ ts)
 placed (Piece.Again p) at ts = placed p at (at ∷ ts)

@@ -35,13 +35,25 @@ module _ (code : Code) (types : Typing) (shapes : HasShapes code types) where
     pub orderly : IsOrderly s
 
   pub sound-start : Sound (start code)
-  sound-start = record { known = []; typed = start-is-typed code types shapes; sane = sane-start code; orderly = leads-orderly code (start code) Leads.Start }
+  sound-start = record {
+    known = [];
+    typed = start-is-typed code types shapes;
+    sane = sane-start code;
+    orderly = leads-orderly code (start code) Leads.Start;
+  }
 
   -- after a turn it is so again, and what is known stays known
   sound-turn : (s : State) (c : ℕ) (h : Sound s) → (next : Sound (step code s c)) × Grows h.known next.known
   sound-turn s c h =
-      let t = turns-keep-types code types h.known s c shapes h.typed h.sane.whole h.sane.numbered h.orderly in
-      (record { known = t.0; typed = t.1; sane = sane-step code s c h.sane; orderly = order-step code s c h.sane.numbered.goroutines_rise h.orderly }, t.2)
+      let t = turns-keep-types code types h.known s c shapes h.typed h.sane.whole h.sane.numbered h.orderly in (
+        record {
+          known = t.0;
+          typed = t.1;
+          sane = sane-step code s c h.sane;
+          orderly = order-step code s c h.sane.numbered.goroutines_rise h.orderly;
+        },
+        t.2,
+      )
 
   sound-step : (s : State) (c : ℕ) → Sound s → Sound (step code s c)
   sound-step s c h = (sound-turn s c h).0
@@ -52,18 +64,31 @@ module _ (code : Code) (types : Typing) (shapes : HasShapes code types) where
       let w = h.typed in
       let v = typed-real types h.known s w h.sane.numbered false false in record {
         known = h.known;
-        typed = record { globals = w.globals; objects = w.objects; goroutines = w.goroutines; finalisers = v.finalisers; queue = v.queue; below = w.below; fresh = w.fresh };
-        sane = record { numbered = numbered-collect s h.sane.numbered; whole = whole-collect s h.sane.numbered h.sane.whole };
+        typed = record {
+          globals = w.globals;
+          objects = w.objects;
+          goroutines = w.goroutines;
+          finalisers = v.finalisers;
+          queue = v.queue;
+          below = w.below;
+          fresh = w.fresh;
+        };
+        sane = record {
+          numbered = numbered-collect s h.sane.numbered;
+          whole = whole-collect s h.sane.numbered h.sane.whole;
+        };
         orderly = record { goroutines = h.orderly.goroutines; conditions = h.orderly.conditions };
       }
 
   -- so it is after each event
-  sound-if : (collects : Bool) (s : State) (h : Sound s) → (next : Sound (collected_if plain_collect code collects s)) × Grows h.known next.known
+  sound-if : (collects : Bool) (s : State) (h : Sound s) → (next : Sound (collected_if plain_collect code collects s))
+      × Grows h.known next.known
   unfolding sound-collect
   sound-if true s h = (sound-collect s h, λ o t known. known)
   sound-if false s h = (h, λ o t known. known)
 
-  sound-happens : (ended : Bool) (s : State) (e : Event) (h : Sound s) → (next : Sound (happens_in plain_collect code ended s e)) × Grows h.known next.known
+  sound-happens : (ended : Bool) (s : State) (e : Event) (h : Sound s)
+      → (next : Sound (happens_in plain_collect code ended s e)) × Grows h.known next.known
   sound-happens true s e h = (h, λ o t known. known)
   sound-happens false s (Event.Turn c) h =
       let turn = sound-turn s c h in
@@ -79,11 +104,13 @@ module _ (code : Code) (types : Typing) (shapes : HasShapes code types) where
       let k = run-kept code Sound sound-step sound-collect events s h in
       move-on code types k.known (run code s events) c shapes k.typed k.sane.whole k.sane.numbered k.orderly e
 
-  pub runs-go-on : PlainGoesOn code (start code) × ((events : List Event) (p : State) → In p (stops code events) → PlainGoesOn code p)
+  pub runs-go-on : PlainGoesOn code (start code)
+      × ((events : List Event) (p : State) → In p (stops code events) → PlainGoesOn code p)
   runs-go-on = (
     sound-goes-on (start code) sound-start,
     λ events p i. sound-goes-on p (stops-kept code Sound sound-step sound-collect events (start code) p sound-start i),
   )
 
 pub plain-runs-go-on : PlainRunsGoOn
-plain-runs-go-on file p = let h = files-have-shapes file p in runs-go-on (CodeOf file) (record { of = types_of_file file; shapes = h.0 }) h.1
+plain-runs-go-on file p = let h = files-have-shapes file p in runs-go-on (CodeOf file)
+    (record { of = types_of_file file; shapes = h.0 }) h.1

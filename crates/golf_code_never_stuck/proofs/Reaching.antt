@@ -12,9 +12,10 @@ use Rattle.golf_model_typing.specs.Shapes.{HasShapes}
 use Rattle.golf_model_progress.proofs.Leading.{leads-typed, never-stuck}
 use Rattle.golf_code_shapes.specs.FileLaws.{types_of_file}
 use Rattle.golf_code_shapes.proofs.WholeFiles.{files-fit}
-use Rattle.golf_code_shapes_globals.proofs.Globals.{names-fit}
+use Rattle.golf_code_shapes.proofs.Globals.{names-fit}
 use Rattle.golf_code_never_stuck.specs.Reached.{Reached, LeadsOn}
-use Rattle.golf_code_never_stuck.specs.Laws.{FilesHaveShapes, ReachedTyped, ReachedMovesOn, GoesOn, ReachedGoesOn, ReachedDeadAreStill, ReachedRecoveryUnseen}
+use Rattle.golf_code_never_stuck.specs.Laws.{FilesHaveShapes, ReachedTyped, ReachedMovesOn, GoesOn, ReachedGoesOn}
+use Rattle.golf_code_never_stuck.specs.Laws.{ReachedDeadAreStill, ReachedRecoveryUnseen}
 
 pub files-have-shapes : FilesHaveShapes
 files-have-shapes file p = files-fit file p.typed p.good (names-fit file p.typed)
@@ -55,5 +56,6 @@ reached-dead-still code s g r d = (dead_are_still code s g (leads_number code s 
 pub reached-unseen : ReachedRecoveryUnseen
 reached-unseen code s recover r e = (
   λ events. recovery_unseen code s recover events r.leads,
-  goes-on code (real_collect s recover (sets_finalisers code)) (reached-by code s _ r (Leads.Collection s recover r.leads e)),
+  goes-on code (real_collect s recover (sets_finalisers code))
+      (reached-by code s _ r (Leads.Collection s recover r.leads e)),
 )

@@ -18,11 +18,13 @@ use Rattle.golf_code_never_stuck.specs.Reached.{IsProgram, Reached, LeadsOn}
 
 -- the code of a well-formed file that breaks no rule has shapes, with the types of the file
 abbrev pub FilesHaveShapes : Type 0
-FilesHaveShapes = (file : File) → IsProgram file → (shapes : List (List Shape)) × HasShapes (CodeOf file) (record { of = types_of_file file; shapes = shapes })
+FilesHaveShapes = (file : File) → IsProgram file → (shapes : List (List Shape))
+    × HasShapes (CodeOf file) (record { of = types_of_file file; shapes = shapes })
 
 -- every state that the code of such a file reaches is well typed
 abbrev pub ReachedTyped : Type 0
-ReachedTyped = (code : Code) (s : State) → Reached code s → (types : Typing) × (known : List (ℕ × ValueType)) × HasShapes code types × WellTyped types known s
+ReachedTyped = (code : Code) (s : State) → Reached code s → (types : Typing) × (known : List (ℕ × ValueType))
+    × HasShapes code types × WellTyped types known s
 
 -- and is not stuck before its ending: the turn of any number has changes
 abbrev pub ReachedMovesOn : Type 0
@@ -34,7 +36,8 @@ GoesOn code s = (t : State) (c : ℕ) → LeadsOn code s t → ending t ≡ None
 
 -- what moves lead on to from a reached state is reached, so it is never stuck
 abbrev pub ReachedGoesOn : Type 0
-ReachedGoesOn = (code : Code) (s : State) → Reached code s → ((t : State) → LeadsOn code s t → Reached code t) × GoesOn code s
+ReachedGoesOn = (code : Code) (s : State) → Reached code s → ((t : State) → LeadsOn code s t → Reached code t)
+    × GoesOn code s
 
 -- a dead goroutine of a reached state takes no step in any continuation, and no continuation is stuck
 abbrev pub ReachedDeadAreStill : Type 0
@@ -43,14 +46,19 @@ ReachedDeadAreStill = (code : Code) (s : State) (g : ℕ) → Reached code s →
 -- recovery in a reached state cannot be seen, and no continuation after it is stuck
 abbrev pub ReachedRecoveryUnseen : Type 0
 ReachedRecoveryUnseen = (code : Code) (s : State) (recover : Bool) → Reached code s → ending s ≡ None
-    → ((events : List Event) → futures code (real_collect s recover (sets_finalisers code)) events (removed s recover (sets_finalisers code)) ≡ futures code (plain_collect s) events (removed s recover (sets_finalisers code)))
+    → ((events : List Event) → futures code (real_collect s recover (sets_finalisers code)) events
+    (removed s recover (sets_finalisers code)) ≡ futures code (plain_collect s) events
+    (removed s recover (sets_finalisers code)))
     × GoesOn code (real_collect s recover (sets_finalisers code))
 
 -- on the machine that frees and reclaims nothing no state that events lead on to is stuck before its ending
 abbrev pub PlainGoesOn : Code → State → Type 0
-PlainGoesOn code s = (events : List Event) (c : ℕ) → ending (run code s events) ≡ None → MovesOn code (run code s events) c
+PlainGoesOn code s = (events : List Event) (c : ℕ) → ending (run code s events) ≡ None
+    → MovesOn code (run code s events) c
 
--- so it is for the code of a well-formed file that breaks no rule, from its opening state and from the state right before each collection of a run
+-- so it is for the code of a well-formed file that breaks no rule, from its opening state and from the state right
+-- before each collection of a run
 abbrev pub PlainRunsGoOn : Type 0
 PlainRunsGoOn = (file : File) → IsProgram file
-    → PlainGoesOn (CodeOf file) (start (CodeOf file)) × ((events : List Event) (p : State) → In p (stops (CodeOf file) events) → PlainGoesOn (CodeOf file) p)
+    → PlainGoesOn (CodeOf file) (start (CodeOf file))
+    × ((events : List Event) (p : State) → In p (stops (CodeOf file) events) → PlainGoesOn (CodeOf file) p)

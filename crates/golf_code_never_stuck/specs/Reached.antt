@@ -1,4 +1,5 @@
--- The states that the code of a typed file reaches, and those that moves lead on to (Go specification, "Program execution"; profile).
+-- The states that the code of a typed file reaches, and those that moves lead on to (Go specification, "Program
+-- execution"; profile).
 use Rattle.std.specs.Prelude.{◌≡◌, ℕ, Bool, true, [], None}
 use Rattle.std.specs.List.{list_all}
 use Rattle.golf_data.specs.declared.code.Code.{Code}
@@ -23,9 +24,11 @@ pub record Reached (code : Code) (s : State) : Type 0 where
   pub coded : code ≡ CodeOf file
   pub leads : Leads code s
 
--- the states that moves lead on to from a state: turns, collections with recovery or without, and the emptying of the output
+-- the states that moves lead on to from a state: turns, collections with recovery or without, and the emptying of the
+-- output
 pub data LeadsOn (code : Code) (s : State) : State → Type 0 where
   Here : LeadsOn code s s
   Turn : (t : State) (c : ℕ) → LeadsOn code s t → ending t ≡ None → LeadsOn code s (step code t c)
-  Collection : (t : State) (recover : Bool) → LeadsOn code s t → ending t ≡ None → LeadsOn code s (real_collect t recover (sets_finalisers code))
+  Collection : (t : State) (recover : Bool) → LeadsOn code s t → ending t ≡ None
+      → LeadsOn code s (real_collect t recover (sets_finalisers code))
   Emptied : (t : State) → LeadsOn code s t → LeadsOn code s (record t { output = [] })

@@ -11,7 +11,7 @@ use Rattle.golf_syntax_trees.specs.declared.expressions.Expr.TheVariants as ex
 use Rattle.golf_syntax_trees.specs.declared.expressions.Expr.TheOpen.{Expr-F}
 use Rattle.golf_syntax_trees.specs.declared.expressions.Expr.TheOpen as F
 use Rattle.golf_syntax_trees.specs.declared.expressions.Expr.TheFolds.{fold-Element, fold-roll-Expr, map-Expr}
-use Rattle.golf_syntax_induction.proofs.Expressions.{fold-element, fold-elements}
+use Rattle.golf_syntax_trees.proofs.ExpressionInduction.{fold-element, fold-elements}
 use Rattle.golf_code_of.specs.declared.tables.Tables.{Tables}
 use Rattle.golf_code_of.specs.Coding.{Coded, CodedPut, coded, coded_step, element_coded_step}
 
@@ -46,15 +46,19 @@ coded-Name t n = ap (coded t) (sym (ex.rolls-Name n)) ∙ coded-rolls t (F.Name 
 pub coded-Parens : (t : Tables) (e : Expr) → coded t (ex.Parens e) ≡ coded_step t (F.Parens (coded t e))
 coded-Parens t e = ap (coded t) (sym (ex.rolls-Parens e)) ∙ coded-rolls t (F.Parens e)
 
-pub coded-StructLiteral : (t : Tables) (n : List ℕ) (xs : List Element) → coded t (ex.StructLiteral n xs) ≡ coded_step t (F.StructLiteral n (map (coded_put t) xs))
+pub coded-StructLiteral : (t : Tables) (n : List ℕ) (xs : List Element)
+    → coded t (ex.StructLiteral n xs) ≡ coded_step t (F.StructLiteral n (map (coded_put t) xs))
 unfolding coded
-coded-StructLiteral t n xs = ap (coded t) (sym (ex.rolls-StructLiteral n xs)) ∙ coded-rolls t (F.StructLiteral n xs) ∙ ap (λ ps. coded_step t (F.StructLiteral n ps)) (fold-elements Coded CodedPut (coded_step t) element_coded_step xs)
+coded-StructLiteral t n xs = ap (coded t) (sym (ex.rolls-StructLiteral n xs)) ∙ coded-rolls t (F.StructLiteral n xs)
+    ∙ ap (λ ps. coded_step t (F.StructLiteral n ps)) (fold-elements Coded CodedPut (coded_step t) element_coded_step xs)
 
 pub coded-SyncLiteral : (t : Tables) (n : List ℕ) → coded t (ex.SyncLiteral n) ≡ coded_step t (F.SyncLiteral n)
 coded-SyncLiteral t n = ap (coded t) (sym (ex.rolls-SyncLiteral n)) ∙ coded-rolls t (F.SyncLiteral n)
 
-pub coded-SliceLiteral : (t : Tables) (of_type : TypeExpr) (xs : List Expr) → coded t (ex.SliceLiteral of_type xs) ≡ coded_step t (F.SliceLiteral of_type (map (coded t) xs))
-coded-SliceLiteral t of_type xs = ap (coded t) (sym (ex.rolls-SliceLiteral of_type xs)) ∙ coded-rolls t (F.SliceLiteral of_type xs)
+pub coded-SliceLiteral : (t : Tables) (of_type : TypeExpr) (xs : List Expr)
+    → coded t (ex.SliceLiteral of_type xs) ≡ coded_step t (F.SliceLiteral of_type (map (coded t) xs))
+coded-SliceLiteral t of_type xs = ap (coded t) (sym (ex.rolls-SliceLiteral of_type xs))
+    ∙ coded-rolls t (F.SliceLiteral of_type xs)
 
 pub coded-EmptyLiteral : (t : Tables) → coded t ex.EmptyLiteral ≡ coded_step t F.EmptyLiteral
 coded-EmptyLiteral t = ap (coded t) (sym ex.rolls-EmptyLiteral) ∙ coded-rolls t F.EmptyLiteral
@@ -62,7 +66,8 @@ coded-EmptyLiteral t = ap (coded t) (sym ex.rolls-EmptyLiteral) ∙ coded-rolls 
 pub coded-Make : (t : Tables) (of_type : TypeExpr) → coded t (ex.Make of_type) ≡ coded_step t (F.Make of_type)
 coded-Make t of_type = ap (coded t) (sym (ex.rolls-Make of_type)) ∙ coded-rolls t (F.Make of_type)
 
-pub coded-MakeSized : (t : Tables) (of_type : TypeExpr) (e : Expr) → coded t (ex.MakeSized of_type e) ≡ coded_step t (F.MakeSized of_type (coded t e))
+pub coded-MakeSized : (t : Tables) (of_type : TypeExpr) (e : Expr)
+    → coded t (ex.MakeSized of_type e) ≡ coded_step t (F.MakeSized of_type (coded t e))
 coded-MakeSized t of_type e = ap (coded t) (sym (ex.rolls-MakeSized of_type e)) ∙ coded-rolls t (F.MakeSized of_type e)
 
 pub coded-New : (t : Tables) (n : List ℕ) → coded t (ex.New n) ≡ coded_step t (F.New n)
@@ -71,19 +76,42 @@ coded-New t n = ap (coded t) (sym (ex.rolls-New n)) ∙ coded-rolls t (F.New n)
 pub coded-NewSync : (t : Tables) (n : List ℕ) → coded t (ex.NewSync n) ≡ coded_step t (F.NewSync n)
 coded-NewSync t n = ap (coded t) (sym (ex.rolls-NewSync n)) ∙ coded-rolls t (F.NewSync n)
 
-pub coded-Selector : (t : Tables) (e : Expr) (n : List ℕ) → coded t (ex.Selector e n) ≡ coded_step t (F.Selector (coded t e) n)
+pub coded-Selector : (t : Tables) (e : Expr) (n : List ℕ)
+    → coded t (ex.Selector e n) ≡ coded_step t (F.Selector (coded t e) n)
 coded-Selector t e n = ap (coded t) (sym (ex.rolls-Selector e n)) ∙ coded-rolls t (F.Selector e n)
 
-pub coded-Index : (t : Tables) (a : Expr) (i : Expr) → coded t (ex.Index a i) ≡ coded_step t (F.Index (coded t a) (coded t i))
+pub coded-Index : (t : Tables) (a : Expr) (i : Expr)
+    → coded t (ex.Index a i) ≡ coded_step t (F.Index (coded t a) (coded t i))
 coded-Index t a i = ap (coded t) (sym (ex.rolls-Index a i)) ∙ coded-rolls t (F.Index a i)
 
-pub coded-Call : (t : Tables) (f : Expr) (xs : List Expr) → coded t (ex.Call f xs) ≡ coded_step t (F.Call (coded t f) (map (coded t) xs))
+pub coded-Call : (t : Tables) (f : Expr) (xs : List Expr)
+    → coded t (ex.Call f xs) ≡ coded_step t (F.Call (coded t f) (map (coded t) xs))
 coded-Call t f xs = ap (coded t) (sym (ex.rolls-Call f xs)) ∙ coded-rolls t (F.Call f xs)
 
-pub coded-Unary : (t : Tables) (o : UnaryOperator) (e : Expr) → coded t (ex.Unary o e) ≡ coded_step t (F.Unary o (coded t e))
+pub coded-Unary : (t : Tables) (o : UnaryOperator) (e : Expr)
+    → coded t (ex.Unary o e) ≡ coded_step t (F.Unary o (coded t e))
 coded-Unary t o e = ap (coded t) (sym (ex.rolls-Unary o e)) ∙ coded-rolls t (F.Unary o e)
 
-pub coded-Binary : (t : Tables) (o : BinaryOperator) (a : Expr) (b : Expr) → coded t (ex.Binary o a b) ≡ coded_step t (F.Binary o (coded t a) (coded t b))
+pub coded-Binary : (t : Tables) (o : BinaryOperator) (a : Expr) (b : Expr)
+    → coded t (ex.Binary o a b) ≡ coded_step t (F.Binary o (coded t a) (coded t b))
 coded-Binary t o a b = ap (coded t) (sym (ex.rolls-Binary o a b)) ∙ coded-rolls t (F.Binary o a b)
 
-pub ruleset expression_codes = (coded-Integer, coded-Text, coded-Name, coded-Parens, coded-StructLiteral, coded-SyncLiteral, coded-SliceLiteral, coded-EmptyLiteral, coded-Make, coded-MakeSized, coded-New, coded-NewSync, coded-Selector, coded-Index, coded-Call, coded-Unary, coded-Binary)
+pub ruleset expression_codes = (
+  coded-Integer,
+  coded-Text,
+  coded-Name,
+  coded-Parens,
+  coded-StructLiteral,
+  coded-SyncLiteral,
+  coded-SliceLiteral,
+  coded-EmptyLiteral,
+  coded-Make,
+  coded-MakeSized,
+  coded-New,
+  coded-NewSync,
+  coded-Selector,
+  coded-Index,
+  coded-Call,
+  coded-Unary,
+  coded-Binary,
+)

@@ -11,7 +11,7 @@ use Rattle.golf_syntax_trees.specs.declared.expressions.Expr.TheVariants as ex
 use Rattle.golf_syntax_trees.specs.declared.expressions.Expr.TheOpen.{Expr-F}
 use Rattle.golf_syntax_trees.specs.declared.expressions.Expr.TheOpen as F
 use Rattle.golf_syntax_trees.specs.declared.expressions.Expr.TheFolds.{fold-Element, fold-roll-Expr, map-Expr}
-use Rattle.golf_syntax_induction.proofs.Expressions.{fold-element, fold-elements}
+use Rattle.golf_syntax_trees.proofs.ExpressionInduction.{fold-element, fold-elements}
 use Rattle.golf_check_types.specs.Judging.{Judge, Put, judge, judge_step, element_step}
 
 -- an element of a struct literal
@@ -45,15 +45,19 @@ judge-Name n = ap judge (sym (ex.rolls-Name n)) ∙ judge-rolls (F.Name n)
 pub judge-Parens : (e : Expr) → judge (ex.Parens e) ≡ judge_step (F.Parens (judge e))
 judge-Parens e = ap judge (sym (ex.rolls-Parens e)) ∙ judge-rolls (F.Parens e)
 
-pub judge-StructLiteral : (n : List ℕ) (xs : List Element) → judge (ex.StructLiteral n xs) ≡ judge_step (F.StructLiteral n (map put_of xs))
+pub judge-StructLiteral : (n : List ℕ) (xs : List Element)
+    → judge (ex.StructLiteral n xs) ≡ judge_step (F.StructLiteral n (map put_of xs))
 unfolding judge
-judge-StructLiteral n xs = ap judge (sym (ex.rolls-StructLiteral n xs)) ∙ judge-rolls (F.StructLiteral n xs) ∙ ap (λ ps. judge_step (F.StructLiteral n ps)) (fold-elements Judge Put judge_step element_step xs)
+judge-StructLiteral n xs = ap judge (sym (ex.rolls-StructLiteral n xs)) ∙ judge-rolls (F.StructLiteral n xs)
+    ∙ ap (λ ps. judge_step (F.StructLiteral n ps)) (fold-elements Judge Put judge_step element_step xs)
 
 pub judge-SyncLiteral : (n : List ℕ) → judge (ex.SyncLiteral n) ≡ judge_step (F.SyncLiteral n)
 judge-SyncLiteral n = ap judge (sym (ex.rolls-SyncLiteral n)) ∙ judge-rolls (F.SyncLiteral n)
 
-pub judge-SliceLiteral : (of_type : TypeExpr) (xs : List Expr) → judge (ex.SliceLiteral of_type xs) ≡ judge_step (F.SliceLiteral of_type (map judge xs))
-judge-SliceLiteral of_type xs = ap judge (sym (ex.rolls-SliceLiteral of_type xs)) ∙ judge-rolls (F.SliceLiteral of_type xs)
+pub judge-SliceLiteral : (of_type : TypeExpr) (xs : List Expr)
+    → judge (ex.SliceLiteral of_type xs) ≡ judge_step (F.SliceLiteral of_type (map judge xs))
+judge-SliceLiteral of_type xs = ap judge (sym (ex.rolls-SliceLiteral of_type xs))
+    ∙ judge-rolls (F.SliceLiteral of_type xs)
 
 pub judge-EmptyLiteral : judge ex.EmptyLiteral ≡ judge_step F.EmptyLiteral
 judge-EmptyLiteral = ap judge (sym ex.rolls-EmptyLiteral) ∙ judge-rolls F.EmptyLiteral
@@ -61,7 +65,8 @@ judge-EmptyLiteral = ap judge (sym ex.rolls-EmptyLiteral) ∙ judge-rolls F.Empt
 pub judge-Make : (of_type : TypeExpr) → judge (ex.Make of_type) ≡ judge_step (F.Make of_type)
 judge-Make of_type = ap judge (sym (ex.rolls-Make of_type)) ∙ judge-rolls (F.Make of_type)
 
-pub judge-MakeSized : (of_type : TypeExpr) (e : Expr) → judge (ex.MakeSized of_type e) ≡ judge_step (F.MakeSized of_type (judge e))
+pub judge-MakeSized : (of_type : TypeExpr) (e : Expr)
+    → judge (ex.MakeSized of_type e) ≡ judge_step (F.MakeSized of_type (judge e))
 judge-MakeSized of_type e = ap judge (sym (ex.rolls-MakeSized of_type e)) ∙ judge-rolls (F.MakeSized of_type e)
 
 pub judge-New : (n : List ℕ) → judge (ex.New n) ≡ judge_step (F.New n)
@@ -82,7 +87,26 @@ judge-Call f xs = ap judge (sym (ex.rolls-Call f xs)) ∙ judge-rolls (F.Call f 
 pub judge-Unary : (o : UnaryOperator) (e : Expr) → judge (ex.Unary o e) ≡ judge_step (F.Unary o (judge e))
 judge-Unary o e = ap judge (sym (ex.rolls-Unary o e)) ∙ judge-rolls (F.Unary o e)
 
-pub judge-Binary : (o : BinaryOperator) (a : Expr) (b : Expr) → judge (ex.Binary o a b) ≡ judge_step (F.Binary o (judge a) (judge b))
+pub judge-Binary : (o : BinaryOperator) (a : Expr) (b : Expr)
+    → judge (ex.Binary o a b) ≡ judge_step (F.Binary o (judge a) (judge b))
 judge-Binary o a b = ap judge (sym (ex.rolls-Binary o a b)) ∙ judge-rolls (F.Binary o a b)
 
-pub ruleset judgments = (judge-Integer, judge-Text, judge-Name, judge-Parens, judge-StructLiteral, judge-SyncLiteral, judge-SliceLiteral, judge-EmptyLiteral, judge-Make, judge-MakeSized, judge-New, judge-NewSync, judge-Selector, judge-Index, judge-Call, judge-Unary, judge-Binary)
+pub ruleset judgments = (
+  judge-Integer,
+  judge-Text,
+  judge-Name,
+  judge-Parens,
+  judge-StructLiteral,
+  judge-SyncLiteral,
+  judge-SliceLiteral,
+  judge-EmptyLiteral,
+  judge-Make,
+  judge-MakeSized,
+  judge-New,
+  judge-NewSync,
+  judge-Selector,
+  judge-Index,
+  judge-Call,
+  judge-Unary,
+  judge-Binary,
+)

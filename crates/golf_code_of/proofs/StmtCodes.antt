@@ -14,7 +14,8 @@ use Rattle.golf_syntax_trees.specs.declared.statements.Clause.{Clause, roll-Clau
 use Rattle.golf_syntax_trees.specs.declared.statements.Clause.TheVariants as cl
 use Rattle.golf_syntax_trees.specs.declared.statements.Clause.TheOpen.{Stmt-F, Clause-F}
 use Rattle.golf_syntax_trees.specs.declared.statements.Clause.TheOpen as F
-use Rattle.golf_syntax_trees.specs.declared.statements.Clause.TheFolds.{fold-roll-Stmt, fold-roll-Clause, map-Stmt, map-Clause}
+use Rattle.golf_syntax_trees.specs.declared.statements.Clause.TheFolds.{fold-roll-Stmt, fold-roll-Clause, map-Stmt}
+use Rattle.golf_syntax_trees.specs.declared.statements.Clause.TheFolds.{map-Clause}
 use Rattle.golf_code_of.specs.declared.tables.Tables.{Tables}
 use Rattle.golf_code_of.specs.Statements.{Part}
 use Rattle.golf_code_of.specs.Selects.{ClausePart}
@@ -41,10 +42,12 @@ part-Var t v = ap (stmt_part t) (sym (st.rolls-Var v)) ∙ part-rolls t (F.Var v
 pub part-Simple : (t : Tables) (x : Simple) → stmt_part t (st.Simple x) ≡ stmt_part_step t (F.Simple x)
 part-Simple t x = ap (stmt_part t) (sym (st.rolls-Simple x)) ∙ part-rolls t (F.Simple x)
 
-pub part-Go : (t : Tables) (l : ℕ) (f : Expr) (xs : List Expr) → stmt_part t (st.Go l f xs) ≡ stmt_part_step t (F.Go l f xs)
+pub part-Go : (t : Tables) (l : ℕ) (f : Expr) (xs : List Expr)
+    → stmt_part t (st.Go l f xs) ≡ stmt_part_step t (F.Go l f xs)
 part-Go t l f xs = ap (stmt_part t) (sym (st.rolls-Go l f xs)) ∙ part-rolls t (F.Go l f xs)
 
-pub part-Defer : (t : Tables) (l : ℕ) (f : Expr) (xs : List Expr) → stmt_part t (st.Defer l f xs) ≡ stmt_part_step t (F.Defer l f xs)
+pub part-Defer : (t : Tables) (l : ℕ) (f : Expr) (xs : List Expr)
+    → stmt_part t (st.Defer l f xs) ≡ stmt_part_step t (F.Defer l f xs)
 part-Defer t l f xs = ap (stmt_part t) (sym (st.rolls-Defer l f xs)) ∙ part-rolls t (F.Defer l f xs)
 
 pub part-Return : (t : Tables) (l : ℕ) (e : Option Expr) → stmt_part t (st.Return l e) ≡ stmt_part_step t (F.Return l e)
@@ -56,25 +59,50 @@ part-Break t l = ap (stmt_part t) (sym (st.rolls-Break l)) ∙ part-rolls t (F.B
 pub part-Continue : (t : Tables) (l : ℕ) → stmt_part t (st.Continue l) ≡ stmt_part_step t (F.Continue l)
 part-Continue t l = ap (stmt_part t) (sym (st.rolls-Continue l)) ∙ part-rolls t (F.Continue l)
 
-pub part-Block : (t : Tables) (l : ℕ) (body : List Stmt) → stmt_part t (st.Block l body) ≡ stmt_part_step t (F.Block l (map (stmt_part t) body))
+pub part-Block : (t : Tables) (l : ℕ) (body : List Stmt)
+    → stmt_part t (st.Block l body) ≡ stmt_part_step t (F.Block l (map (stmt_part t) body))
 part-Block t l body = ap (stmt_part t) (sym (st.rolls-Block l body)) ∙ part-rolls t (F.Block l body)
 
-pub part-If : (t : Tables) (l : ℕ) (first : Option Simple) (test : Expr) (body : List Stmt) → stmt_part t (st.If l first test body) ≡ stmt_part_step t (F.If l first test (map (stmt_part t) body))
-part-If t l first test body = ap (stmt_part t) (sym (st.rolls-If l first test body)) ∙ part-rolls t (F.If l first test body)
+pub part-If : (t : Tables) (l : ℕ) (first : Option Simple) (test : Expr) (body : List Stmt)
+    → stmt_part t (st.If l first test body) ≡ stmt_part_step t (F.If l first test (map (stmt_part t) body))
+part-If t l first test body = ap (stmt_part t) (sym (st.rolls-If l first test body))
+    ∙ part-rolls t (F.If l first test body)
 
-pub part-IfElse : (t : Tables) (l : ℕ) (first : Option Simple) (test : Expr) (body : List Stmt) (otherwise : Stmt) → stmt_part t (st.IfElse l first test body otherwise) ≡ stmt_part_step t (F.IfElse l first test (map (stmt_part t) body) (stmt_part t otherwise))
-part-IfElse t l first test body otherwise = ap (stmt_part t) (sym (st.rolls-IfElse l first test body otherwise)) ∙ part-rolls t (F.IfElse l first test body otherwise)
+pub part-IfElse : (t : Tables) (l : ℕ) (first : Option Simple) (test : Expr) (body : List Stmt) (otherwise : Stmt)
+    → stmt_part t (st.IfElse l first test body otherwise) ≡ stmt_part_step t
+    (F.IfElse l first test (map (stmt_part t) body) (stmt_part t otherwise))
+part-IfElse t l first test body otherwise = ap (stmt_part t) (sym (st.rolls-IfElse l first test body otherwise))
+    ∙ part-rolls t (F.IfElse l first test body otherwise)
 
-pub part-For : (t : Tables) (l : ℕ) (h : Header) (body : List Stmt) → stmt_part t (st.For l h body) ≡ stmt_part_step t (F.For l h (map (stmt_part t) body))
+pub part-For : (t : Tables) (l : ℕ) (h : Header) (body : List Stmt)
+    → stmt_part t (st.For l h body) ≡ stmt_part_step t (F.For l h (map (stmt_part t) body))
 part-For t l h body = ap (stmt_part t) (sym (st.rolls-For l h body)) ∙ part-rolls t (F.For l h body)
 
-pub part-Select : (t : Tables) (l : ℕ) (cs : List Clause) → stmt_part t (st.Select l cs) ≡ stmt_part_step t (F.Select l (map (clause_part t) cs))
+pub part-Select : (t : Tables) (l : ℕ) (cs : List Clause)
+    → stmt_part t (st.Select l cs) ≡ stmt_part_step t (F.Select l (map (clause_part t) cs))
 part-Select t l cs = ap (stmt_part t) (sym (st.rolls-Select l cs)) ∙ part-rolls t (F.Select l cs)
 
-pub clause-Case : (t : Tables) (l : ℕ) (c : Communication) (body : List Stmt) → clause_part t (cl.Case l c body) ≡ clause_part_step t (F.Case l c (map (stmt_part t) body))
+pub clause-Case : (t : Tables) (l : ℕ) (c : Communication) (body : List Stmt)
+    → clause_part t (cl.Case l c body) ≡ clause_part_step t (F.Case l c (map (stmt_part t) body))
 clause-Case t l c body = ap (clause_part t) (sym (cl.rolls-Case l c body)) ∙ clause-rolls t (F.Case l c body)
 
-pub clause-Default : (t : Tables) (l : ℕ) (body : List Stmt) → clause_part t (cl.Default l body) ≡ clause_part_step t (F.Default l (map (stmt_part t) body))
+pub clause-Default : (t : Tables) (l : ℕ) (body : List Stmt)
+    → clause_part t (cl.Default l body) ≡ clause_part_step t (F.Default l (map (stmt_part t) body))
 clause-Default t l body = ap (clause_part t) (sym (cl.rolls-Default l body)) ∙ clause-rolls t (F.Default l body)
 
-pub ruleset statement_codes = (part-Var, part-Simple, part-Go, part-Defer, part-Return, part-Break, part-Continue, part-Block, part-If, part-IfElse, part-For, part-Select, clause-Case, clause-Default)
+pub ruleset statement_codes = (
+  part-Var,
+  part-Simple,
+  part-Go,
+  part-Defer,
+  part-Return,
+  part-Break,
+  part-Continue,
+  part-Block,
+  part-If,
+  part-IfElse,
+  part-For,
+  part-Select,
+  clause-Case,
+  clause-Default,
+)

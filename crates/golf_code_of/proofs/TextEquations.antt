@@ -12,7 +12,7 @@ use Rattle.golf_syntax_trees.specs.declared.expressions.Expr.TheVariants as ex
 use Rattle.golf_syntax_trees.specs.declared.expressions.Expr.TheOpen.{Expr-F}
 use Rattle.golf_syntax_trees.specs.declared.expressions.Expr.TheOpen as E
 use Rattle.golf_syntax_trees.specs.declared.expressions.Expr.TheFolds.{fold-Element, fold-roll-Expr, map-Expr}
-use Rattle.golf_syntax_induction.proofs.Expressions.{fold-elements}
+use Rattle.golf_syntax_trees.proofs.ExpressionInduction.{fold-elements}
 use Rattle.golf_syntax_trees.specs.declared.statements.Simple.{Simple}
 use Rattle.golf_syntax_trees.specs.declared.statements.Var.{Var}
 use Rattle.golf_syntax_trees.specs.declared.statements.Header.{Header}
@@ -23,9 +23,11 @@ use Rattle.golf_syntax_trees.specs.declared.statements.Clause.{Clause, roll-Clau
 use Rattle.golf_syntax_trees.specs.declared.statements.Clause.TheVariants as cl
 use Rattle.golf_syntax_trees.specs.declared.statements.Clause.TheOpen.{Stmt-F, Clause-F}
 use Rattle.golf_syntax_trees.specs.declared.statements.Clause.TheOpen as F
-use Rattle.golf_syntax_trees.specs.declared.statements.Clause.TheFolds.{fold-Clause, fold-roll-Stmt, fold-roll-Clause, map-Stmt, map-Clause}
+use Rattle.golf_syntax_trees.specs.declared.statements.Clause.TheFolds.{fold-Clause, fold-roll-Stmt, fold-roll-Clause}
+use Rattle.golf_syntax_trees.specs.declared.statements.Clause.TheFolds.{map-Stmt, map-Clause}
 use Rattle.golf_code_of.specs.Table.{Texts}
-use Rattle.golf_code_of.specs.Texts.{expr_texts, expr_texts_step, element_texts_step, stmt_texts, stmt_texts_step, clause_texts_step}
+use Rattle.golf_code_of.specs.Texts.{expr_texts, expr_texts_step, element_texts_step, stmt_texts, stmt_texts_step}
+use Rattle.golf_code_of.specs.Texts.{clause_texts_step}
 
 abbrev pub element_texts : Element → Texts
 element_texts x = expr_texts x.value
@@ -33,15 +35,18 @@ element_texts x = expr_texts x.value
 unfoldable pub clause_texts : Clause → Texts
 clause_texts = fold-Clause Texts Texts clause_texts_step stmt_texts_step
 
-texts-rolls : (y : Expr-F Expr Element) → expr_texts (roll-Expr y) ≡ expr_texts_step (map-Expr Expr Element Texts Texts expr_texts (fold-Element Texts Texts expr_texts_step element_texts_step) y)
+texts-rolls : (y : Expr-F Expr Element) → expr_texts (roll-Expr y) ≡ expr_texts_step
+    (map-Expr Expr Element Texts Texts expr_texts (fold-Element Texts Texts expr_texts_step element_texts_step) y)
 unfolding expr_texts
 texts-rolls = fold-roll-Expr Texts Texts expr_texts_step element_texts_step
 
-stmt_texts-rolls : (y : Stmt-F Clause Stmt) → stmt_texts (roll-Stmt y) ≡ stmt_texts_step (map-Stmt Clause Stmt Texts Texts clause_texts stmt_texts y)
+stmt_texts-rolls : (y : Stmt-F Clause Stmt)
+    → stmt_texts (roll-Stmt y) ≡ stmt_texts_step (map-Stmt Clause Stmt Texts Texts clause_texts stmt_texts y)
 unfolding stmt_texts clause_texts
 stmt_texts-rolls = fold-roll-Stmt Texts Texts clause_texts_step stmt_texts_step
 
-clause_texts-rolls : (y : Clause-F Clause Stmt) → clause_texts (roll-Clause y) ≡ clause_texts_step (map-Clause Clause Stmt Texts Texts clause_texts stmt_texts y)
+clause_texts-rolls : (y : Clause-F Clause Stmt)
+    → clause_texts (roll-Clause y) ≡ clause_texts_step (map-Clause Clause Stmt Texts Texts clause_texts stmt_texts y)
 unfolding stmt_texts clause_texts
 clause_texts-rolls = fold-roll-Clause Texts Texts clause_texts_step stmt_texts_step
 
@@ -57,15 +62,20 @@ texts-Name n = ap expr_texts (sym (ex.rolls-Name n)) ∙ texts-rolls (E.Name n)
 pub texts-Parens : (e : Expr) → expr_texts (ex.Parens e) ≡ expr_texts_step (E.Parens (expr_texts e))
 texts-Parens e = ap expr_texts (sym (ex.rolls-Parens e)) ∙ texts-rolls (E.Parens e)
 
-pub texts-StructLiteral : (n : List ℕ) (xs : List Element) → expr_texts (ex.StructLiteral n xs) ≡ expr_texts_step (E.StructLiteral n (map element_texts xs))
+pub texts-StructLiteral : (n : List ℕ) (xs : List Element)
+    → expr_texts (ex.StructLiteral n xs) ≡ expr_texts_step (E.StructLiteral n (map element_texts xs))
 unfolding expr_texts
-texts-StructLiteral n xs = ap expr_texts (sym (ex.rolls-StructLiteral n xs)) ∙ texts-rolls (E.StructLiteral n xs) ∙ ap (λ ps. expr_texts_step (E.StructLiteral n ps)) (fold-elements Texts Texts expr_texts_step element_texts_step xs)
+texts-StructLiteral n xs = ap expr_texts (sym (ex.rolls-StructLiteral n xs)) ∙ texts-rolls (E.StructLiteral n xs)
+    ∙ ap (λ ps. expr_texts_step (E.StructLiteral n ps))
+    (fold-elements Texts Texts expr_texts_step element_texts_step xs)
 
 pub texts-SyncLiteral : (n : List ℕ) → expr_texts (ex.SyncLiteral n) ≡ expr_texts_step (E.SyncLiteral n)
 texts-SyncLiteral n = ap expr_texts (sym (ex.rolls-SyncLiteral n)) ∙ texts-rolls (E.SyncLiteral n)
 
-pub texts-SliceLiteral : (of_type : TypeExpr) (xs : List Expr) → expr_texts (ex.SliceLiteral of_type xs) ≡ expr_texts_step (E.SliceLiteral of_type (map expr_texts xs))
-texts-SliceLiteral of_type xs = ap expr_texts (sym (ex.rolls-SliceLiteral of_type xs)) ∙ texts-rolls (E.SliceLiteral of_type xs)
+pub texts-SliceLiteral : (of_type : TypeExpr) (xs : List Expr)
+    → expr_texts (ex.SliceLiteral of_type xs) ≡ expr_texts_step (E.SliceLiteral of_type (map expr_texts xs))
+texts-SliceLiteral of_type xs = ap expr_texts (sym (ex.rolls-SliceLiteral of_type xs))
+    ∙ texts-rolls (E.SliceLiteral of_type xs)
 
 pub texts-EmptyLiteral : expr_texts ex.EmptyLiteral ≡ expr_texts_step E.EmptyLiteral
 texts-EmptyLiteral = ap expr_texts (sym ex.rolls-EmptyLiteral) ∙ texts-rolls E.EmptyLiteral
@@ -73,7 +83,8 @@ texts-EmptyLiteral = ap expr_texts (sym ex.rolls-EmptyLiteral) ∙ texts-rolls E
 pub texts-Make : (of_type : TypeExpr) → expr_texts (ex.Make of_type) ≡ expr_texts_step (E.Make of_type)
 texts-Make of_type = ap expr_texts (sym (ex.rolls-Make of_type)) ∙ texts-rolls (E.Make of_type)
 
-pub texts-MakeSized : (of_type : TypeExpr) (e : Expr) → expr_texts (ex.MakeSized of_type e) ≡ expr_texts_step (E.MakeSized of_type (expr_texts e))
+pub texts-MakeSized : (of_type : TypeExpr) (e : Expr)
+    → expr_texts (ex.MakeSized of_type e) ≡ expr_texts_step (E.MakeSized of_type (expr_texts e))
 texts-MakeSized of_type e = ap expr_texts (sym (ex.rolls-MakeSized of_type e)) ∙ texts-rolls (E.MakeSized of_type e)
 
 pub texts-New : (n : List ℕ) → expr_texts (ex.New n) ≡ expr_texts_step (E.New n)
@@ -82,19 +93,24 @@ texts-New n = ap expr_texts (sym (ex.rolls-New n)) ∙ texts-rolls (E.New n)
 pub texts-NewSync : (n : List ℕ) → expr_texts (ex.NewSync n) ≡ expr_texts_step (E.NewSync n)
 texts-NewSync n = ap expr_texts (sym (ex.rolls-NewSync n)) ∙ texts-rolls (E.NewSync n)
 
-pub texts-Selector : (e : Expr) (n : List ℕ) → expr_texts (ex.Selector e n) ≡ expr_texts_step (E.Selector (expr_texts e) n)
+pub texts-Selector : (e : Expr) (n : List ℕ)
+    → expr_texts (ex.Selector e n) ≡ expr_texts_step (E.Selector (expr_texts e) n)
 texts-Selector e n = ap expr_texts (sym (ex.rolls-Selector e n)) ∙ texts-rolls (E.Selector e n)
 
-pub texts-Index : (a : Expr) (i : Expr) → expr_texts (ex.Index a i) ≡ expr_texts_step (E.Index (expr_texts a) (expr_texts i))
+pub texts-Index : (a : Expr) (i : Expr) → expr_texts (ex.Index a i) ≡ expr_texts_step
+    (E.Index (expr_texts a) (expr_texts i))
 texts-Index a i = ap expr_texts (sym (ex.rolls-Index a i)) ∙ texts-rolls (E.Index a i)
 
-pub texts-Call : (f : Expr) (xs : List Expr) → expr_texts (ex.Call f xs) ≡ expr_texts_step (E.Call (expr_texts f) (map expr_texts xs))
+pub texts-Call : (f : Expr) (xs : List Expr)
+    → expr_texts (ex.Call f xs) ≡ expr_texts_step (E.Call (expr_texts f) (map expr_texts xs))
 texts-Call f xs = ap expr_texts (sym (ex.rolls-Call f xs)) ∙ texts-rolls (E.Call f xs)
 
-pub texts-Unary : (o : UnaryOperator) (e : Expr) → expr_texts (ex.Unary o e) ≡ expr_texts_step (E.Unary o (expr_texts e))
+pub texts-Unary : (o : UnaryOperator) (e : Expr)
+    → expr_texts (ex.Unary o e) ≡ expr_texts_step (E.Unary o (expr_texts e))
 texts-Unary o e = ap expr_texts (sym (ex.rolls-Unary o e)) ∙ texts-rolls (E.Unary o e)
 
-pub texts-Binary : (o : BinaryOperator) (a : Expr) (b : Expr) → expr_texts (ex.Binary o a b) ≡ expr_texts_step (E.Binary o (expr_texts a) (expr_texts b))
+pub texts-Binary : (o : BinaryOperator) (a : Expr) (b : Expr)
+    → expr_texts (ex.Binary o a b) ≡ expr_texts_step (E.Binary o (expr_texts a) (expr_texts b))
 texts-Binary o a b = ap expr_texts (sym (ex.rolls-Binary o a b)) ∙ texts-rolls (E.Binary o a b)
 
 pub stmt_texts-Var : (v : Var) → stmt_texts (st.Var v) ≡ stmt_texts_step (F.Var v)
@@ -106,7 +122,8 @@ stmt_texts-Simple x = ap stmt_texts (sym (st.rolls-Simple x)) ∙ stmt_texts-rol
 pub stmt_texts-Go : (l : ℕ) (f : Expr) (xs : List Expr) → stmt_texts (st.Go l f xs) ≡ stmt_texts_step (F.Go l f xs)
 stmt_texts-Go l f xs = ap stmt_texts (sym (st.rolls-Go l f xs)) ∙ stmt_texts-rolls (F.Go l f xs)
 
-pub stmt_texts-Defer : (l : ℕ) (f : Expr) (xs : List Expr) → stmt_texts (st.Defer l f xs) ≡ stmt_texts_step (F.Defer l f xs)
+pub stmt_texts-Defer : (l : ℕ) (f : Expr) (xs : List Expr)
+    → stmt_texts (st.Defer l f xs) ≡ stmt_texts_step (F.Defer l f xs)
 stmt_texts-Defer l f xs = ap stmt_texts (sym (st.rolls-Defer l f xs)) ∙ stmt_texts-rolls (F.Defer l f xs)
 
 pub stmt_texts-Return : (l : ℕ) (e : Option Expr) → stmt_texts (st.Return l e) ≡ stmt_texts_step (F.Return l e)
@@ -118,25 +135,67 @@ stmt_texts-Break l = ap stmt_texts (sym (st.rolls-Break l)) ∙ stmt_texts-rolls
 pub stmt_texts-Continue : (l : ℕ) → stmt_texts (st.Continue l) ≡ stmt_texts_step (F.Continue l)
 stmt_texts-Continue l = ap stmt_texts (sym (st.rolls-Continue l)) ∙ stmt_texts-rolls (F.Continue l)
 
-pub stmt_texts-Block : (l : ℕ) (body : List Stmt) → stmt_texts (st.Block l body) ≡ stmt_texts_step (F.Block l (map stmt_texts body))
+pub stmt_texts-Block : (l : ℕ) (body : List Stmt)
+    → stmt_texts (st.Block l body) ≡ stmt_texts_step (F.Block l (map stmt_texts body))
 stmt_texts-Block l body = ap stmt_texts (sym (st.rolls-Block l body)) ∙ stmt_texts-rolls (F.Block l body)
 
-pub stmt_texts-If : (l : ℕ) (first : Option Simple) (test : Expr) (body : List Stmt) → stmt_texts (st.If l first test body) ≡ stmt_texts_step (F.If l first test (map stmt_texts body))
-stmt_texts-If l first test body = ap stmt_texts (sym (st.rolls-If l first test body)) ∙ stmt_texts-rolls (F.If l first test body)
+pub stmt_texts-If : (l : ℕ) (first : Option Simple) (test : Expr) (body : List Stmt)
+    → stmt_texts (st.If l first test body) ≡ stmt_texts_step (F.If l first test (map stmt_texts body))
+stmt_texts-If l first test body = ap stmt_texts (sym (st.rolls-If l first test body))
+    ∙ stmt_texts-rolls (F.If l first test body)
 
-pub stmt_texts-IfElse : (l : ℕ) (first : Option Simple) (test : Expr) (body : List Stmt) (otherwise : Stmt) → stmt_texts (st.IfElse l first test body otherwise) ≡ stmt_texts_step (F.IfElse l first test (map stmt_texts body) (stmt_texts otherwise))
-stmt_texts-IfElse l first test body otherwise = ap stmt_texts (sym (st.rolls-IfElse l first test body otherwise)) ∙ stmt_texts-rolls (F.IfElse l first test body otherwise)
+pub stmt_texts-IfElse : (l : ℕ) (first : Option Simple) (test : Expr) (body : List Stmt) (otherwise : Stmt)
+    → stmt_texts (st.IfElse l first test body otherwise) ≡ stmt_texts_step
+    (F.IfElse l first test (map stmt_texts body) (stmt_texts otherwise))
+stmt_texts-IfElse l first test body otherwise = ap stmt_texts (sym (st.rolls-IfElse l first test body otherwise))
+    ∙ stmt_texts-rolls (F.IfElse l first test body otherwise)
 
-pub stmt_texts-For : (l : ℕ) (h : Header) (body : List Stmt) → stmt_texts (st.For l h body) ≡ stmt_texts_step (F.For l h (map stmt_texts body))
+pub stmt_texts-For : (l : ℕ) (h : Header) (body : List Stmt)
+    → stmt_texts (st.For l h body) ≡ stmt_texts_step (F.For l h (map stmt_texts body))
 stmt_texts-For l h body = ap stmt_texts (sym (st.rolls-For l h body)) ∙ stmt_texts-rolls (F.For l h body)
 
-pub stmt_texts-Select : (l : ℕ) (cs : List Clause) → stmt_texts (st.Select l cs) ≡ stmt_texts_step (F.Select l (map clause_texts cs))
+pub stmt_texts-Select : (l : ℕ) (cs : List Clause)
+    → stmt_texts (st.Select l cs) ≡ stmt_texts_step (F.Select l (map clause_texts cs))
 stmt_texts-Select l cs = ap stmt_texts (sym (st.rolls-Select l cs)) ∙ stmt_texts-rolls (F.Select l cs)
 
-pub clause_texts-Case : (l : ℕ) (c : Communication) (body : List Stmt) → clause_texts (cl.Case l c body) ≡ clause_texts_step (F.Case l c (map stmt_texts body))
+pub clause_texts-Case : (l : ℕ) (c : Communication) (body : List Stmt)
+    → clause_texts (cl.Case l c body) ≡ clause_texts_step (F.Case l c (map stmt_texts body))
 clause_texts-Case l c body = ap clause_texts (sym (cl.rolls-Case l c body)) ∙ clause_texts-rolls (F.Case l c body)
 
-pub clause_texts-Default : (l : ℕ) (body : List Stmt) → clause_texts (cl.Default l body) ≡ clause_texts_step (F.Default l (map stmt_texts body))
+pub clause_texts-Default : (l : ℕ) (body : List Stmt)
+    → clause_texts (cl.Default l body) ≡ clause_texts_step (F.Default l (map stmt_texts body))
 clause_texts-Default l body = ap clause_texts (sym (cl.rolls-Default l body)) ∙ clause_texts-rolls (F.Default l body)
 
-pub ruleset text_equations = (texts-Integer, texts-Text, texts-Name, texts-Parens, texts-StructLiteral, texts-SyncLiteral, texts-SliceLiteral, texts-EmptyLiteral, texts-Make, texts-MakeSized, texts-New, texts-NewSync, texts-Selector, texts-Index, texts-Call, texts-Unary, texts-Binary, stmt_texts-Var, stmt_texts-Simple, stmt_texts-Go, stmt_texts-Defer, stmt_texts-Return, stmt_texts-Break, stmt_texts-Continue, stmt_texts-Block, stmt_texts-If, stmt_texts-IfElse, stmt_texts-For, stmt_texts-Select, clause_texts-Case, clause_texts-Default)
+pub ruleset text_equations = (
+  texts-Integer,
+  texts-Text,
+  texts-Name,
+  texts-Parens,
+  texts-StructLiteral,
+  texts-SyncLiteral,
+  texts-SliceLiteral,
+  texts-EmptyLiteral,
+  texts-Make,
+  texts-MakeSized,
+  texts-New,
+  texts-NewSync,
+  texts-Selector,
+  texts-Index,
+  texts-Call,
+  texts-Unary,
+  texts-Binary,
+  stmt_texts-Var,
+  stmt_texts-Simple,
+  stmt_texts-Go,
+  stmt_texts-Defer,
+  stmt_texts-Return,
+  stmt_texts-Break,
+  stmt_texts-Continue,
+  stmt_texts-Block,
+  stmt_texts-If,
+  stmt_texts-IfElse,
+  stmt_texts-For,
+  stmt_texts-Select,
+  clause_texts-Case,
+  clause_texts-Default,
+)

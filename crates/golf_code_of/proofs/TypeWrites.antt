@@ -41,4 +41,13 @@ write-ReceiveChan e = ap write (sym (ty.rolls-ReceiveChan e)) ∙ write-rolls (F
 pub write-EmptyStruct : write ty.EmptyStruct ≡ write_step F.EmptyStruct
 write-EmptyStruct = ap write (sym ty.rolls-EmptyStruct) ∙ write-rolls F.EmptyStruct
 
-pub ruleset written_types = (write-Named, write-Pointer, write-SyncPointer, write-Slice, write-Chan, write-SendChan, write-ReceiveChan, write-EmptyStruct)
+pub ruleset written_types = (
+  write-Named,
+  write-Pointer,
+  write-SyncPointer,
+  write-Slice,
+  write-Chan,
+  write-SendChan,
+  write-ReceiveChan,
+  write-EmptyStruct,
+)

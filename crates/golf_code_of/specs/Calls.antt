@@ -36,7 +36,8 @@ operation l built_in.WaitCondition n = op l Instr.CondWait
 operation l built_in.Signal n = op l Instr.CondSignal
 operation l built_in.Broadcast n = op l Instr.CondBroadcast
 
--- Function 0 of a code runs the initialisers, so that those of the file have numbers one higher. A method has its receiver as an argument more.
+-- Function 0 of a code runs the initialisers, so that those of the file have numbers one higher. A method has its
+-- receiver as an argument more.
 abbrev pub calling : ℕ → Operand → ℕ → Piece
 calling l (operand.Function k) n = op l (Instr.Call (k + 1) n)
 calling l (operand.Method k) n = op l (Instr.Call (k + 1) (n + 1))
@@ -63,7 +64,8 @@ finalising l _ = Piece.Empty
 
 -- receiver, arguments, and the call
 abbrev pub call : ℕ → Operand → Piece → List Argument → Made
-call l f receiver xs = only (cond (sets_finaliser f) (finalising l xs) (all (receiver ∷ pushes xs ∷ calling l f (length xs) ∷ [])))
+call l f receiver xs = only (cond (sets_finaliser f) (finalising l xs)
+    (all (receiver ∷ pushes xs ∷ calling l f (length xs) ∷ [])))
 
 -- Go and defer statements begin a function. For a built-in call one is made.
 

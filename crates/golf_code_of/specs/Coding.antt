@@ -1,7 +1,10 @@
 -- The code of an expression on a line, if these names are known: one equation a construct.
 use Rattle.std.specs.Prelude.{ℕ, pos, List, map}
 use Rattle.golf_syntax_trees.specs.declared.expressions.Expr.{Expr}
-use Rattle.golf_syntax_trees.specs.declared.expressions.Expr.TheOpen.{Expr-F, Element-F, Integer, Text, Name, Parens, StructLiteral, SyncLiteral, SliceLiteral, EmptyLiteral, Make, MakeSized, New, NewSync, Selector, Index, Call, Unary, Binary}
+use Rattle.golf_syntax_trees.specs.declared.expressions.Expr.TheOpen.{Expr-F, Element-F, Integer, Text, Name, Parens}
+use Rattle.golf_syntax_trees.specs.declared.expressions.Expr.TheOpen.{StructLiteral, SyncLiteral, SliceLiteral}
+use Rattle.golf_syntax_trees.specs.declared.expressions.Expr.TheOpen.{EmptyLiteral, Make, MakeSized, New, NewSync}
+use Rattle.golf_syntax_trees.specs.declared.expressions.Expr.TheOpen.{Selector, Index, Call, Unary, Binary}
 use Rattle.golf_syntax_trees.specs.declared.expressions.Expr.TheFolds.{fold-Expr, map-Expr}
 use Rattle.golf_data.specs.declared.code.Instr.{Instr}
 use Rattle.golf_check_types.specs.declared.types.Layer.TheVariants as layer
@@ -14,7 +17,8 @@ use Rattle.golf_check_types.specs.Judging.{Judge, Put, judge_step}
 use Rattle.golf_code_layout.specs.Piece.{Piece, op}
 use Rattle.golf_code_of.specs.Table.{text_number}
 use Rattle.golf_code_of.specs.declared.tables.Tables.{Tables}
-use Rattle.golf_code_of.specs.Expressions.{Made, only, name, struct_literal, new_struct, new_sync, slice_literal, made, made_sized, selector, index, unary_operator, binary_operator}
+use Rattle.golf_code_of.specs.Expressions.{Made, only, name, struct_literal, new_struct, new_sync, slice_literal, made}
+use Rattle.golf_code_of.specs.Expressions.{made_sized, selector, index, unary_operator, binary_operator}
 use Rattle.golf_code_of.specs.Calls.{Argument, call}
 
 -- an expression on a line, if these names are known: what it is, and its code
@@ -38,9 +42,11 @@ code_step t (Integer digits) l s = only (op l (Instr.Int (pos (value_from 0 digi
 code_step t (Text bytes) l s = only (op l (Instr.Text (text_number t.texts bytes)))
 code_step t (Name n) l s = name l t (named l s n).meaning
 code_step t (Parens e) l s = e.code l s
-code_step t (StructLiteral n xs) l s = struct_literal l s.file (pointer_to (meaning s n)) (map (λ x. x.name) xs) (map (λ x. (x.value.code l s).piece) xs)
+code_step t (StructLiteral n xs) l s = struct_literal l s.file (pointer_to (meaning s n)) (map (λ x. x.name) xs)
+    (map (λ x. (x.value.code l s).piece) xs)
 code_step t (SyncLiteral n) l s = new_sync l (made_base n)
-code_step t (SliceLiteral of_type xs) l s = slice_literal l (with_layer layer.Slice (write_at l s of_type).type) (map (λ x. (x.code l s).piece) xs)
+code_step t (SliceLiteral of_type xs) l s =
+    slice_literal l (with_layer layer.Slice (write_at l s of_type).type) (map (λ x. (x.code l s).piece) xs)
 code_step t EmptyLiteral l s = only (op l Instr.Unit)
 code_step t (Make of_type) l s = made l (write_at l s of_type).type
 code_step t (MakeSized of_type e) l s = made_sized l (write_at l s of_type).type (e.code l s).piece
@@ -54,7 +60,10 @@ code_step t (Binary o a b) l s = binary_operator l o (a.code l s).piece (b.code 
 
 -- what an expression is is judged beside its code, by the equations of the checker
 abbrev pub coded_step : Tables → Expr-F Coded CodedPut → Coded
-coded_step t y = record { judge = judge_step (map-Expr Coded CodedPut Judge Put (λ x. x.judge) put_judge y); code = code_step t y }
+coded_step t y = record {
+  judge = judge_step (map-Expr Coded CodedPut Judge Put (λ x. x.judge) put_judge y);
+  code = code_step t y;
+}
 
 abbrev pub element_coded_step : Element-F Coded CodedPut → CodedPut
 element_coded_step x = record { name = x.field; value = x.value }

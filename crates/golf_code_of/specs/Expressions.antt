@@ -18,8 +18,9 @@ use Rattle.golf_code_layout.specs.Piece.{Piece, all, op}
 use Rattle.golf_code_of.specs.declared.tables.Tables.{Tables}
 use Rattle.golf_code_of.specs.Values.{push, constant, makes}
 
--- The code of an expression: what pushes its value; what pushes the receiver, if it is a method. Where it stands on a left side,
--- `parts` pushes what tells its place, `twice` doubles that, `read` turns it into the value, and `store` takes it with a new value on top.
+-- The code of an expression: what pushes its value; what pushes the receiver, if it is a method. Where it stands on a
+-- left side, `parts` pushes what tells its place, `twice` doubles that, `read` turns it into the value, and `store`
+-- takes it with a new value on top.
 pub record Made : Type 0 where
   pub piece : Piece
   pub parts : Piece
@@ -32,9 +33,16 @@ abbrev pub only : Piece → Made
 only p = record { piece = p; parts = Piece.Empty; twice = Piece.Empty; read = Piece.Empty; store = Piece.Empty }
 
 abbrev pub in_place : Piece → Piece → Piece → Piece → Made
-in_place parts twice read store = record { piece = all (parts ∷ read ∷ []); parts = parts; twice = twice; read = read; store = store }
+in_place parts twice read store = record {
+  piece = all (parts ∷ read ∷ []);
+  parts = parts;
+  twice = twice;
+  read = read;
+  store = store;
+}
 
--- Names: a variable is loaded or stored, a constant, `true`, `false` and `nil` are pushed; what is put into `_` is dropped.
+-- Names: a variable is loaded or stored, a constant, `true`, `false` and `nil` are pushed; what is put into `_` is
+-- dropped.
 
 abbrev pub variable : ℕ → Where → Made
 variable l (place.Slot i) = in_place Piece.Empty Piece.Empty (op l (Instr.Load i)) (op l (Instr.Store i))
@@ -75,7 +83,8 @@ new_sync l _ = only Piece.Empty
 -- elements from this one on
 abbrev pub elements : ℕ → ℕ → List Piece → Piece
 elements l i [] = Piece.Empty
-elements l i (e ∷ es) = Piece.Then (all (op l Instr.Dup ∷ op l (Instr.Int (pos i)) ∷ e ∷ op l Instr.SetIndex ∷ [])) (elements l (i + 1) es)
+elements l i (e ∷ es) = Piece.Then (all (op l Instr.Dup ∷ op l (Instr.Int (pos i)) ∷ e ∷ op l Instr.SetIndex ∷ []))
+    (elements l (i + 1) es)
 
 -- `[]T{e, ..}`, if this is the type of the slice
 abbrev pub slice_literal : ℕ → Option GoType → List Piece → Made

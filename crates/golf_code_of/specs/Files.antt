@@ -1,6 +1,8 @@
--- The code of a file: function 0 runs the initialisers of the globals and calls `main`; the functions and methods of the file follow in
--- source order, and after them those that are made for `go` and `defer` (Go specification, "Package initialization", "Program execution"; profile).
-use Rattle.std.specs.Prelude.{ℕ, ◌+◌, Bool, false, is_some, List, [], ◌∷◌, ◌++◌, length, map, flat_map, cond, Option, Some, None, codes}
+-- The code of a file: function 0 runs the initialisers of the globals and calls `main`; the functions and methods of
+-- the file follow in source order, and after them those that are made for `go` and `defer` (Go specification, "Package
+-- initialization", "Program execution"; profile).
+use Rattle.std.specs.Prelude.{ℕ, ◌+◌, Bool, false, is_some, List, [], ◌∷◌, ◌++◌, length, map, flat_map, cond, Option}
+use Rattle.std.specs.Prelude.{Some, None, codes}
 use Rattle.golf_syntax_trees.specs.declared.statements.VarContent.{VarContent}
 use Rattle.golf_syntax_trees.specs.declared.statements.VarContent.TheVariants as content
 use Rattle.golf_syntax_trees.specs.declared.declarations.Const.{Const}
@@ -19,7 +21,8 @@ use Rattle.golf_check_types.specs.declared.scopes.FileScope.{FileScope}
 use Rattle.golf_check_types.specs.declared.scopes.Scope.{Scope}
 use Rattle.golf_check_types.specs.Scopes.{meaning_in}
 use Rattle.golf_check_types.specs.Statements.{behind}
-use Rattle.golf_check_types.specs.Files.{result_type, outside, body_scope, file_scope, with_imports, no_imports, declares_main, line_of}
+use Rattle.golf_check_types.specs.Files.{result_type, outside, body_scope, file_scope, with_imports, no_imports}
+use Rattle.golf_check_types.specs.Files.{declares_main, line_of}
 use Rattle.golf_code_layout.specs.Piece.{Piece, all, op, placed}
 use Rattle.golf_code_layout.specs.Depth.{depth}
 use Rattle.golf_live.specs.Live.{live}
@@ -34,7 +37,14 @@ use Rattle.golf_code_of.specs.Laying.{stmt_part}
 
 -- a function with this body and its masks, if these functions give a value
 abbrev pub function : List Bool → ℕ → ℕ → ℕ → Piece → Function
-function gives params slots line body = record { params = params; slots = slots; depth = depth gives body; line = line; body = placed body 0 []; live = live slots (placed body 0 []) }
+function gives params slots line body = record {
+  params = params;
+  slots = slots;
+  depth = depth gives body;
+  line = line;
+  body = placed body 0 [];
+  live = live slots (placed body 0 []);
+}
 
 -- Functions and methods of the file.
 
@@ -43,7 +53,8 @@ body_part t f = in_order (map (stmt_part t) f.body)
 
 -- the body of a function, if so many functions stand before the next one that is made
 abbrev pub body_laid : Tables → Scope → ℕ → Func → Laid
-body_laid t file functions f = (body_part t f).lay (record { breaks = 0; continues = 0; functions = functions }) (body_scope file f)
+body_laid t file functions f = (body_part t f).lay (record { breaks = 0; continues = 0; functions = functions })
+    (body_scope file f)
 
 -- how many slots were handed out where the body ends
 abbrev pub slots_of : Tables → Scope → Func → ℕ
@@ -55,7 +66,8 @@ last_return l None = op l Instr.Return
 last_return l (Some t) = all (op l (push (zero_value (Some t))) ∷ op l Instr.ReturnValue ∷ [])
 
 abbrev pub function_of : Tables → List Bool → Scope → Func → Piece → Function
-function_of t gives file f body = function gives (body_scope file f).next (slots_of t file f) f.line (all (body ∷ last_return f.line (result_type file f.result) ∷ []))
+function_of t gives file f body = function gives (body_scope file f).next (slots_of t file f) f.line
+    (all (body ∷ last_return f.line (result_type file f.result) ∷ []))
 
 -- functions in source order, and what is made for them
 pub record Functions : Type 0 where
@@ -80,7 +92,8 @@ loads l i [] = Piece.Empty
 loads l i (t ∷ ts) = Piece.Then (op l (Instr.Load i)) (loads l (i + 1) ts)
 
 abbrev pub made_body : Making → Piece
-made_body m = all (loads m.line 0 m.parameters ∷ operation m.line m.operation (length m.parameters) ∷ op m.line Instr.Return ∷ [])
+made_body m = all (loads m.line 0 m.parameters ∷ operation m.line m.operation (length m.parameters)
+    ∷ op m.line Instr.Return ∷ [])
 
 abbrev pub made_function : List Bool → Making → Function
 made_function gives m = function gives (length m.parameters) (length m.parameters) m.line (made_body m)
@@ -95,7 +108,8 @@ initial t s g l (content.Untyped e) = all (piece_at t l s e ∷ op l (Instr.Stor
 -- the initialisers in source order, if so many globals stand above
 abbrev pub initials : Tables → FileScope → ℕ → List Decl → Piece
 initials t f g [] = Piece.Empty
-initials t f g (d.Var v ∷ xs) = Piece.Then (initial t (record (outside f) { initialises = Some g }) g v.line v.content) (initials t f (g + 1) xs)
+initials t f g (d.Var v ∷ xs) = Piece.Then (initial t (record (outside f) { initialises = Some g }) g v.line v.content)
+    (initials t f (g + 1) xs)
 initials t f g (x ∷ xs) = initials t f g xs
 
 abbrev pub entry_body : Tables → FileScope → ℕ → ℕ → List Decl → Piece
@@ -132,7 +146,8 @@ abbrev pub code_in : Tables → FileScope → List Decl → Code
 code_in t f xs =
     let fs = functions_from t (giving f) (outside f) (length f.functions + 1) xs in
     record {
-      functions = function (giving f) 0 0 (main_line xs) (entry_body t f (main_number f) (main_line xs) xs) ∷ (fs.own ++ map (made_function (giving f)) fs.made);
+      functions = function (giving f) 0 0 (main_line xs) (entry_body t f (main_number f) (main_line xs) xs)
+          ∷ (fs.own ++ map (made_function (giving f)) fs.made);
       globals = map zero_value f.globals;
       structs = map (map zero_value) f.fields;
       texts = t.texts;
@@ -141,4 +156,5 @@ code_in t f xs =
 
 -- the code of a file
 unfoldable pub CodeOf : File → Code
-CodeOf file = code_in (tables_of file.declarations) (file_scope (with_imports no_imports file.imports) file.declarations) file.declarations
+CodeOf file = code_in (tables_of file.declarations)
+    (file_scope (with_imports no_imports file.imports) file.declarations) file.declarations

@@ -6,7 +6,8 @@ use Rattle.golf_syntax_trees.specs.declared.statements.Clause.TheOpen.{Stmt-F, C
 use Rattle.golf_syntax_trees.specs.declared.statements.Clause.TheFolds.{fold-Stmt, fold-Clause}
 use Rattle.golf_data.specs.declared.code.Instr.{Instr}
 use Rattle.golf_code_of.specs.declared.tables.Tables.{Tables}
-use Rattle.golf_code_of.specs.Statements.{Part, block, simple_part, var_part, begin_part, return_part, break_part, continue_part, if_part, else_part}
+use Rattle.golf_code_of.specs.Statements.{Part, block, simple_part, var_part, begin_part, return_part, break_part}
+use Rattle.golf_code_of.specs.Statements.{continue_part, if_part, else_part}
 use Rattle.golf_code_of.specs.Loops.{for_part}
 use Rattle.golf_code_of.specs.Selects.{ClausePart, case_clause, default_clause, select_part}
 

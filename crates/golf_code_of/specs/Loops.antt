@@ -1,4 +1,5 @@
--- The code of loops (Go specification, "For statements", "For statements with range clause", "Break statements", "Continue statements").
+-- The code of loops (Go specification, "For statements", "For statements with range clause", "Break statements",
+-- "Continue statements").
 use Rattle.std.specs.Prelude.{ℕ, ◌+◌, pos, true, cond, List, [], ◌∷◌, Option, Some, None}
 use Rattle.golf_syntax_trees.specs.declared.expressions.Expr.{Expr}
 use Rattle.golf_syntax_trees.specs.declared.statements.Simple.{Simple}
@@ -22,7 +23,11 @@ use Rattle.golf_code_of.specs.Statements.{Lay, Part, wrapped, past, then, in_blo
 
 -- inside of a loop, which `break` and `continue` leave by these targets
 abbrev pub in_loop : ℕ → ℕ → Part → Part
-in_loop breaks continues x = record { walk = W.looping x.walk; lay = λ a s. x.lay (record { breaks = breaks; continues = continues; functions = a.functions }) (record s { breaks = true; loops = true }) }
+in_loop breaks continues x = record {
+  walk = W.looping x.walk;
+  lay = λ a s. x.lay (record { breaks = breaks; continues = continues; functions = a.functions })
+      (record s { breaks = true; loops = true });
+}
 
 -- Around a loop stand its end and its beginning: seen from the inside, target 0 is the beginning and target 1 the end.
 abbrev pub round : Piece → Piece
@@ -30,11 +35,18 @@ round p = Piece.Block (Piece.Again p)
 
 -- `for { }`
 abbrev pub forever : ℕ → Part → Part
-forever l body = record { walk = body.walk; lay = λ a s. wrapped (λ p. round (all (p ∷ Piece.Exit l 0 ∷ []))) (body.lay a s) }
+forever l body = record {
+  walk = body.walk;
+  lay = λ a s. wrapped (λ p. round (all (p ∷ Piece.Exit l 0 ∷ []))) (body.lay a s);
+}
 
 -- `for test { }`
 abbrev pub while : Tables → ℕ → Expr → Part → Part
-while t l test body = record { walk = W.behind_test l test body.walk; lay = λ a s. wrapped (λ p. round (all (piece_at t l s test ∷ Piece.Unless l 1 ∷ p ∷ Piece.Exit l 0 ∷ []))) (body.lay a s) }
+while t l test body = record {
+  walk = W.behind_test l test body.walk;
+  lay = λ a s. wrapped (λ p. round (all (piece_at t l s test ∷ Piece.Unless l 1 ∷ p ∷ Piece.Exit l 0 ∷ [])))
+      (body.lay a s);
+}
 
 -- `for first; test; post { }`: the body is in a block of its own, whose end stands before the post statement
 
@@ -45,32 +57,41 @@ optional_test t l (Some e) s = all (piece_at t l s e ∷ Piece.Unless l 1 ∷ []
 abbrev pub steps_lay : Tables → ℕ → Option Expr → Part → Part → Lay
 steps_lay t l test post body a s =
     let p = post.lay a s in
-    wrapped (λ b. round (all (optional_test t l test s ∷ Piece.Block b ∷ p.piece ∷ Piece.Exit l 0 ∷ []))) (body.lay (past a p) (behind s (post.walk s)))
+    wrapped (λ b. round (all (optional_test t l test s ∷ Piece.Block b ∷ p.piece ∷ Piece.Exit l 0 ∷ [])))
+    (body.lay (past a p) (behind s (post.walk s)))
 
 abbrev pub stepping : Tables → ℕ → Option Expr → Part → Part → Part
-stepping t l test post body = record { walk = W.behind_optional l test (W.then (W.counted post.walk) body.walk); lay = steps_lay t l test post body }
+stepping t l test post body = record {
+  walk = W.behind_optional l test (W.then (W.counted post.walk) body.walk);
+  lay = steps_lay t l test post body;
+}
 
 abbrev pub steps : Tables → ℕ → Option Simple → Option Expr → Option Simple → List Part → Part
-steps t l first test post body = then (optional t first) (stepping t l test (optional t post) (in_loop 2 0 (block body)))
+steps t l first test post body = then (optional t first)
+    (stepping t l test (optional t post) (in_loop 2 0 (block body)))
 
 -- Range. The hidden slots of a slice have the slice, its length and the next index; that of a channel has the channel.
 
 -- the names of a range over a slice: the index, and the element; `_` has neither slot nor code
 abbrev pub slice_names : ℕ → ℕ → RangeNames → Scope → Piece
 slice_names l h range.Neither s = Piece.Empty
-slice_names l h (range.One n) s = cond (is_blank n) Piece.Empty (all (op l (Instr.Load (h + 2)) ∷ op l (Instr.Store s.next) ∷ []))
+slice_names l h (range.One n) s = cond (is_blank n) Piece.Empty
+    (all (op l (Instr.Load (h + 2)) ∷ op l (Instr.Store s.next) ∷ []))
 slice_names l h (range.Two n m) s = all (
     cond (is_blank n) Piece.Empty (all (op l (Instr.Load (h + 2)) ∷ op l (Instr.Store s.next) ∷ []))
-    ∷ cond (is_blank m) Piece.Empty (all (op l (Instr.Load h) ∷ op l (Instr.Load (h + 2)) ∷ op l Instr.Index ∷ op l (Instr.Store (behind s (range_name n int_type s)).next) ∷ []))
+    ∷ cond (is_blank m) Piece.Empty (all (op l (Instr.Load h) ∷ op l (Instr.Load (h + 2)) ∷ op l Instr.Index
+    ∷ op l (Instr.Store (behind s (range_name n int_type s)).next) ∷ []))
     ∷ [])
 
 abbrev pub over_slice : ℕ → ℕ → Piece → Piece → Piece → Piece
 over_slice l h e names body = all (
-    e ∷ op l (Instr.Store h) ∷ op l (Instr.Load h) ∷ op l Instr.Len ∷ op l (Instr.Store (h + 1)) ∷ op l (Instr.Int (pos 0)) ∷ op l (Instr.Store (h + 2))
+    e ∷ op l (Instr.Store h) ∷ op l (Instr.Load h) ∷ op l Instr.Len ∷ op l (Instr.Store (h + 1))
+    ∷ op l (Instr.Int (pos 0)) ∷ op l (Instr.Store (h + 2))
     ∷ round (all (
     op l (Instr.Load (h + 2)) ∷ op l (Instr.Load (h + 1)) ∷ op l Instr.Less ∷ Piece.Unless l 1
     ∷ names ∷ Piece.Block body
-    ∷ op l (Instr.Load (h + 2)) ∷ op l (Instr.Int (pos 1)) ∷ op l Instr.Add ∷ op l (Instr.Store (h + 2)) ∷ Piece.Exit l 0 ∷ []))
+    ∷ op l (Instr.Load (h + 2)) ∷ op l (Instr.Int (pos 1)) ∷ op l Instr.Add ∷ op l (Instr.Store (h + 2))
+    ∷ Piece.Exit l 0 ∷ []))
     ∷ [])
 
 -- the name of a range over a channel: what was received is stored, or dropped
@@ -78,7 +99,8 @@ abbrev pub channel_name : ℕ → RangeNames → Scope → Piece
 channel_name l (range.One n) s = cond (is_blank n) (op l Instr.Drop) (op l (Instr.Store s.next))
 channel_name l _ s = op l Instr.Drop
 
--- What a closed channel gives stands on top where the loop ends, and is dropped there: seen from the loop, target 1 is before that and target 2 after.
+-- What a closed channel gives stands on top where the loop ends, and is dropped there: seen from the loop, target 1 is
+-- before that and target 2 after.
 abbrev pub over_channel : ℕ → ℕ → Piece → Piece → Piece → Piece
 over_channel l h e name body = all (
     e ∷ op l (Instr.Store h)
@@ -102,7 +124,12 @@ range_lay t l names e body a s =
     wrapped (range_piece l names v (piece_at t l s e) s) (body.lay a (behind s (W.range_slots names v s)))
 
 abbrev pub ranging : Tables → ℕ → RangeNames → Expr → List Part → Part
-ranging t l names e body = record { walk = λ s. W.both (W.range_head l names e s) (W.then (W.range_slots names (given_by (judge_at l s e))) (in_loop 2 0 (block body)).walk s); lay = range_lay t l names e (in_loop 2 0 (block body)) }
+ranging t l names e body = record {
+  walk = λ s. W.both (W.range_head l names e s)
+      (W.then (W.range_slots names (given_by (judge_at l s e))) (in_loop 2 0 (block body)).walk s);
+  lay =
+      range_lay t l names e (in_loop 2 0 (block body));
+}
 
 abbrev pub header_part : Tables → ℕ → Header → List Part → Part
 header_part t l header.Forever body = forever l (in_loop 1 0 (block body))

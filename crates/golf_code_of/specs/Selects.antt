@@ -1,4 +1,5 @@
--- The code of `select` (Go specification, "Select statements"). The operands and the choice are on the line of `select`, the rest of a clause on its own.
+-- The code of `select` (Go specification, "Select statements"). The operands and the choice are on the line of
+-- `select`, the rest of a clause on its own.
 use Rattle.std.specs.Prelude.{ℕ, ◌+◌, true, List, [], ◌∷◌, ◌++◌, length, map, Option, Some, None}
 use Rattle.golf_syntax_trees.specs.declared.statements.Communication.{Communication}
 use Rattle.golf_syntax_trees.specs.declared.statements.Communication.TheVariants as comm
@@ -15,8 +16,8 @@ use Rattle.golf_code_of.specs.Coding.{piece_at}
 use Rattle.golf_code_of.specs.declared.making.Around.{Around}
 use Rattle.golf_code_of.specs.Statements.{Lay, Part, laid, wrapped, past, then_lay, in_order, stores_name, stores_pair}
 
--- A clause: its walk, what it communicates, none for `default`, and what pushes its operands, each on the line of `select`; then the
--- code after the choice, and its own line.
+-- A clause: its walk, what it communicates, none for `default`, and what pushes its operands, each on the line of
+-- `select`; then the code after the choice, and its own line.
 pub record ClausePart : Type 0 where
   pub walk : ℕ → Walk
   pub kind : Option CaseKind
@@ -57,7 +58,8 @@ abbrev pub communication : Tables → ℕ → ℕ → Communication → Part
 communication t l k c = record { walk = W.communication l k c; lay = λ a s. laid (takes_in t l k c s) }
 
 abbrev pub case_lay : Tables → ℕ → ℕ → Communication → List Part → Lay
-case_lay t l k c body a s = then_lay (communication t l k c).lay (communication t l k c).walk (breaking (in_order body)).lay a (begun s)
+case_lay t l k c body a s = then_lay (communication t l k c).lay (communication t l k c).walk
+    (breaking (in_order body)).lay a (begun s)
 
 abbrev pub case_clause : Tables → ℕ → Communication → List Part → ClausePart
 case_clause t k c body = record {
@@ -103,13 +105,18 @@ choice l cs s = all (all (map (λ c. c.operands l s) cs) ∷ Piece.Choose l (cas
 abbrev pub in_clause : ℕ → Around → Around
 in_clause later a = record { breaks = later; continues = a.continues + (later + 1); functions = a.functions }
 
--- Clauses after p, in which the first of them begins at target 0: each begins at the end of what stands before it, and leads to the end of all.
+-- Clauses after p, in which the first of them begins at target 0: each begins at the end of what stands before it, and
+-- leads to the end of all.
 abbrev pub clauses_lay : ℕ → Piece → List ClausePart → Lay
 clauses_lay l p [] a s = laid p
 clauses_lay l p (c ∷ cs) a s =
     let x = c.lay l (in_clause (length cs) a) s in
-    let rest = clauses_lay l (all (Piece.Block p ∷ x.piece ∷ Piece.Exit c.line (length cs) ∷ [])) cs (past a x) (behind s (c.walk l s)) in
+    let rest = clauses_lay l (all (Piece.Block p ∷ x.piece ∷ Piece.Exit c.line (length cs) ∷ [])) cs (past a x)
+    (behind s (c.walk l s)) in
     record { piece = rest.piece; made = x.made ++ rest.made }
 
 abbrev pub select_part : ℕ → List ClausePart → Part
-select_part l cs = record { walk = W.in_order (map (λ c. c.walk l) cs); lay = λ a s. wrapped Piece.Block (clauses_lay l (choice l cs s) cs a s) }
+select_part l cs = record {
+  walk = W.in_order (map (λ c. c.walk l) cs);
+  lay = λ a s. wrapped Piece.Block (clauses_lay l (choice l cs s) cs a s);
+}

@@ -102,7 +102,8 @@ stores_new l t s at n = cond (is_new s n) (op l (Instr.Store at.next)) (stores_n
 
 -- the value and then `ok` are received; `ok` stands on top, so that it is stored first
 abbrev pub stores_pair : ℕ → Tables → Scope → List ℕ → List ℕ → Option GoType → Piece
-stores_pair l t s n m of_type = all (stores_new l t s (behind s (one_new (is_new s n) n of_type s)) m ∷ stores_new l t s s n ∷ [])
+stores_pair l t s n m of_type = all (stores_new l t s (behind s (one_new (is_new s n) n of_type s)) m
+    ∷ stores_new l t s s n ∷ [])
 
 -- Simple statements.
 
@@ -133,8 +134,10 @@ simple_piece t l (simple.Decrement p) s = updates l (code_at t l s p) (op l (Ins
 simple_piece t l (simple.Assign p e) s = assigns (code_at t l s p) (piece_at t l s e)
 simple_piece t l (simple.Update p o e) s = updates l (code_at t l s p) (piece_at t l s e) (update_instr o)
 simple_piece t l (simple.Define n e) s = all (piece_at t l s e ∷ op l (Instr.Store s.next) ∷ [])
-simple_piece t l (simple.DefineReceived n m e) s = all (piece_at t l s e ∷ op l Instr.ReceiveOk ∷ stores_pair l t s n m (carried l e s) ∷ [])
-simple_piece t l (simple.AssignReceived n m e) s = all (piece_at t l s e ∷ op l Instr.ReceiveOk ∷ stores_name l t s m ∷ stores_name l t s n ∷ [])
+simple_piece t l (simple.DefineReceived n m e) s =
+    all (piece_at t l s e ∷ op l Instr.ReceiveOk ∷ stores_pair l t s n m (carried l e s) ∷ [])
+simple_piece t l (simple.AssignReceived n m e) s =
+    all (piece_at t l s e ∷ op l Instr.ReceiveOk ∷ stores_name l t s m ∷ stores_name l t s n ∷ [])
 
 abbrev pub simple_part : Tables → Simple → Part
 simple_part t x = record { walk = W.simple_walk x; lay = λ a s. laid (simple_piece t x.line x.kind s) }
@@ -151,12 +154,16 @@ first_value t l (content.Typed of_type e) s = piece_at t l s e
 first_value t l (content.Untyped e) s = piece_at t l s e
 
 abbrev pub var_part : Tables → ℕ → List ℕ → VarContent → Part
-var_part t l n x = record { walk = W.var_content l n x; lay = λ a s. laid (all (first_value t l x s ∷ op l (Instr.Store s.next) ∷ [])) }
+var_part t l n x = record {
+  walk = W.var_content l n x;
+  lay = λ a s. laid (all (first_value t l x s ∷ op l (Instr.Store s.next) ∷ []));
+}
 
 -- Go and defer statements: receiver and arguments are evaluated now.
 abbrev pub begin_lay : Tables → ℕ → (ℕ → ℕ → Instr) → Expr → List Expr → Lay
 begin_lay t l begin f xs a s = record {
-  piece = all (piece_at t l s f ∷ pushes (map (argument_at t l s) xs) ∷ beginning l begin a.functions (judge_at l s f).meaning (map (argument_at t l s) xs) ∷ []);
+  piece = all (piece_at t l s f ∷ pushes (map (argument_at t l s) xs)
+      ∷ beginning l begin a.functions (judge_at l s f).meaning (map (argument_at t l s) xs) ∷ []);
   made = makings l (judge_at l s f).meaning (map (argument_at t l s) xs);
 }
 
@@ -182,7 +189,10 @@ continue_part l = record { walk = W.continue_walk l; lay = λ a s. laid (Piece.E
 
 -- a condition, and what stands after it; if it is false, it goes on at target 0
 abbrev pub behind_test : Tables → ℕ → Expr → Part → Part
-behind_test t l test x = record { walk = W.behind_test l test x.walk; lay = λ a s. wrapped (λ p. all (piece_at t l s test ∷ Piece.Unless l 0 ∷ p ∷ [])) (x.lay a s) }
+behind_test t l test x = record {
+  walk = W.behind_test l test x.walk;
+  lay = λ a s. wrapped (λ p. all (piece_at t l s test ∷ Piece.Unless l 0 ∷ p ∷ [])) (x.lay a s);
+}
 
 abbrev pub then_part : Tables → ℕ → Option Simple → Expr → List Part → Part
 then_part t l first test body = then (optional t first) (behind_test t l test (block body))
@@ -196,7 +206,10 @@ abbrev pub or_else_lay : ℕ → Part → Part → Lay
 or_else_lay l x y a s =
     let first = x.lay (within 2 a) s in
     let second = y.lay (within 1 (past a first)) (behind s (x.walk s)) in
-    record { piece = Piece.Block (all (Piece.Block (all (first.piece ∷ Piece.Exit l 1 ∷ [])) ∷ second.piece ∷ [])); made = first.made ++ second.made }
+    record {
+      piece = Piece.Block (all (Piece.Block (all (first.piece ∷ Piece.Exit l 1 ∷ [])) ∷ second.piece ∷ []));
+      made = first.made ++ second.made;
+    }
 
 abbrev pub or_else : ℕ → Part → Part → Part
 or_else l x y = record { walk = W.then x.walk y.walk; lay = or_else_lay l x y }

@@ -1,4 +1,5 @@
--- The texts of a file: the empty one, and then each different one in the order of first appearance (Go specification, "String literals"; profile).
+-- The texts of a file: the empty one, and then each different one in the order of first appearance (Go specification,
+-- "String literals"; profile).
 use Rattle.std.specs.Prelude.{flat_map, List, [], ◌∷◌, ◌++◌, Option, Some, None}
 use Rattle.golf_syntax_trees.specs.declared.expressions.Expr.{Expr}
 use Rattle.golf_syntax_trees.specs.declared.expressions.Expr.TheOpen as E
@@ -77,7 +78,8 @@ content_texts (content.Untyped e) = expr_texts e
 abbrev pub header_texts : Header → Texts
 header_texts header.Forever = []
 header_texts (header.While e) = expr_texts e
-header_texts (header.Steps first test post) = optional_simple_texts first ++ (optional_texts expr_texts test ++ optional_simple_texts post)
+header_texts (header.Steps first test post) = optional_simple_texts first
+    ++ (optional_texts expr_texts test ++ optional_simple_texts post)
 header_texts (header.Range names e) = expr_texts e
 
 abbrev pub comm_texts : Communication → Texts
@@ -104,7 +106,8 @@ stmt_texts_step (S.Break l) = []
 stmt_texts_step (S.Continue l) = []
 stmt_texts_step (S.Block l body) = joined body
 stmt_texts_step (S.If l first test body) = optional_simple_texts first ++ (expr_texts test ++ joined body)
-stmt_texts_step (S.IfElse l first test body otherwise) = optional_simple_texts first ++ (expr_texts test ++ (joined body ++ otherwise))
+stmt_texts_step (S.IfElse l first test body otherwise) = optional_simple_texts first
+    ++ (expr_texts test ++ (joined body ++ otherwise))
 stmt_texts_step (S.For l h body) = header_texts h ++ joined body
 stmt_texts_step (S.Select l clauses) = joined clauses
 

@@ -1,7 +1,8 @@
 -- Bytes have at most two tokens for each of them: one for each lexeme that is a token, and a semicolon after it.
 -- For: `tokens_are_few`, src/lib.rt
 -- By: induction over the lists of lexemes, of items and of tokens
-use Rattle.std.proofs.Common.{◌≡◌, ℕ, suc, ◌+◌, ◌*◌, ◌<◌, ◌≤◌, Bool, true, false, cond, List, [], ◌∷◌, ◌++◌, length, refl, ap, arith, length-append}
+use Rattle.std.proofs.Common.{◌≡◌, ℕ, suc, ◌+◌, ◌*◌, ◌<◌, ◌≤◌, Bool, true, false, cond, List, [], ◌∷◌, ◌++◌, length}
+use Rattle.std.proofs.Common.{refl, ap, arith, length-append}
 use Rattle.std.specs.Prelude.{◌&&◌, nat_eq, codes}
 use Rattle.golf_lex_tokens.specs.declared.token.Token.{Token}
 use Rattle.golf_lex_tokens.specs.declared.token.TokenKind.{TokenKind}
@@ -14,7 +15,8 @@ use Rattle.golf_lex_tokens.specs.Bytes.{newlines}
 use Rattle.golf_lex_tokens.specs.Spelling.{keyword_text, punctuation_text, is_word, is_integer, parts_text, Spells}
 use Rattle.golf_lex_tokens.specs.Lexemes.{Class, Lexeme, lexemes_text, Forms, Cut}
 use Rattle.golf_lex_tokens.specs.Lexemes as class
-use Rattle.golf_lex_tokens.specs.Semicolons.{Item, newline_in, lexeme_items, items, may_end, line_ends, semicolon, semicolon_behind, inserted, is_separator, closes, without_optional}
+use Rattle.golf_lex_tokens.specs.Semicolons.{Item, newline_in, lexeme_items, items, may_end, line_ends, semicolon}
+use Rattle.golf_lex_tokens.specs.Semicolons.{semicolon_behind, inserted, is_separator, closes, without_optional}
 use Rattle.golf_lex_tokens.specs.Semicolons as item
 use Rattle.golf_code_places.specs.Laws.{TokensAreFew}
 
@@ -94,8 +96,10 @@ integer-bytes (b ∷ bs) h = omega arith
 
 token-bytes : (k : TokenKind) (bytes : List ℕ) → Spells k bytes → 0 < length bytes
 token-bytes (kinds.Name n) bytes h = let e = ap length h.spelled in let i = word-bytes n h.word in omega (arith, e, i)
-token-bytes (kinds.Integer digits) bytes h = let e = ap length h.0 in let i = integer-bytes digits h.1 in omega (arith, e, i)
-token-bytes (kinds.Text content) bytes h = let e = ap length h.spelled in let f = length-append (codes "\"") (parts_text h.parts ++ codes "\"") in omega (arith, e, f)
+token-bytes (kinds.Integer digits) bytes h = let e = ap length h.0 in let i =
+    integer-bytes digits h.1 in omega (arith, e, i)
+token-bytes (kinds.Text content) bytes h = let e = ap length h.spelled in let f =
+    length-append (codes "\"") (parts_text h.parts ++ codes "\"") in omega (arith, e, f)
 token-bytes (kinds.Keyword k) bytes h = let e = ap length h in let i = keyword-bytes k in omega (arith, e, i)
 token-bytes (kinds.Punctuation m) bytes h = let e = ap length h in let i = punctuation-bytes m in omega (arith, e, i)
 
@@ -157,7 +161,8 @@ without-fewer : (ts : List Token) → length (without_optional ts) ≤ length ts
 without-fewer [] = omega arith
 without-fewer (t ∷ ts) = few (is_separator t.kind && closes ts) (without-fewer ts)
   where
-    few : (b : Bool) → length (without_optional ts) ≤ length ts → length (cond b (without_optional ts) (t ∷ without_optional ts)) ≤ suc (length ts)
+    few : (b : Bool) → length (without_optional ts) ≤ length ts
+        → length (cond b (without_optional ts) (t ∷ without_optional ts)) ≤ suc (length ts)
     few true h = omega arith
     few false h = omega arith
 

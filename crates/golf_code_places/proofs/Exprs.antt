@@ -1,16 +1,19 @@
 -- The code of every expression is small beside its words: one step for each kind of expression.
 -- For: `bodies_are_small`, src/lib.rt
 -- By: induction over the tree of an expression
-use Rattle.std.proofs.Common.{◌≡◌, ℕ, ◌*◌, ◌≤◌, List, [], ◌∷◌, ◌++◌, length, map, refl, sym, ap, subst, arith, length-append}
+use Rattle.std.proofs.Common.{◌≡◌, ℕ, ◌*◌, ◌≤◌, List, [], ◌∷◌, ◌++◌, length, map, refl, sym, ap, subst, arith}
+use Rattle.std.proofs.Common.{length-append}
 use Rattle.golf_lex_tokens.specs.declared.token.Punctuation.TheVariants as punctuations
 use Rattle.golf_syntax_trees.specs.declared.expressions.Expr.{Expr, roll-Expr}
 use Rattle.golf_syntax_trees.specs.declared.expressions.Element.{Element}
 use Rattle.golf_syntax_trees.specs.declared.expressions.Expr.TheOpen as F
 use Rattle.golf_syntax_trees.specs.declared.expressions.Expr.TheFolds.{fold-roll-Expr, map-Expr}
-use Rattle.golf_syntax_induction.proofs.Expressions.{KnownExpr, KnownElement, bare_exprs, bare_elements, ExprLayer, bare_expr, every-expr, fold-element}
+use Rattle.golf_syntax_trees.proofs.ExpressionInduction.{KnownExpr, KnownElement, bare_exprs, bare_elements, ExprLayer}
+use Rattle.golf_syntax_trees.proofs.ExpressionInduction.{bare_expr, every-expr, fold-element}
 use Rattle.golf_syntax_trees.specs.Words.{Word, punctuation, separated, name as word_name}
 use Rattle.golf_syntax_trees.specs.Types.{print_type}
-use Rattle.golf_syntax_trees.specs.Expressions.{binary_punctuation, print_step, print_element_step, print_expr, print_element}
+use Rattle.golf_syntax_trees.specs.Expressions.{binary_punctuation, print_step, print_element_step, print_expr}
+use Rattle.golf_syntax_trees.specs.Expressions.{print_element}
 use Rattle.golf_check_types.specs.declared.types.Layer.TheVariants as layer
 use Rattle.golf_check_types.specs.declared.scopes.Scope.{Scope}
 use Rattle.golf_check_types.specs.Types.{with_layer}
@@ -23,13 +26,15 @@ use Rattle.golf_code_of.specs.Calls.{Argument}
 use Rattle.golf_code_of.specs.Coding.{Coded, CodedPut, coded, argument}
 use Rattle.golf_code_of.proofs.ExprCodes.{element_coded, element-coded-is, coded_layer, coded-rolls}
 use Rattle.golf_code_places.proofs.Words.{total, separated-length}
-use Rattle.golf_code_places.proofs.Small.{Small, alone, on-name, Beside, all-small, on-struct-literal, on-slice-literal, on-new-sync, on-selector, on-index, on-unary, on-binary, on-call}
+use Rattle.golf_code_places.proofs.Small.{Small, alone, on-name, Beside, all-small, on-struct-literal, on-slice-literal}
+use Rattle.golf_code_places.proofs.Small.{on-new-sync, on-selector, on-index, on-unary, on-binary, on-call}
 
 module _ (t : Tables) where
   abbrev P : Expr → Type 0
   P e = (l : ℕ) (s : Scope) → Small (length (print_expr e)) ((coded t e).code l s)
 
-  element-print-is : (x : Element) → print_element x ≡ print_element_step (record { field = x.field; value = print_expr x.value })
+  element-print-is : (x : Element) → print_element x ≡ print_element_step
+      (record { field = x.field; value = print_expr x.value })
   element-print-is = fold-element (List Word) (List Word) print_step print_element_step
 
   module _ (l : ℕ) (s : Scope) where
@@ -43,7 +48,8 @@ module _ (t : Tables) where
     beside [] = tt
     beside (x ∷ xs) = ((x.1 l s).piece, beside xs)
 
-    pushed-are : (xs : List (KnownExpr P)) → map (λ (a : Argument). a.piece) (map (argument l s) (map (coded t) (bare_exprs P xs))) ≡ pieces xs
+    pushed-are : (xs : List (KnownExpr P))
+        → map (λ (a : Argument). a.piece) (map (argument l s) (map (coded t) (bare_exprs P xs))) ≡ pieces xs
     pushed-are [] = refl
     pushed-are (x ∷ xs) = ap (λ ps. ((coded t x.0).code l s).piece ∷ ps) (pushed-are xs)
 
@@ -61,7 +67,9 @@ module _ (t : Tables) where
         let code = ap (λ (c : CodedPut). size (c.value.code l s).piece) (element-coded-is t x.0) in
         (omega (arith, one, print, code), element-beside xs)
 
-    at : (y : ExprLayer P) → Small (length (print_step (map-Expr Expr Element (List Word) (List Word) print_expr print_element (bare_expr P y)))) ((coded_layer t (bare_expr P y)).code l s)
+    at : (y : ExprLayer P) → Small (length
+        (print_step (map-Expr Expr Element (List Word) (List Word) print_expr print_element (bare_expr P y))))
+        ((coded_layer t (bare_expr P y)).code l s)
     at (F.Integer digits) = alone _ _ (omega arith)
     at (F.Text bytes) = alone _ _ (omega arith)
     at (F.Name n) = on-name l t (named l s n).meaning
@@ -71,34 +79,50 @@ module _ (t : Tables) where
         record { piece = omega (arith, h.piece, w); place = omega (arith, h.place, w) }
     at (F.StructLiteral n xs) =
         let few = separated-length punctuations.Comma (element-words xs) in
-        let w = length-append (separated punctuations.Comma (element-words xs)) (punctuation punctuations.CloseBrace ∷ []) in
-        on-struct-literal l s.file (pointer_to (meaning s n)) _ (element-pieces xs) (element-words xs) _ (element-beside xs) (omega (arith, few, w))
+        let w = length-append (separated punctuations.Comma (element-words xs))
+        (punctuation punctuations.CloseBrace ∷ []) in
+        on-struct-literal l s.file (pointer_to (meaning s n)) _ (element-pieces xs) (element-words xs) _
+        (element-beside xs) (omega (arith, few, w))
     at (F.SyncLiteral n) = on-new-sync l (made_base n) _ (omega arith)
     at (F.SliceLiteral w xs) =
         let few = separated-length punctuations.Comma (words xs) in
-        let behind = length-append (separated punctuations.Comma (words xs)) (punctuation punctuations.CloseBrace ∷ []) in
-        let type = length-append (print_type w) (punctuation punctuations.OpenBrace ∷ (separated punctuations.Comma (words xs) ++ punctuation punctuations.CloseBrace ∷ [])) in
-        on-slice-literal l (with_layer layer.Slice (write_at l s w).type) (pieces xs) (words xs) _ (beside xs) (omega (arith, few, behind, type))
+        let behind = length-append (separated punctuations.Comma (words xs))
+        (punctuation punctuations.CloseBrace ∷ []) in
+        let type = length-append (print_type w)
+        (punctuation punctuations.OpenBrace ∷ (separated punctuations.Comma (words xs)
+        ++ punctuation punctuations.CloseBrace ∷ [])) in
+        on-slice-literal l (with_layer layer.Slice (write_at l s w).type) (pieces xs) (words xs) _ (beside xs)
+        (omega (arith, few, behind, type))
     at F.EmptyLiteral = alone _ _ (omega arith)
     at (F.Make w) = alone _ _ (omega arith)
     at (F.MakeSized w e) =
         let h = (e.1 l s).piece in
         let inner = length-append (print_type w) (punctuation punctuations.Comma ∷ print_expr e.0) in
-        let whole = length-append (print_type w ++ punctuation punctuations.Comma ∷ print_expr e.0) (punctuation punctuations.CloseParen ∷ []) in
+        let whole = length-append (print_type w ++ punctuation punctuations.Comma ∷ print_expr e.0)
+        (punctuation punctuations.CloseParen ∷ []) in
         alone _ _ (omega (arith, h, inner, whole))
     at (F.New n) = alone _ _ (omega arith)
     at (F.NewSync n) = on-new-sync l (made_base n) _ (omega arith)
-    at (F.Selector e n) = on-selector l (selected_from l s.file n ((coded t e.0).judge l s).meaning).meaning ((coded t e.0).code l s) _ _ (e.1 l s) (let w = length-append (print_expr e.0) (punctuation punctuations.Dot ∷ word_name n ∷ []) in omega (arith, w))
+    at (F.Selector e n) = on-selector l (selected_from l s.file n ((coded t e.0).judge l s).meaning).meaning
+        ((coded t e.0).code l s) _ _ (e.1 l s)
+        (let w = length-append (print_expr e.0) (punctuation punctuations.Dot ∷ word_name n ∷ []) in omega (arith, w))
     at (F.Index a i) =
         let inner = length-append (print_expr i.0) (punctuation punctuations.CloseBracket ∷ []) in
-        let whole = length-append (print_expr a.0) (punctuation punctuations.OpenBracket ∷ (print_expr i.0 ++ punctuation punctuations.CloseBracket ∷ [])) in
-        on-index l ((coded t a.0).code l s) ((coded t i.0).code l s) _ _ _ (a.1 l s) (i.1 l s) (omega (arith, inner, whole))
+        let whole = length-append (print_expr a.0)
+        (punctuation punctuations.OpenBracket ∷ (print_expr i.0 ++ punctuation punctuations.CloseBracket ∷ [])) in
+        on-index l ((coded t a.0).code l s) ((coded t i.0).code l s) _ _ _ (a.1 l s) (i.1 l s)
+        (omega (arith, inner, whole))
     at (F.Call f xs) =
         let few = separated-length punctuations.Comma (words xs) in
-        let inner = length-append (separated punctuations.Comma (words xs)) (punctuation punctuations.CloseParen ∷ []) in
-        let whole = length-append (print_expr f.0) (punctuation punctuations.OpenParen ∷ (separated punctuations.Comma (words xs) ++ punctuation punctuations.CloseParen ∷ [])) in
-        let args = subst (λ ps. size (all ps) ≤ 8 * total (words xs)) (sym (pushed-are xs)) (all-small (pieces xs) (words xs) (beside xs)) in
-        on-call l ((coded t f.0).judge l s).meaning ((coded t f.0).code l s) _ (words xs) _ _ (f.1 l s) args (omega (arith, few, inner, whole))
+        let inner = length-append (separated punctuations.Comma (words xs))
+        (punctuation punctuations.CloseParen ∷ []) in
+        let whole = length-append (print_expr f.0)
+        (punctuation punctuations.OpenParen ∷ (separated punctuations.Comma (words xs)
+        ++ punctuation punctuations.CloseParen ∷ [])) in
+        let args = subst (λ ps. size (all ps) ≤ 8 * total (words xs)) (sym (pushed-are xs))
+        (all-small (pieces xs) (words xs) (beside xs)) in
+        on-call l ((coded t f.0).judge l s).meaning ((coded t f.0).code l s) _ (words xs) _ _ (f.1 l s) args
+        (omega (arith, few, inner, whole))
     at (F.Unary o e) = on-unary l o ((coded t e.0).code l s) _ _ (e.1 l s) (omega arith)
     at (F.Binary o a b) =
         let whole = length-append (print_expr a.0) (punctuation (binary_punctuation o) ∷ print_expr b.0) in
@@ -106,8 +130,11 @@ module _ (t : Tables) where
 
   rolled : (y : ExprLayer P) → P (roll-Expr (bare_expr P y))
   rolled y l s =
-      subst (λ ws. Small (length ws) ((coded t (roll-Expr (bare_expr P y))).code l s)) (sym (fold-roll-Expr (List Word) (List Word) print_step print_element_step (bare_expr P y)))
-      (subst (λ (c : Coded). Small (length (print_step (map-Expr Expr Element (List Word) (List Word) print_expr print_element (bare_expr P y)))) (c.code l s)) (sym (coded-rolls t (bare_expr P y))) (at l s y))
+      subst (λ ws. Small (length ws) ((coded t (roll-Expr (bare_expr P y))).code l s))
+      (sym (fold-roll-Expr (List Word) (List Word) print_step print_element_step (bare_expr P y)))
+      (subst (λ (c : Coded). Small (length (print_step
+      (map-Expr Expr Element (List Word) (List Word) print_expr print_element (bare_expr P y)))) (c.code l s))
+      (sym (coded-rolls t (bare_expr P y))) (at l s y))
 
   pub expr-small : (e : Expr) → P e
   expr-small = every-expr P rolled

@@ -1,7 +1,8 @@
 -- Each body of the code of a file has at most eight instructions for each word that the file prints; so its places fit.
 -- For: `bodies_are_small` and `files_have_places`, src/lib.rt
 -- By: induction over the list of declarations, and over the list of made functions
-use Rattle.std.proofs.Common.{◌≡◌, ℕ, zero, suc, ◌+◌, ◌*◌, ◌^◌, ◌<◌, ◌≤◌, Bool, List, [], ◌∷◌, ◌++◌, length, map, Option, Some, None, refl, sym, ap, arith, length-append}
+use Rattle.std.proofs.Common.{◌≡◌, ℕ, zero, suc, ◌+◌, ◌*◌, ◌^◌, ◌<◌, ◌≤◌, Bool, List, [], ◌∷◌, ◌++◌, length, map}
+use Rattle.std.proofs.Common.{Option, Some, None, refl, sym, ap, arith, length-append}
 use Rattle.std.specs.Prelude.{slice_get}
 use Rattle.golf_lex_tokens.specs.declared.token.Token.{Token}
 use Rattle.golf_lex_tokens.specs.declared.token.Punctuation.TheVariants as punctuations
@@ -18,7 +19,8 @@ use Rattle.golf_syntax_trees.specs.Types.{print_type}
 use Rattle.golf_syntax_trees.specs.Expressions.{parens, print_expr}
 use Rattle.golf_syntax_trees.specs.Simple.{print_content, optional}
 use Rattle.golf_syntax_trees.specs.Statements.{print_block, print_stmt}
-use Rattle.golf_syntax_trees.specs.Declarations.{print_field, print_receiver, print_func, print_decl, print_import, print_file}
+use Rattle.golf_syntax_trees.specs.Declarations.{print_field, print_receiver, print_func, print_decl, print_import}
+use Rattle.golf_syntax_trees.specs.Declarations.{print_file}
 use Rattle.golf_data.specs.declared.code.Function.{Function}
 use Rattle.golf_data.specs.Places.{IsShort}
 use Rattle.golf_check_types.specs.declared.types.GoType.{GoType}
@@ -30,7 +32,9 @@ use Rattle.golf_code_layout.proofs.Sizes.{placed-size}
 use Rattle.golf_code_of.specs.declared.tables.Tables.{Tables}
 use Rattle.golf_code_of.specs.declared.making.Making.{Making}
 use Rattle.golf_code_of.specs.Laying.{stmt_part}
-use Rattle.golf_code_of.specs.Files.{function, body_laid, last_return, function_of, functions_from, loads, made_body, made_function, initial, initials, entry_body, giving, main_number, main_line, tables_of, code_in, CodeOf}
+use Rattle.golf_code_of.specs.Files.{function, body_laid, last_return, function_of, functions_from, loads, made_body}
+use Rattle.golf_code_of.specs.Files.{made_function, initial, initials, entry_body, giving, main_number, main_line}
+use Rattle.golf_code_of.specs.Files.{tables_of, code_in, CodeOf}
 use Rattle.golf_code_places.specs.Laws.{IsSmall, BodiesAreSmall, FilesHavePlaces}
 use Rattle.golf_code_places.proofs.Words.{total, line-length, closed-length}
 use Rattle.golf_code_places.proofs.Small.{operation-small}
@@ -65,8 +69,10 @@ each : (t : Tables) (xs : List Stmt) → EachLight (map (stmt_part t) xs) (map p
 each t [] = tt
 each t (x ∷ xs) = (stmt-light t x, each t xs)
 
-body-light : (t : Tables) (file : Scope) (n : ℕ) (f : Func) → weight (body_laid t file n f) ≤ 8 * total (map print_stmt f.body)
-body-light t file n f = light-order (map (stmt_part t) f.body) (map print_stmt f.body) (each t f.body) _ (body_scope file f)
+body-light : (t : Tables) (file : Scope) (n : ℕ) (f : Func)
+    → weight (body_laid t file n f) ≤ 8 * total (map print_stmt f.body)
+body-light t file n f = light-order (map (stmt_part t) f.body) (map print_stmt f.body) (each t f.body) _
+    (body_scope file f)
 
 func-words : (f : Func) → total (map print_stmt f.body) + 2 ≤ length (print_func f)
 func-words f =
@@ -76,31 +82,37 @@ func-words f =
     let fields = separated punctuations.Comma (map print_field f.parameters) in
     let between = length-append fields (punctuation punctuations.CloseParen ∷ rest) in
     let whole = length-append (optional print_receiver f.receiver) (name f.name ∷ parens fields rest) in
-    let line = line-length f.line (keyword keywords.Func ∷ (optional print_receiver f.receiver ++ name f.name ∷ parens fields rest)) in
+    let line = line-length f.line (keyword keywords.Func
+    ∷ (optional print_receiver f.receiver ++ name f.name ∷ parens fields rest)) in
     omega (arith, inner, result, between, whole, line)
 
 return-small : (l : ℕ) (e : Option GoType) → size (last_return l e) ≤ 2
 return-small l None = omega arith
 return-small l (Some e) = omega arith
 
-function-small : (t : Tables) (gives : List Bool) (file : Scope) (n : ℕ) (f : Func) → length (function_of t gives file f (body_laid t file n f).piece).body ≤ 8 * length (print_func f)
+function-small : (t : Tables) (gives : List Bool) (file : Scope) (n : ℕ) (f : Func)
+    → length (function_of t gives file f (body_laid t file n f).piece).body ≤ 8 * length (print_func f)
 function-small t gives file n f =
-    let e = placed-size (all ((body_laid t file n f).piece ∷ last_return f.line (result_type file f.result) ∷ [])) 0 [] in
+    let e = placed-size (all ((body_laid t file n f).piece ∷ last_return f.line (result_type file f.result) ∷ [])) 0
+    [] in
     let b = body-light t file n f in
     let r = return-small f.line (result_type file f.result) in
     let w = func-words f in
     omega (arith, e, b, r, w)
 
-own-small : (t : Tables) (gives : List Bool) (file : Scope) (n : ℕ) (xs : List Decl) (k : ℕ) → words_of xs ≤ k → AreSmall k (functions_from t gives file n xs).own
+own-small : (t : Tables) (gives : List Bool) (file : Scope) (n : ℕ) (xs : List Decl) (k : ℕ) → words_of xs ≤ k
+    → AreSmall k (functions_from t gives file n xs).own
 own-small t gives file n [] k h = no-functions k
 own-small t gives file n (d.Const l c v ∷ xs) k h = own-small t gives file n xs k (omega (arith, h))
 own-small t gives file n (d.Var v ∷ xs) k h = own-small t gives file n xs k (omega (arith, h))
 own-small t gives file n (d.Struct l c fs ∷ xs) k h = own-small t gives file n xs k (omega (arith, h))
 own-small t gives file n (d.Func f ∷ xs) k h =
     let e = function-small t gives file n f in
-    one-more k _ _ (omega (arith, e, h)) (own-small t gives file (n + length (body_laid t file n f).made) xs k (omega (arith, h)))
+    one-more k _ _ (omega (arith, e, h)) (own-small t gives file (n + length (body_laid t file n f).made) xs k
+    (omega (arith, h)))
 
-made-light : (t : Tables) (gives : List Bool) (file : Scope) (n : ℕ) (xs : List Decl) → parameters (functions_from t gives file n xs).made ≤ 8 * words_of xs
+made-light : (t : Tables) (gives : List Bool) (file : Scope) (n : ℕ) (xs : List Decl)
+    → parameters (functions_from t gives file n xs).made ≤ 8 * words_of xs
 made-light t gives file n [] = omega arith
 made-light t gives file n (d.Const l c v ∷ xs) = let h = made-light t gives file n xs in omega (arith, h)
 made-light t gives file n (d.Var v ∷ xs) = let h = made-light t gives file n xs in omega (arith, h)
@@ -127,15 +139,18 @@ made-size gives m =
     let g = operation-small m.line m.operation (length m.parameters) in
     omega (arith, e, f, g)
 
-made-small : (gives : List Bool) (ms : List Making) (k : ℕ) → parameters ms + 3 ≤ 8 * k → AreSmall k (map (made_function gives) ms)
+made-small : (gives : List Bool) (ms : List Making) (k : ℕ) → parameters ms + 3 ≤ 8 * k
+    → AreSmall k (map (made_function gives) ms)
 made-small gives [] k h = no-functions k
 made-small gives (m ∷ ms) k h =
     let e = made-size gives m in
-    one-more k (made_function gives m) (map (made_function gives) ms) (omega (arith, e, h)) (made-small gives ms k (omega (arith, h)))
+    one-more k (made_function gives m) (map (made_function gives) ms) (omega (arith, e, h))
+    (made-small gives ms k (omega (arith, h)))
 
 -- Function 0.
 
-initial-small : (t : Tables) (s : Scope) (g l : ℕ) (x : VarContent) → size (initial t s g l x) ≤ 8 * length (print_content x)
+initial-small : (t : Tables) (s : Scope) (g l : ℕ) (x : VarContent)
+    → size (initial t s g l x) ≤ 8 * length (print_content x)
 initial-small t s g l (content.Zero e) = omega arith
 initial-small t s g l (content.Typed e v) =
     let h = (expr-small t v l s).piece in
@@ -154,7 +169,8 @@ initials-small t f g (d.Var v ∷ xs) =
     let h = initials-small t f (g + 1) xs in
     omega (arith, e, w, h)
 
-entry-small : (t : Tables) (gives : List Bool) (f : FileScope) (main line : ℕ) (xs : List Decl) → length (function gives 0 0 line (entry_body t f main line xs)).body ≤ 8 * words_of xs + 2
+entry-small : (t : Tables) (gives : List Bool) (f : FileScope) (main line : ℕ) (xs : List Decl)
+    → length (function gives 0 0 line (entry_body t f main line xs)).body ≤ 8 * words_of xs + 2
 entry-small t gives f main line xs =
     let e = placed-size (entry_body t f main line xs) 0 [] in
     let h = initials-small t f 0 xs in
@@ -169,17 +185,21 @@ file-words file =
     let f = closed-length (map print_decl file.declarations) in
     omega (arith, e, f)
 
-code-small : (t : Tables) (f : FileScope) (xs : List Decl) (k : ℕ) → words_of xs + 3 ≤ k → AreSmall k (code_in t f xs).functions
+code-small : (t : Tables) (f : FileScope) (xs : List Decl) (k : ℕ) → words_of xs + 3 ≤ k
+    → AreSmall k (code_in t f xs).functions
 code-small t f xs k h =
     let e = entry-small t (giving f) f (main_number f) (main_line xs) xs in
     let m = made-light t (giving f) (outside f) (length f.functions + 1) xs in
     one-more k _ _ (omega (arith, e, h))
     (both-small k _ _ (own-small t (giving f) (outside f) (length f.functions + 1) xs k (omega (arith, h)))
-    (made-small (giving f) (functions_from t (giving f) (outside f) (length f.functions + 1) xs).made k (omega (arith, m, h))))
+    (made-small (giving f) (functions_from t (giving f) (outside f) (length f.functions + 1) xs).made k
+    (omega (arith, m, h))))
 
 pub bodies-small : BodiesAreSmall
 unfolding CodeOf
-bodies-small file = code-small (tables_of file.declarations) (file_scope (with_imports no_imports file.imports) file.declarations) file.declarations (length (print_file file)) (file-words file)
+bodies-small file = code-small (tables_of file.declarations)
+    (file_scope (with_imports no_imports file.imports) file.declarations) file.declarations (length (print_file file))
+    (file-words file)
 
 -- as many tokens as words
 spelled-length : (ws : List Word) (ts : List Token) → Spells ws ts [] → length ws ≡ length ts
@@ -195,4 +215,5 @@ pub files-have-places : FilesHavePlaces
 files-have-places bytes file h few k =
     let e = spelled-length (print_file file) h.tokens h.reads.prints in
     let f = tokens-few bytes h.tokens h.lexes in
-    short-of (slice_get (CodeOf file).functions k) (length (print_file file)) (length bytes) (bodies-small file k) (omega (arith, e, f)) few
+    short-of (slice_get (CodeOf file).functions k) (length (print_file file)) (length bytes) (bodies-small file k)
+    (omega (arith, e, f)) few

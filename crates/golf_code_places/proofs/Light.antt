@@ -1,7 +1,8 @@
 -- The code of statements without loops and selects has at most eight instructions and made parameters for each word.
 -- For: `bodies_are_small`, src/lib.rt
 -- By: induction over the list of statements, and over the list of arguments
-use Rattle.std.proofs.Common.{◌≡◌, ℕ, ◌+◌, ◌*◌, ◌≤◌, Bool, true, false, cond, List, [], ◌∷◌, ◌++◌, length, map, Option, Some, None, arith, length-append}
+use Rattle.std.proofs.Common.{◌≡◌, ℕ, ◌+◌, ◌*◌, ◌≤◌, Bool, true, false, cond, List, [], ◌∷◌, ◌++◌, length, map, Option}
+use Rattle.std.proofs.Common.{Some, None, arith, length-append}
 use Rattle.std.proofs.lemmas.List.{length-map}
 use Rattle.golf_lex_tokens.specs.declared.token.Punctuation.TheVariants as punctuations
 use Rattle.golf_syntax_trees.specs.declared.expressions.Expr.{Expr}
@@ -30,7 +31,10 @@ use Rattle.golf_code_of.specs.declared.making.Making.{Making}
 use Rattle.golf_code_of.specs.declared.making.Around.{Around}
 use Rattle.golf_code_of.specs.Calls.{Argument, receiver_base, with_receiver, makings, beginning}
 use Rattle.golf_code_of.specs.Coding.{argument_at}
-use Rattle.golf_code_of.specs.Statements.{Laid, Part, past, within, then, lay_all, in_order, block, stores_to, stores_name, stores_new, stores_pair, drops, simple_piece, simple_part, optional, first_value, var_part, begin_part, return_part, behind_test, ends_here, or_else}
+use Rattle.golf_code_of.specs.Statements.{Laid, Part, past, within, then, lay_all, in_order, block, stores_to}
+use Rattle.golf_code_of.specs.Statements.{stores_name, stores_new, stores_pair, drops, simple_piece, simple_part}
+use Rattle.golf_code_of.specs.Statements.{optional, first_value, var_part, begin_part, return_part, behind_test}
+use Rattle.golf_code_of.specs.Statements.{ends_here, or_else}
 use Rattle.golf_code_places.proofs.Words.{total, line-length}
 use Rattle.golf_code_places.proofs.Small.{on-name, Beside, all-small}
 use Rattle.golf_code_places.proofs.Exprs.{expr-small}
@@ -100,7 +104,8 @@ module _ (t : Tables) (l : ℕ) where
       few false p h = h
 
   pub store-pair : (s : Scope) (n m : List ℕ) (e : Option GoType) → size (stores_pair l t s n m e) ≤ 12
-  store-pair s n m e = let f = store-new s (behind s (one_new (is_new s n) n e s)) m in let g = store-new s s n in omega (arith, f, g)
+  store-pair s n m e = let f = store-new s (behind s (one_new (is_new s n) n e s)) m in let g =
+      store-new s s n in omega (arith, f, g)
 
   dropped : (m : Operand) → size (drops l m) ≤ 1
   dropped (operand.Nothing late) = omega arith
@@ -179,14 +184,19 @@ module _ (t : Tables) (l : ℕ) where
   pub light-return : (k : ℕ) → 1 ≤ k → Light k (return_part t l None)
   light-return k more a s = omega (arith, more)
 
-  beside : (xs : List Expr) (s : Scope) → Beside (map (λ (a : Argument). a.piece) (map (argument_at t l s) xs)) (map print_expr xs)
+  beside : (xs : List Expr) (s : Scope) → Beside (map (λ (a : Argument). a.piece) (map (argument_at t l s) xs))
+      (map print_expr xs)
   beside [] s = tt
   beside (x ∷ xs) s = ((expr-small t x l s).piece, beside xs s)
 
-  beginning-light : (begin : ℕ → ℕ → Instr) (n : ℕ) (m : Operand) (xs : List Argument) → size (beginning l begin n m xs) + parameters (makings l m xs) ≤ length xs + 2
-  beginning-light begin n (operand.BuiltIn b) xs = few (receiver_base b) (map (λ (x : Argument). type_given (given x.meaning)) xs) (length-map xs (λ (x : Argument). type_given (given x.meaning)))
+  beginning-light : (begin : ℕ → ℕ → Instr) (n : ℕ) (m : Operand) (xs : List Argument)
+      → size (beginning l begin n m xs) + parameters (makings l m xs) ≤ length xs + 2
+  beginning-light begin n (operand.BuiltIn b) xs =
+      few (receiver_base b) (map (λ (x : Argument). type_given (given x.meaning)) xs)
+      (length-map xs (λ (x : Argument). type_given (given x.meaning)))
     where
-      few : (r : Option Base) (ts : List (Option GoType)) → length ts ≡ length xs → 1 + (length (with_receiver r ts) + 0) ≤ length xs + 2
+      few : (r : Option Base) (ts : List (Option GoType)) → length ts ≡ length xs
+          → 1 + (length (with_receiver r ts) + 0) ≤ length xs + 2
       few None ts e = omega (arith, e)
       few (Some r) ts e = omega (arith, e)
   beginning-light begin n (operand.Function k) xs = omega arith
@@ -206,16 +216,19 @@ module _ (t : Tables) (l : ℕ) where
   beginning-light begin n (operand.Struct k) xs = omega arith
   beginning-light begin n operand.TypeName xs = omega arith
 
-  pub light-begin : (begin : ℕ → ℕ → Instr) (f : Expr) (xs : List Expr) (k : ℕ) → length (print_expr f) + (total (map print_expr xs) + length xs) ≤ k → Light k (begin_part t l begin f xs)
+  pub light-begin : (begin : ℕ → ℕ → Instr) (f : Expr) (xs : List Expr) (k : ℕ)
+      → length (print_expr f) + (total (map print_expr xs) + length xs) ≤ k → Light k (begin_part t l begin f xs)
   light-begin begin f xs k more a s =
       let h = (expr-small t f l s).piece in
-      let i = all-small (map (λ (x : Argument). x.piece) (map (argument_at t l s) xs)) (map print_expr xs) (beside xs s) in
+      let i = all-small (map (λ (x : Argument). x.piece) (map (argument_at t l s) xs)) (map print_expr xs)
+      (beside xs s) in
       let e = length-map xs (argument_at t l s) in
       let j = beginning-light begin a.functions (judge_at l s f).meaning (map (argument_at t l s) xs) in
       omega (arith, h, i, e, j, more)
 
 pub light-simple : (t : Tables) (x : Simple) → Light (length (print_simple x)) (simple_part t x)
-light-simple t x a s = let h = simple-light t x.line x.kind s in let w = line-length x.line (print_simple_kind x.kind) in omega (arith, h, w)
+light-simple t x a s = let h = simple-light t x.line x.kind s in let w =
+    line-length x.line (print_simple_kind x.kind) in omega (arith, h, w)
 
 abbrev pub optional_words : Option Simple → ℕ
 optional_words None = 0
@@ -227,7 +240,8 @@ light-optional t (Some x) n h a s = let i = light-simple t x a s in omega (arith
 
 -- Branches.
 
-pub light-test : (t : Tables) (l : ℕ) (e : Expr) (x : Part) (n k : ℕ) → Light n x → length (print_expr e) + n ≤ k → Light k (behind_test t l e x)
+pub light-test : (t : Tables) (l : ℕ) (e : Expr) (x : Part) (n k : ℕ) → Light n x → length (print_expr e) + n ≤ k
+    → Light k (behind_test t l e x)
 light-test t l e x n k h more a s = let i = (expr-small t e l s).piece in let j = h a s in omega (arith, i, j, more)
 
 pub light-ends : (x : Part) (n : ℕ) → Light n x → Light n (ends_here x)

@@ -16,7 +16,8 @@ use Rattle.golf_code_layout.specs.Piece.{Piece, size, all}
 use Rattle.golf_code_of.specs.declared.tables.Tables.{Tables}
 use Rattle.golf_code_of.specs.declared.making.Around.{Around}
 use Rattle.golf_code_of.specs.Statements.{Part, past, in_order}
-use Rattle.golf_code_of.specs.Selects.{ClausePart, operands_of, takes_in, communication, breaking, case_clause, default_clause, choice, in_clause, clauses_lay, select_part}
+use Rattle.golf_code_of.specs.Selects.{ClausePart, operands_of, takes_in, communication, breaking, case_clause}
+use Rattle.golf_code_of.specs.Selects.{default_clause, choice, in_clause, clauses_lay, select_part}
 use Rattle.golf_code_places.proofs.Words.{clause_total, clauses_total}
 use Rattle.golf_code_places.proofs.Exprs.{expr-small}
 use Rattle.golf_code_places.proofs.Light.{parameters-append, weight, Light, store-name, store-pair}
@@ -30,7 +31,8 @@ EachClauseLight [] ws = Unit {0}
 EachClauseLight (c ∷ cs) [] = ⊥
 EachClauseLight (c ∷ cs) (w ∷ ws) = ClauseLight (clause_total w) c × EachClauseLight cs ws
 
-operands-light : (t : Tables) (c : Communication) (l : ℕ) (s : Scope) → size (operands_of t c l s) ≤ 8 * length (print_comm c)
+operands-light : (t : Tables) (c : Communication) (l : ℕ) (s : Scope)
+    → size (operands_of t c l s) ≤ 8 * length (print_comm c)
 operands-light t (comm.Send c e) l s =
     let h = (expr-small t c l s).piece in
     let i = (expr-small t e l s).piece in
@@ -48,7 +50,8 @@ takes-light t l k (comm.Define n e) s = omega arith
 takes-light t l k (comm.Assign n e) s = let h = store-name t k s n in omega (arith, h)
 takes-light t l k (comm.DefineReceived n m e) s = store-pair t k s n m (carried l e s)
 
-pub light-case : (t : Tables) (k : ℕ) (c : Communication) (xs : List Part) (n m : ℕ) → Light n (in_order xs) → length (print_comm c) + n + 2 ≤ m → ClauseLight m (case_clause t k c xs)
+pub light-case : (t : Tables) (k : ℕ) (c : Communication) (xs : List Part) (n m : ℕ) → Light n (in_order xs)
+    → length (print_comm c) + n + 2 ≤ m → ClauseLight m (case_clause t k c xs)
 light-case t k c xs n m h more l a s at =
     let o = operands-light t c l at in
     let first = (communication t l k c).lay a (begun s) in
@@ -58,10 +61,14 @@ light-case t k c xs n m h more l a s at =
     let f = h (past a first) (record inside { breaks = true }) in
     omega (arith, o, e, f, more)
 
-pub light-default : (k : ℕ) (xs : List Part) (n m : ℕ) → Light n (in_order xs) → n + 1 ≤ m → ClauseLight m (default_clause k xs)
+pub light-default : (k : ℕ) (xs : List Part) (n m : ℕ) → Light n (in_order xs) → n + 1 ≤ m
+    → ClauseLight m (default_clause k xs)
 light-default k xs n m h more l a s at = let f = h a (record (begun s) { breaks = true }) in omega (arith, f, more)
 
-clauses-light : (l : ℕ) (cs : List ClausePart) (ws : List ClauseWords) → EachClauseLight cs ws → (p : Piece) (a : Around) (s at : Scope) → size (all (map (λ (c : ClausePart). c.operands l at) cs)) + weight (clauses_lay l p cs a s) ≤ size p + 8 * clauses_total ws
+clauses-light : (l : ℕ) (cs : List ClausePart) (ws : List ClauseWords) → EachClauseLight cs ws
+    → (p : Piece) (a : Around) (s at : Scope)
+    → size (all (map (λ (c : ClausePart). c.operands l at) cs)) + weight (clauses_lay l p cs a s) ≤ size p
+    + 8 * clauses_total ws
 clauses-light l [] ws h p a s at = omega arith
 clauses-light l (c ∷ cs) [] h p a s at = absurd h
 clauses-light l (c ∷ cs) (w ∷ ws) h p a s at =
@@ -73,5 +80,6 @@ clauses-light l (c ∷ cs) (w ∷ ws) h p a s at =
     let g = parameters-append x.made rest.made in
     omega (arith, e, f, g)
 
-pub light-select : (l : ℕ) (cs : List ClausePart) (ws : List ClauseWords) (k : ℕ) → EachClauseLight cs ws → clauses_total ws + 1 ≤ k → Light k (select_part l cs)
+pub light-select : (l : ℕ) (cs : List ClausePart) (ws : List ClauseWords) (k : ℕ) → EachClauseLight cs ws
+    → clauses_total ws + 1 ≤ k → Light k (select_part l cs)
 light-select l cs ws k h more a s = let e = clauses-light l cs ws h (choice l cs s) a s s in omega (arith, e, more)

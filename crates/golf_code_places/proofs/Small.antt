@@ -1,7 +1,8 @@
 -- The code of each kind of expression has at most eight instructions for each of its words, if its parts have.
 -- For: `bodies_are_small`, src/lib.rt
 -- By: induction over the list of parts, with their words; else arithmetic
-use Rattle.std.proofs.Common.{ℕ, ◌+◌, ◌*◌, ◌≤◌, Bool, true, false, cond, List, [], ◌∷◌, length, Option, Some, None, arith}
+use Rattle.std.proofs.Common.{ℕ, ◌+◌, ◌*◌, ◌≤◌, Bool, true, false, cond, List, [], ◌∷◌, length, Option, Some, None}
+use Rattle.std.proofs.Common.{arith}
 use Rattle.golf_syntax_trees.specs.declared.expressions.UnaryOperator.{UnaryOperator}
 use Rattle.golf_syntax_trees.specs.declared.expressions.BinaryOperator.{BinaryOperator}
 use Rattle.golf_syntax_trees.specs.declared.expressions.BinaryOperator.TheVariants as binary
@@ -19,7 +20,9 @@ use Rattle.golf_check_types.specs.declared.scopes.FileScope.{FileScope}
 use Rattle.golf_check_types.specs.Calls.{sets_finaliser}
 use Rattle.golf_code_layout.specs.Piece.{Piece, size, all}
 use Rattle.golf_code_of.specs.declared.tables.Tables.{Tables}
-use Rattle.golf_code_of.specs.Expressions.{Made, only, variable, name, puts, struct_literal, new_sync, elements, slice_literal, selector, index, unary_operator, binary_piece, binary_operator}
+use Rattle.golf_code_of.specs.Expressions.{Made, only, variable, name, puts, struct_literal, new_sync, elements}
+use Rattle.golf_code_of.specs.Expressions.{slice_literal, selector, index, unary_operator, binary_piece}
+use Rattle.golf_code_of.specs.Expressions.{binary_operator}
 use Rattle.golf_code_of.specs.Calls.{Argument, operation, calling, pushes, finaliser, finalising, call}
 use Rattle.golf_code_places.proofs.Words.{total}
 
@@ -66,12 +69,14 @@ all-small [] ws h = omega arith
 all-small (p ∷ ps) [] h = absurd h
 all-small (p ∷ ps) (w ∷ ws) h = let i = all-small ps ws h.1 in omega (arith, h.0, i)
 
-elements-small : (l i : ℕ) (ps : List Piece) (ws : List (List Word)) → Beside ps ws → size (elements l i ps) ≤ 8 * total ws + 8 * length ws
+elements-small : (l i : ℕ) (ps : List Piece) (ws : List (List Word)) → Beside ps ws
+    → size (elements l i ps) ≤ 8 * total ws + 8 * length ws
 elements-small l i [] ws h = omega arith
 elements-small l i (p ∷ ps) [] h = absurd h
 elements-small l i (p ∷ ps) (w ∷ ws) h = let j = elements-small l (i + 1) ps ws h.1 in omega (arith, h.0, j)
 
-puts-small : (l : ℕ) (f : FileScope) (b : Option Base) (ns : List (List ℕ)) (ps : List Piece) (ws : List (List Word)) → Beside ps ws → size (puts l f b ns ps) ≤ 8 * total ws + 8 * length ws
+puts-small : (l : ℕ) (f : FileScope) (b : Option Base) (ns : List (List ℕ)) (ps : List Piece) (ws : List (List Word))
+    → Beside ps ws → size (puts l f b ns ps) ≤ 8 * total ws + 8 * length ws
 puts-small l f b [] ps ws h = omega arith
 puts-small l f b (n ∷ ns) [] ws h = omega arith
 puts-small l f b (n ∷ ns) (p ∷ ps) [] h = absurd h
@@ -79,10 +84,12 @@ puts-small l f b (n ∷ ns) (p ∷ ps) (w ∷ ws) h = let j = puts-small l f b n
 
 -- Literals, `make` and `new`.
 
-pub on-struct-literal : (l : ℕ) (f : FileScope) (b : Option Base) (ns : List (List ℕ)) (ps : List Piece) (ws : List (List Word)) (n : ℕ) → Beside ps ws → total ws + length ws + 1 ≤ n → Small n (struct_literal l f b ns ps)
+pub on-struct-literal : (l : ℕ) (f : FileScope) (b : Option Base) (ns : List (List ℕ)) (ps : List Piece)
+    (ws : List (List Word)) (n : ℕ) → Beside ps ws → total ws + length ws + 1 ≤ n → Small n (struct_literal l f b ns ps)
 on-struct-literal l f b ns ps ws n h few = alone n _ (let j = puts-small l f b ns ps ws h in omega (arith, j, few))
 
-pub on-slice-literal : (l : ℕ) (e : Option GoType) (ps : List Piece) (ws : List (List Word)) (n : ℕ) → Beside ps ws → total ws + length ws + 1 ≤ n → Small n (slice_literal l e ps)
+pub on-slice-literal : (l : ℕ) (e : Option GoType) (ps : List Piece) (ws : List (List Word)) (n : ℕ) → Beside ps ws
+    → total ws + length ws + 1 ≤ n → Small n (slice_literal l e ps)
 on-slice-literal l e ps ws n h few = alone n _ (let j = elements-small l 0 ps ws h in omega (arith, j, few))
 
 pub on-new-sync : (l : ℕ) (b : Option Base) (n : ℕ) → 1 ≤ n → Small n (new_sync l b)
@@ -100,7 +107,8 @@ on-new-sync l (Some (base.Pointer k)) n h = alone n _ (omega (arith, h))
 -- Selectors and operators.
 
 pub on-selector : (l : ℕ) (m : Operand) (x : Made) (n k : ℕ) → Small n x → n + 1 ≤ k → Small k (selector l m x.piece)
-on-selector l (operand.Field i e) x n k h more = record { piece = omega (arith, h.piece, more); place = omega (arith, h.piece, more) }
+on-selector l (operand.Field i e) x n k h more =
+    record { piece = omega (arith, h.piece, more); place = omega (arith, h.piece, more) }
 on-selector l (operand.Value e) x n k h more = alone k _ (omega (arith, h.piece, more))
 on-selector l (operand.Method j) x n k h more = alone k _ (omega (arith, h.piece, more))
 on-selector l (operand.BuiltIn b) x n k h more = alone k _ (omega (arith, h.piece, more))
@@ -118,10 +126,15 @@ on-selector l (operand.Function j) x n k h more = alone k _ (omega (arith, more)
 on-selector l (operand.Struct j) x n k h more = alone k _ (omega (arith, more))
 on-selector l operand.TypeName x n k h more = alone k _ (omega (arith, more))
 
-pub on-index : (l : ℕ) (x y : Made) (n m k : ℕ) → Small n x → Small m y → n + m + 1 ≤ k → Small k (index l x.piece y.piece)
-on-index l x y n m k h i more = record { piece = omega (arith, h.piece, i.piece, more); place = omega (arith, h.piece, i.piece, more) }
+pub on-index : (l : ℕ) (x y : Made) (n m k : ℕ) → Small n x → Small m y → n + m + 1 ≤ k
+    → Small k (index l x.piece y.piece)
+on-index l x y n m k h i more = record {
+  piece = omega (arith, h.piece, i.piece, more);
+  place = omega (arith, h.piece, i.piece, more);
+}
 
-pub on-unary : (l : ℕ) (o : UnaryOperator) (x : Made) (n k : ℕ) → Small n x → n + 1 ≤ k → Small k (unary_operator l o x.piece)
+pub on-unary : (l : ℕ) (o : UnaryOperator) (x : Made) (n k : ℕ) → Small n x → n + 1 ≤ k
+    → Small k (unary_operator l o x.piece)
 on-unary l o x n k h more = alone k _ (omega (arith, h.piece, more))
 
 binary-small : (l : ℕ) (o : BinaryOperator) (p q : Piece) → size (binary_piece l o p q) ≤ size p + size q + 4
@@ -139,8 +152,10 @@ binary-small l binary.Multiply p q = omega arith
 binary-small l binary.Divide p q = omega arith
 binary-small l binary.Remainder p q = omega arith
 
-pub on-binary : (l : ℕ) (o : BinaryOperator) (x y : Made) (n m k : ℕ) → Small n x → Small m y → n + m + 1 ≤ k → Small k (binary_operator l o x.piece y.piece)
-on-binary l o x y n m k h i more = alone k _ (let j = binary-small l o x.piece y.piece in omega (arith, h.piece, i.piece, j, more))
+pub on-binary : (l : ℕ) (o : BinaryOperator) (x y : Made) (n m k : ℕ) → Small n x → Small m y → n + m + 1 ≤ k
+    → Small k (binary_operator l o x.piece y.piece)
+on-binary l o x y n m k h i more = alone k _
+    (let j = binary-small l o x.piece y.piece in omega (arith, h.piece, i.piece, j, more))
 
 -- Calls.
 
@@ -212,9 +227,11 @@ either-small : (b : Bool) (p q : Piece) (k : ℕ) → size p ≤ k → size q �
 either-small true p q k h i = h
 either-small false p q k h i = i
 
-pub on-call : (l : ℕ) (m : Operand) (r : Made) (xs : List Argument) (ws : List (List Word)) (n k : ℕ) → Small n r → size (pushes xs) ≤ 8 * total ws → n + total ws + 1 ≤ k → Small k (call l m r.piece xs)
+pub on-call : (l : ℕ) (m : Operand) (r : Made) (xs : List Argument) (ws : List (List Word)) (n k : ℕ) → Small n r
+    → size (pushes xs) ≤ 8 * total ws → n + total ws + 1 ≤ k → Small k (call l m r.piece xs)
 on-call l m r xs ws n k h args more =
     let c = calling-small l m (length xs) in
     let f = finalising-small l xs in
-    let e = either-small (sets_finaliser m) (finalising l xs) (all (r.piece ∷ pushes xs ∷ calling l m (length xs) ∷ [])) (size r.piece + (size (pushes xs) + 3)) (omega (arith, f)) (omega (arith, c)) in
+    let e = either-small (sets_finaliser m) (finalising l xs) (all (r.piece ∷ pushes xs ∷ calling l m (length xs) ∷ []))
+    (size r.piece + (size (pushes xs) + 3)) (omega (arith, f)) (omega (arith, c)) in
     alone k _ (omega (arith, h.piece, args, more, e))

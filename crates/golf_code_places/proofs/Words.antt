@@ -30,7 +30,8 @@ separated-total m (x ∷ xs) = let e = length-append x (behind m xs) in let f = 
 
 pub closed-length : (xs : List (List Word)) → length (closed xs) ≡ total xs + length xs
 closed-length [] = refl
-closed-length (x ∷ xs) = let e = length-append x (punctuation punctuations.Semicolon ∷ closed xs) in let f = closed-length xs in omega (arith, e, f)
+closed-length (x ∷ xs) = let e = length-append x (punctuation punctuations.Semicolon ∷ closed xs) in let f =
+    closed-length xs in omega (arith, e, f)
 
 -- how many words clauses have
 abbrev pub clause_total : ClauseWords → ℕ
@@ -42,7 +43,8 @@ clauses_total (c ∷ cs) = clause_total c + clauses_total cs
 
 pub clauses-length : (cs : List ClauseWords) → clauses_total cs ≤ length (clauses cs)
 clauses-length [] = omega arith
-clauses-length (c ∷ []) = let e = length-append c.opening (separated punctuations.Semicolon c.body) in let f = separated-total punctuations.Semicolon c.body in omega (arith, e, f)
+clauses-length (c ∷ []) = let e = length-append c.opening (separated punctuations.Semicolon c.body) in let f =
+    separated-total punctuations.Semicolon c.body in omega (arith, e, f)
 clauses-length (c ∷ d ∷ cs) =
     let e = length-append c.opening (closed c.body ++ clauses (d ∷ cs)) in
     let f = length-append (closed c.body) (clauses (d ∷ cs)) in

@@ -1,7 +1,9 @@
 -- The functions of a file that break no rule fit their types, and so do those that are made for `go` and `defer`.
 -- For: `functions_fit` and `made_functions_fit`, src/lib.rt
 -- By: induction over the list of parameters, and over the types that a made function takes
-use Rattle.std.proofs.Common.{◌≡◌, ◌⊎◌, inl, inr, ℕ, zero, suc, ◌+◌, ◌<◌, ◌≤◌, true, List, [], ◌∷◌, ◌++◌, length, map, Option, Some, None, refl, sym, ap, ◌∙◌, subst, slice_get, arith, append_assoc, append-nil, length-append, negsuc}
+use Rattle.std.proofs.Common.{◌≡◌, ◌⊎◌, inl, inr, ℕ, zero, suc, ◌+◌, ◌<◌, ◌≤◌, true, List, [], ◌∷◌, ◌++◌, length, map}
+use Rattle.std.proofs.Common.{Option, Some, None, refl, sym, ap, ◌∙◌, subst, slice_get, arith, append_assoc, append-nil}
+use Rattle.std.proofs.Common.{length-append, negsuc}
 use Rattle.std.proofs.lemmas.List.{length-map}
 use Rattle.std.proofs.lemmas.Bool.{and_parts}
 use Rattle.std.specs.Option.{option_map}
@@ -17,13 +19,14 @@ use Rattle.golf_check_types.specs.declared.operands.BuiltIn.TheVariants as built
 use Rattle.golf_check_types.specs.declared.scopes.Scope.{Scope}
 use Rattle.golf_check_types.specs.Statements as W
 use Rattle.golf_check_types.specs.Statements.{behind, walk}
-use Rattle.golf_check_types.specs.Files.{outside, result_type, receiver_walk, receiver_type, parameter_walk, all_typed_names}
+use Rattle.golf_check_types.specs.Files.{outside, result_type, receiver_walk, receiver_type, parameter_walk}
+use Rattle.golf_check_types.specs.Files.{all_typed_names}
 use Rattle.golf_model_typing.specs.Types.{ValueType, Shape, FunctionTypes, Types, with_shapes}
 use Rattle.golf_model_typing.specs.Shapes.{InstructionFits, slot_types, pushed}
 use Rattle.golf_code_layout.specs.Piece.{Piece, all, op}
-use Rattle.golf_code_shapes_layout.specs.Has.{shape, filled, To, Has, Ends}
-use Rattle.golf_code_shapes_layout.proofs.Pieces.{has-empty, has-op, has-then}
-use Rattle.golf_code_shapes_layout.proofs.Bodies.{ends-op, ends-then, ends-last, bodies-fit}
+use Rattle.golf_code_shapes.specs.Has.{shape, filled, To, Has, Ends}
+use Rattle.golf_code_shapes.proofs.Pieces.{has-empty, has-op, has-then}
+use Rattle.golf_code_shapes.proofs.Bodies.{ends-op, ends-then, ends-last, bodies-fit}
 use Rattle.golf_code_of.specs.declared.tables.Tables.{Tables}
 use Rattle.golf_code_of.specs.Values.{zero_value}
 use Rattle.golf_code_of.specs.Calls.{operation}
@@ -34,7 +37,8 @@ use Rattle.golf_code_of.proofs.Walks.{statement}
 use Rattle.golf_code_shapes.specs.Types.{value_type, known_type, known_types}
 use Rattle.golf_code_shapes.specs.Sound.{IsKnown, LocalFits, ScopeFits}
 use Rattle.golf_code_shapes.specs.Flowing.{Slotted, BeginsWith}
-use Rattle.golf_code_shapes.specs.FunctionLaws.{result_scope, function_signature, made_signature, FunctionsFit, MadeFunctionsFit}
+use Rattle.golf_code_shapes.specs.FunctionLaws.{result_scope, function_signature, made_signature, FunctionsFit}
+use Rattle.golf_code_shapes.specs.FunctionLaws.{MadeFunctionsFit}
 use Rattle.golf_code_shapes.proofs.Typings.{none-left, none-right}
 use Rattle.golf_code_shapes.proofs.Names.{push-fits}
 use Rattle.golf_code_shapes.proofs.Literals.{zero-fits}
@@ -46,14 +50,18 @@ known-append [] ys = refl
 known-append (x ∷ xs) ys = ap (λ vs. known_type x ∷ vs) (known-append xs ys)
 
 -- slots that stand after others
-slotted-behind : (ft : FunctionTypes) (pre : List ValueType) (xs : List (Option GoType)) (n : ℕ) → n ≡ length pre → slot_types ft ≡ pre ++ known_types xs → Slotted ft n xs
+slotted-behind : (ft : FunctionTypes) (pre : List ValueType) (xs : List (Option GoType)) (n : ℕ) → n ≡ length pre
+    → slot_types ft ≡ pre ++ known_types xs → Slotted ft n xs
 slotted-behind ft pre [] n e is = tt
 slotted-behind ft pre (x ∷ xs) n e is = (
   subst (λ vs. slice_get vs n ≡ Some (known_type x)) (sym is) (at-length pre n e),
-  slotted-behind ft (pre ++ known_type x ∷ []) xs (n + 1) (let f = length-append pre (known_type x ∷ []) in omega (arith, e, f)) (is ∙ sym (append_assoc pre (known_type x ∷ []) (known_types xs))),
+  slotted-behind ft (pre ++ known_type x ∷ []) xs (n + 1)
+      (let f = length-append pre (known_type x ∷ []) in omega (arith, e, f))
+      (is ∙ sym (append_assoc pre (known_type x ∷ []) (known_types xs))),
 )
   where
-    at-length : (pre : List ValueType) (n : ℕ) → n ≡ length pre → slice_get (pre ++ (known_type x ∷ known_types xs)) n ≡ Some (known_type x)
+    at-length : (pre : List ValueType) (n : ℕ) → n ≡ length pre
+        → slice_get (pre ++ (known_type x ∷ known_types xs)) n ≡ Some (known_type x)
     at-length [] n q = subst (λ k. slice_get (known_type x ∷ known_types xs) k ≡ Some (known_type x)) (sym q) refl
     at-length (y ∷ ys) zero q = absurd (omega (arith, q))
     at-length (y ∷ ys) (suc n) q = at-length ys n (omega (arith, q))
@@ -69,7 +77,8 @@ module _ (types : Types) (t : Tables) (ft : FunctionTypes) where
     pub fits : Fits slots s
 
   -- one parameter more, whose slot holds its argument
-  one-parameter : (n : ℕ) (l : ℕ) (x : List ℕ) (o : Option GoType) (s : Scope) → Entered n s → IsKnown o → s.next < n → slice_get (slot_types ft) s.next ≡ Some (known_type o) → Entered n (behind s (parameter_walk l (x, o) s))
+  one-parameter : (n : ℕ) (l : ℕ) (x : List ℕ) (o : Option GoType) (s : Scope) → Entered n s → IsKnown o → s.next < n
+      → slice_get (slot_types ft) s.next ≡ Some (known_type o) → Entered n (behind s (parameter_walk l (x, o) s))
   one-parameter n l x o s h k less typed =
       let B : List ℕ = s.next ∷ h.slots in
       let wide = Every-from (λ j. In j B) h.slots (λ j m. inr m) in
@@ -79,17 +88,26 @@ module _ (types : Types) (t : Tables) (ft : FunctionTypes) where
         below = (less, h.below);
         fits = record {
           file = ok.file;
-          locals = Every-append (LocalFits types t ft B) s.locals _ (locals-wider types t ft h.slots B wide s.locals ok.locals) ((k.0, k.1, inl refl, typed ∙ ap (λ z. Some (known_type z)) k.1), tt);
+          locals = Every-append (LocalFits types t ft B) s.locals _
+              (locals-wider types t ft h.slots B wide s.locals ok.locals)
+              ((k.0, k.1, inl refl, typed ∙ ap (λ z. Some (known_type z)) k.1), tt);
           result = ok.result;
         };
       }
 
-  parameters : (n : ℕ) (l : ℕ) (ps : List (List ℕ × Option GoType)) (s : Scope) → Entered n s → Every (λ (p : List ℕ × Option GoType). IsKnown p.1) ps → s.next + length ps ≤ n → Slotted ft s.next (W.in_order (map (parameter_walk l) ps) s).slots
+  parameters : (n : ℕ) (l : ℕ) (ps : List (List ℕ × Option GoType)) (s : Scope) → Entered n s
+      → Every (λ (p : List ℕ × Option GoType). IsKnown p.1) ps → s.next + length ps ≤ n
+      → Slotted ft s.next (W.in_order (map (parameter_walk l) ps) s).slots
       → Entered n (behind s (W.in_order (map (parameter_walk l) ps) s))
   parameters n l [] s h known less slots = let ok = h.fits in record {
     slots = h.slots;
     below = h.below;
-    fits = record { file = ok.file; locals = subst (Every (LocalFits types t ft h.slots)) (sym (append-nil s.locals)) ok.locals; result = ok.result };
+    fits = record {
+      file = ok.file;
+      locals = subst (Every (LocalFits types t ft h.slots))
+          (sym (append-nil s.locals)) ok.locals;
+      result = ok.result;
+    };
   }
   parameters n l (p ∷ ps) s h known less slots =
       let w = parameter_walk l p s in
@@ -101,33 +119,54 @@ module _ (types : Types) (t : Tables) (ft : FunctionTypes) where
       record {
         slots = rest.slots;
         below = rest.below;
-        fits = record { file = ok.file; locals = subst (Every (LocalFits types t ft rest.slots)) (append_assoc s.locals w.declares v.declares) ok.locals; result = ok.result };
+        fits = record {
+          file = ok.file;
+          locals = subst (Every (LocalFits types t ft rest.slots))
+              (append_assoc s.locals w.declares v.declares) ok.locals;
+          result = ok.result;
+        };
       }
 
-  receiver : (n : ℕ) (l : ℕ) (file : Scope) (o : Option Receiver) (s : Scope) → Entered n s → ((r : Receiver) → o ≡ Some r → IsKnown (receiver_type file r.type_name)) → s.next + length (receiver_walk l file o s).slots ≤ n → Slotted ft s.next (receiver_walk l file o s).slots → Entered n (behind s (receiver_walk l file o s))
+  receiver : (n : ℕ) (l : ℕ) (file : Scope) (o : Option Receiver) (s : Scope) → Entered n s
+      → ((r : Receiver) → o ≡ Some r → IsKnown (receiver_type file r.type_name))
+      → s.next + length (receiver_walk l file o s).slots ≤ n → Slotted ft s.next (receiver_walk l file o s).slots
+      → Entered n (behind s (receiver_walk l file o s))
   receiver n l file None s h known less slots = let ok = h.fits in record {
     slots = h.slots;
     below = h.below;
-    fits = record { file = ok.file; locals = subst (Every (LocalFits types t ft h.slots)) (sym (append-nil s.locals)) ok.locals; result = ok.result };
+    fits = record {
+      file = ok.file;
+      locals = subst (Every (LocalFits types t ft h.slots))
+          (sym (append-nil s.locals)) ok.locals;
+      result = ok.result;
+    };
   }
-  receiver n l file (Some r) s h known less slots = one-parameter n l r.name (receiver_type file r.type_name) s h (known r refl) (omega (arith, less)) slots.0
+  receiver n l file (Some r) s h known less slots =
+      one-parameter n l r.name (receiver_type file r.type_name) s h (known r refl) (omega (arith, less)) slots.0
 
   -- the return at the end
-  last-ends : (l : ℕ) (o : Option GoType) (A : List ℕ) (s : Scope) → 0 < types.texts → ft.result ≡ option_map value_type o → Ends types ft (last_return l o) (shape [] A)
+  last-ends : (l : ℕ) (o : Option GoType) (A : List ℕ) (s : Scope) → 0 < types.texts
+      → ft.result ≡ option_map value_type o → Ends types ft (last_return l o) (shape [] A)
   last-ends l None A s few is = ends-op types ft Instr.Return l (shape [] A) (λ full k. is)
   last-ends l (Some e) A s few is =
-      ends-then types ft _ _ (shape [] A) (shape (value_type e ∷ []) A) (push-fits types t ft A s l (zero_value (Some e)) (value_type e) (zero-fits types t ft A s few e.layers e.base) [] [])
-      (ends-last types ft (op l Instr.ReturnValue) (shape (value_type e ∷ []) A) (ends-op types ft Instr.ReturnValue l (shape (value_type e ∷ []) A) (λ full k. (value_type e, [], is, refl))))
+      ends-then types ft _ _ (shape [] A) (shape (value_type e ∷ []) A)
+      (push-fits types t ft A s l (zero_value (Some e)) (value_type e)
+      (zero-fits types t ft A s few e.layers e.base) [] [])
+      (ends-last types ft (op l Instr.ReturnValue) (shape (value_type e ∷ []) A)
+      (ends-op types ft Instr.ReturnValue l (shape (value_type e ∷ []) A) (λ full k. (value_type e, [], is, refl))))
 
   each-right : (xs : List Stmt) → stmts_good (map stmt_form xs) ≡ true → EachRight types t ft (map (stmt_part t) xs)
   each-right [] g = tt
-  each-right (x ∷ xs) g = let b = and_parts (stmt_form x).good (stmts_good (map stmt_form xs)) g in (right-stmt types t ft x b.0, each-right xs b.1)
+  each-right (x ∷ xs) g = let b = and_parts (stmt_form x).good
+      (stmts_good (map stmt_form xs)) g in (right-stmt types t ft x b.0, each-right xs b.1)
 
   walks-are : (xs : List Stmt) → map (λ (p : Part). p.walk) (map (stmt_part t) xs) ≡ map walk xs
   walks-are [] = refl
-  walks-are (x ∷ xs) = ap (λ w. w ∷ map (λ (p : Part). p.walk) (map (stmt_part t) xs)) (statement t x) ∙ ap (λ ws. walk x ∷ ws) (walks-are xs)
+  walks-are (x ∷ xs) = ap (λ w. w ∷ map (λ (p : Part). p.walk) (map (stmt_part t) xs)) (statement t x)
+      ∙ ap (λ ws. walk x ∷ ws) (walks-are xs)
 
-parameters-long : (l : ℕ) (ps : List (List ℕ × Option GoType)) (s : Scope) → length (W.in_order (map (parameter_walk l) ps) s).slots ≡ length ps
+parameters-long : (l : ℕ) (ps : List (List ℕ × Option GoType)) (s : Scope)
+    → length (W.in_order (map (parameter_walk l) ps) s).slots ≡ length ps
 parameters-long l [] s = refl
 parameters-long l (p ∷ ps) s = ap (λ n. suc n) (parameters-long l ps (behind s (parameter_walk l p s)))
 
@@ -148,25 +187,40 @@ functions-fit types t gives names f n file ok made =
     let long = length-map P known_type in
     let parts = length-append r.slots p.slots in
     let count = parameters-long f.line ps s1 in
-    let whole : Slotted ft 0 (P ++ b.slots) = slotted-behind ft [] (P ++ b.slots) 0 refl (sym (known-append P b.slots)) in
+    let whole : Slotted ft 0 (P ++ b.slots) =
+    slotted-behind ft [] (P ++ b.slots) 0 refl (sym (known-append P b.slots)) in
     let front : Slotted ft 0 P = slotted-left types t ft 0 P b.slots whole in
     let none = ok.none in
-    let start : Entered types t ft N s0 = record { slots = []; below = tt; fits = record { file = file; locals = tt; result = refl } } in
-    let one = receiver types t ft N f.line out f.receiver s0 start ok.receiver (omega (arith, long, parts)) (slotted-left types t ft 0 r.slots p.slots front) in
-    let two = parameters types t ft N f.line ps s1 one ok.parameters (omega (arith, long, parts, count)) (slotted-right types t ft 0 s1.next r.slots p.slots refl front) in
+    let start : Entered types t ft N s0 = record {
+      slots = [];
+      below = tt;
+      fits = record { file = file; locals = tt; result = refl };
+    } in
+    let one = receiver types t ft N f.line out f.receiver s0 start ok.receiver (omega (arith, long, parts))
+    (slotted-left types t ft 0 r.slots p.slots front) in
+    let two = parameters types t ft N f.line ps s1 one ok.parameters (omega (arith, long, parts, count))
+    (slotted-right types t ft 0 s1.next r.slots p.slots refl front) in
     let behind-front = none-right p.faults _ (none-right r.faults _ none) in
-    let clean = subst (λ ws. (W.in_order ws sb).faults ≡ []) (sym (walks-are types t ft f.body)) (none-left (W.in_order (map walk f.body) sb).faults _ behind-front) in
-    let h = right-order types t ft (map (stmt_part t) f.body) (each-right types t ft f.body ok.good) (record { breaks = 0; continues = 0; functions = n }) sb two.slots [] two.fits (record { breaks = λ q. cc; continues = λ q. cc })
+    let clean = subst (λ ws. (W.in_order ws sb).faults ≡ []) (sym (walks-are types t ft f.body))
+    (none-left (W.in_order (map walk f.body) sb).faults _ behind-front) in
+    let h = right-order types t ft (map (stmt_part t) f.body) (each-right types t ft f.body ok.good)
+    (record { breaks = 0; continues = 0; functions = n }) sb two.slots [] two.fits
+    (record { breaks = λ q. cc; continues = λ q. cc })
     (slotted-right types t ft 0 sb.next P b.slots (omega (arith, parts)) whole) made clean in
     let leads = h.0 in
     let some_text = file.texts [] in
     let few : 0 < types.texts = omega (arith, some_text) in
     let piece = (body_laid t out n f).piece in
     let last = last_return f.line (result_type out f.result) in
-    let ends = ends-then types ft piece _ (shape [] two.slots) (shape [] leads.0) leads.3 (ends-last types ft last (shape [] leads.0) (last-ends types t ft f.line (result_type out f.result) leads.0 sb few refl)) in
+    let ends = ends-then types ft piece _ (shape [] two.slots) (shape [] leads.0) leads.3
+    (ends-last types ft last (shape [] leads.0)
+    (last-ends types t ft f.line (result_type out f.result) leads.0 sb few refl)) in
     let all-long = length-append (known_types P) (known_types b.slots) in
-    let rest-long = length-map b.slots known_type in
-    (bodies-fit types sig (all (piece ∷ last ∷ [])) two.slots (function_of t gives out f piece) ends two.below (omega (arith, all-long, rest-long, long, parts)) refl, h.1)
+    let rest-long = length-map b.slots known_type in (
+      bodies-fit types sig (all (piece ∷ last ∷ [])) two.slots (function_of t gives out f piece) ends two.below
+          (omega (arith, all-long, rest-long, long, parts)) refl,
+      h.1,
+    )
 
 -- Functions that are made.
 
@@ -183,17 +237,23 @@ numbers-below (suc n) m l = (omega (arith, l), numbers-below n m (omega (arith, 
 number-there : (n i : ℕ) → i < n → In i (numbers n)
 unfolding numbers
 number-there zero i l = absurd (omega (arith, l))
-number-there (suc n) i l = elim (less-or-last i n l) as (λ z. In i (n ∷ numbers n)) [ inl e ↦ inl e | inr m ↦ inr (number-there n i m) ]
+number-there (suc n) i l = elim (less-or-last i n l) as (λ z. In i (n ∷ numbers n)) [
+  | inl e ↦ inl e
+  | inr m ↦ inr
+      (number-there n i m)
+]
   where
     less-or-last : (i n : ℕ) → i < suc n → (i ≡ n) ⊎ (i < n)
     less-or-last zero zero m = inl refl
     less-or-last zero (suc k) m = inr (omega arith)
     less-or-last (suc j) zero m = absurd (omega (arith, m))
-    less-or-last (suc j) (suc k) m = elim (less-or-last j k (omega (arith, m))) as (λ z. (suc j ≡ suc k) ⊎ (suc j < suc k)) [ inl e ↦ inl (ap (λ z. suc z) e) | inr q ↦ inr (omega (arith, q)) ]
+    less-or-last (suc j) (suc k) m = elim (less-or-last j k (omega (arith, m))) as (λ z. (suc j ≡ suc k)
+        ⊎ (suc j < suc k)) [ inl e ↦ inl (ap (λ z. suc z) e) | inr q ↦ inr (omega (arith, q)) ]
 
 module _ (types : Types) (ft : FunctionTypes) (A : List ℕ) where
   -- each parameter is pushed
-  loads-has : (l i : ℕ) (pre : List ValueType) (xs : List (Option GoType)) → i ≡ length pre → slot_types ft ≡ pre ++ known_types xs → ((j : ℕ) → j < length (slot_types ft) → In j A) → (ops : List ValueType) (exits : List Shape)
+  loads-has : (l i : ℕ) (pre : List ValueType) (xs : List (Option GoType)) → i ≡ length pre → slot_types ft ≡ pre
+      ++ known_types xs → ((j : ℕ) → j < length (slot_types ft) → In j A) → (ops : List ValueType) (exits : List Shape)
       → Has types ft (loads l i xs) (shape ops A) (shape (pushed (known_types xs) ops) A) exits
   loads-has l i pre [] e is inside ops exits = has-empty types ft (shape ops A) exits
   loads-has l i pre (x ∷ xs) e is inside ops exits =
@@ -203,31 +263,65 @@ module _ (types : Types) (ft : FunctionTypes) (A : List ℕ) where
       let split = length-append pre (v ∷ known_types xs) in
       let one = length-append pre (v ∷ []) in
       has-then types ft (op l (Instr.Load i)) _ (shape ops A) (shape (v ∷ ops) A) _ exits
-      (has-op types ft (Instr.Load i) l (shape ops A) (shape (v ∷ ops) A) exits (λ full k g. (v, inside i (omega (arith, e, long, split)), s.0, (ops, refl, g))))
-      (loads-has l (i + 1) (pre ++ v ∷ []) xs (omega (arith, e, one)) (is ∙ sym (append_assoc pre (v ∷ []) (known_types xs))) inside (v ∷ ops) exits)
+      (has-op types ft (Instr.Load i) l (shape ops A) (shape (v ∷ ops) A) exits
+      (λ full k g. (v, inside i (omega (arith, e, long, split)), s.0, (ops, refl, g))))
+      (loads-has l (i + 1) (pre ++ v ∷ []) xs (omega (arith, e, one))
+      (is ∙ sym (append_assoc pre (v ∷ []) (known_types xs))) inside (v ∷ ops) exits)
 
-  takes : (l : ℕ) (i : Instr) (ts : List ValueType) → ((full : List Shape) (k : ℕ) → To (filled ft full) (shape [] A) (k + 1) → InstructionFits types (filled ft full) k i (shape ts A)) → Has types ft (op l i) (shape ts A) (shape [] A) []
+  takes : (l : ℕ) (i : Instr) (ts : List ValueType)
+      → ((full : List Shape) (k : ℕ) → To (filled ft full) (shape [] A) (k + 1)
+      → InstructionFits types (filled ft full) k i (shape ts A)) → Has types ft (op l i) (shape ts A) (shape [] A) []
   takes l i ts r = has-op types ft i l (shape ts A) (shape [] A) [] r
 
   -- the operation takes what its function is given
-  operation-has : (l n : ℕ) (b : BuiltIn) (ts : List ValueType) → BeginsWith b ts → Has types ft (operation l b n) (shape (pushed ts []) A) (shape [] A) []
-  operation-has l n built_in.Close ts h = subst (λ us. Has types ft (op l Instr.Close) (shape (pushed us []) A) (shape [] A) []) (sym h.1) (takes l Instr.Close (ValueType.Chan h.0 ∷ []) (λ full k g. (h.0, ([], refl, g))))
-  operation-has l n built_in.Add ts h = subst (λ us. Has types ft (op l Instr.GroupAdd) (shape (pushed us []) A) (shape [] A) []) (sym h) (takes l Instr.GroupAdd (ValueType.Int ∷ ValueType.Group ∷ []) (λ full k g. ([], refl, g)))
-  operation-has l n built_in.Done ts h = subst (λ us. Has types ft (operation l built_in.Done n) (shape (pushed us []) A) (shape [] A) []) (sym h)
-      (has-then types ft (op l (Instr.Int (negsuc 0))) _ (shape (ValueType.Group ∷ []) A) (shape (ValueType.Int ∷ ValueType.Group ∷ []) A) (shape [] A) []
-      (has-op types ft (Instr.Int (negsuc 0)) l (shape (ValueType.Group ∷ []) A) (shape (ValueType.Int ∷ ValueType.Group ∷ []) A) [] (λ full k g. (ValueType.Group ∷ [], refl, g)))
-      (has-then types ft (op l Instr.GroupAdd) Piece.Empty (shape (ValueType.Int ∷ ValueType.Group ∷ []) A) (shape [] A) (shape [] A) []
-      (takes l Instr.GroupAdd (ValueType.Int ∷ ValueType.Group ∷ []) (λ full k g. ([], refl, g))) (has-empty types ft (shape [] A) [])))
-  operation-has l n built_in.Lock ts h = subst (λ us. Has types ft (op l Instr.Lock) (shape (pushed us []) A) (shape [] A) []) (sym h) (takes l Instr.Lock (ValueType.Mutex ∷ []) (λ full k g. ([], refl, g)))
-  operation-has l n built_in.Unlock ts h = subst (λ us. Has types ft (op l Instr.Unlock) (shape (pushed us []) A) (shape [] A) []) (sym h) (takes l Instr.Unlock (ValueType.Mutex ∷ []) (λ full k g. ([], refl, g)))
-  operation-has l n built_in.WaitGroup ts h = subst (λ us. Has types ft (op l Instr.GroupWait) (shape (pushed us []) A) (shape [] A) []) (sym h) (takes l Instr.GroupWait (ValueType.Group ∷ []) (λ full k g. ([], refl, g)))
-  operation-has l n built_in.WriteLock ts h = subst (λ us. Has types ft (op l Instr.RwLock) (shape (pushed us []) A) (shape [] A) []) (sym h) (takes l Instr.RwLock (ValueType.Rw ∷ []) (λ full k g. ([], refl, g)))
-  operation-has l n built_in.WriteUnlock ts h = subst (λ us. Has types ft (op l Instr.RwUnlock) (shape (pushed us []) A) (shape [] A) []) (sym h) (takes l Instr.RwUnlock (ValueType.Rw ∷ []) (λ full k g. ([], refl, g)))
-  operation-has l n built_in.ReadLock ts h = subst (λ us. Has types ft (op l Instr.ReadLock) (shape (pushed us []) A) (shape [] A) []) (sym h) (takes l Instr.ReadLock (ValueType.Rw ∷ []) (λ full k g. ([], refl, g)))
-  operation-has l n built_in.ReadUnlock ts h = subst (λ us. Has types ft (op l Instr.ReadUnlock) (shape (pushed us []) A) (shape [] A) []) (sym h) (takes l Instr.ReadUnlock (ValueType.Rw ∷ []) (λ full k g. ([], refl, g)))
-  operation-has l n built_in.WaitCondition ts h = subst (λ us. Has types ft (op l Instr.CondWait) (shape (pushed us []) A) (shape [] A) []) (sym h) (takes l Instr.CondWait (ValueType.Cond ∷ []) (λ full k g. ([], refl, g)))
-  operation-has l n built_in.Signal ts h = subst (λ us. Has types ft (op l Instr.CondSignal) (shape (pushed us []) A) (shape [] A) []) (sym h) (takes l Instr.CondSignal (ValueType.Cond ∷ []) (λ full k g. ([], refl, g)))
-  operation-has l n built_in.Broadcast ts h = subst (λ us. Has types ft (op l Instr.CondBroadcast) (shape (pushed us []) A) (shape [] A) []) (sym h) (takes l Instr.CondBroadcast (ValueType.Cond ∷ []) (λ full k g. ([], refl, g)))
+  operation-has : (l n : ℕ) (b : BuiltIn) (ts : List ValueType) → BeginsWith b ts
+      → Has types ft (operation l b n) (shape (pushed ts []) A) (shape [] A) []
+  operation-has l n built_in.Close ts h =
+      subst (λ us. Has types ft (op l Instr.Close) (shape (pushed us []) A) (shape [] A) []) (sym h.1)
+      (takes l Instr.Close (ValueType.Chan h.0 ∷ []) (λ full k g. (h.0, ([], refl, g))))
+  operation-has l n built_in.Add ts h = subst
+      (λ us. Has types ft (op l Instr.GroupAdd) (shape (pushed us []) A) (shape [] A) []) (sym h)
+      (takes l Instr.GroupAdd (ValueType.Int ∷ ValueType.Group ∷ []) (λ full k g. ([], refl, g)))
+  operation-has l n built_in.Done ts h = subst
+      (λ us. Has types ft (operation l built_in.Done n) (shape (pushed us []) A) (shape [] A) []) (sym h)
+      (has-then types ft (op l (Instr.Int (negsuc 0))) _ (shape (ValueType.Group ∷ []) A)
+      (shape (ValueType.Int ∷ ValueType.Group ∷ []) A) (shape [] A) []
+      (has-op types ft (Instr.Int (negsuc 0)) l (shape (ValueType.Group ∷ []) A)
+      (shape (ValueType.Int ∷ ValueType.Group ∷ []) A) [] (λ full k g. (ValueType.Group ∷ [], refl, g)))
+      (has-then types ft (op l Instr.GroupAdd) Piece.Empty (shape (ValueType.Int ∷ ValueType.Group ∷ []) A) (shape [] A)
+      (shape [] A) []
+      (takes l Instr.GroupAdd (ValueType.Int ∷ ValueType.Group ∷ []) (λ full k g. ([], refl, g)))
+      (has-empty types ft (shape [] A) [])))
+  operation-has l n built_in.Lock ts h = subst
+      (λ us. Has types ft (op l Instr.Lock) (shape (pushed us []) A) (shape [] A) []) (sym h)
+      (takes l Instr.Lock (ValueType.Mutex ∷ []) (λ full k g. ([], refl, g)))
+  operation-has l n built_in.Unlock ts h =
+      subst (λ us. Has types ft (op l Instr.Unlock) (shape (pushed us []) A) (shape [] A) []) (sym h)
+      (takes l Instr.Unlock (ValueType.Mutex ∷ []) (λ full k g. ([], refl, g)))
+  operation-has l n built_in.WaitGroup ts h =
+      subst (λ us. Has types ft (op l Instr.GroupWait) (shape (pushed us []) A) (shape [] A) []) (sym h)
+      (takes l Instr.GroupWait (ValueType.Group ∷ []) (λ full k g. ([], refl, g)))
+  operation-has l n built_in.WriteLock ts h =
+      subst (λ us. Has types ft (op l Instr.RwLock) (shape (pushed us []) A) (shape [] A) []) (sym h)
+      (takes l Instr.RwLock (ValueType.Rw ∷ []) (λ full k g. ([], refl, g)))
+  operation-has l n built_in.WriteUnlock ts h =
+      subst (λ us. Has types ft (op l Instr.RwUnlock) (shape (pushed us []) A) (shape [] A) []) (sym h)
+      (takes l Instr.RwUnlock (ValueType.Rw ∷ []) (λ full k g. ([], refl, g)))
+  operation-has l n built_in.ReadLock ts h =
+      subst (λ us. Has types ft (op l Instr.ReadLock) (shape (pushed us []) A) (shape [] A) []) (sym h)
+      (takes l Instr.ReadLock (ValueType.Rw ∷ []) (λ full k g. ([], refl, g)))
+  operation-has l n built_in.ReadUnlock ts h =
+      subst (λ us. Has types ft (op l Instr.ReadUnlock) (shape (pushed us []) A) (shape [] A) []) (sym h)
+      (takes l Instr.ReadUnlock (ValueType.Rw ∷ []) (λ full k g. ([], refl, g)))
+  operation-has l n built_in.WaitCondition ts h =
+      subst (λ us. Has types ft (op l Instr.CondWait) (shape (pushed us []) A) (shape [] A) []) (sym h)
+      (takes l Instr.CondWait (ValueType.Cond ∷ []) (λ full k g. ([], refl, g)))
+  operation-has l n built_in.Signal ts h =
+      subst (λ us. Has types ft (op l Instr.CondSignal) (shape (pushed us []) A) (shape [] A) []) (sym h)
+      (takes l Instr.CondSignal (ValueType.Cond ∷ []) (λ full k g. ([], refl, g)))
+  operation-has l n built_in.Broadcast ts h =
+      subst (λ us. Has types ft (op l Instr.CondBroadcast) (shape (pushed us []) A) (shape [] A) []) (sym h)
+      (takes l Instr.CondBroadcast (ValueType.Cond ∷ []) (λ full k g. ([], refl, g)))
   operation-has l n _ ts h = absurd h
 
 pub made-functions-fit : MadeFunctionsFit
@@ -247,5 +341,7 @@ made-functions-fit types gives m h =
     let count = length-map m.parameters known_type in
     let ends = ends-then types ft (loads l 0 m.parameters) _ (shape [] A) (shape (pushed ts []) A) loaded
     (ends-then types ft (operation l m.operation (length m.parameters)) _ (shape (pushed ts []) A) (shape [] A) done
-    (ends-last types ft (op l Instr.Return) (shape [] A) (ends-op types ft Instr.Return l (shape [] A) (λ full k. refl)))) in
-    bodies-fit types sig body A (made_function gives m) ends (numbers-below n n (omega arith)) (omega (arith, long, count)) refl
+    (ends-last types ft (op l Instr.Return) (shape [] A)
+    (ends-op types ft Instr.Return l (shape [] A) (λ full k. refl)))) in
+    bodies-fit types sig body A (made_function gives m) ends (numbers-below n n (omega arith))
+    (omega (arith, long, count)) refl

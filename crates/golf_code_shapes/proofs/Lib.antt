@@ -18,3 +18,12 @@ pub mod Choices
 pub mod Stmts
 pub mod Functions
 pub mod WholeFiles
+pub mod Pieces
+pub mod Bodies
+pub mod Gets
+pub mod Meanings
+pub mod Methods
+pub mod Callees
+pub mod Mains
+pub mod Forms
+pub mod Globals

@@ -25,7 +25,8 @@ use Rattle.golf_code_shapes.proofs.Ranges.{RangeFits, over-given}
 
 module _ (types : Types) (t : Tables) (ft : FunctionTypes) where
   -- what the names declare is known inside alone
-  pub right-range : (l : ℕ) (names : RangeNames) (e : Expr) (xs : List Part) → Right types t ft (block xs) → Right types t ft (in_block (ranging t l names e xs))
+  pub right-range : (l : ℕ) (names : RangeNames) (e : Expr) (xs : List Part) → Right types t ft (block xs)
+      → Right types t ft (in_block (ranging t l names e xs))
   right-range l names e xs right a s A exits ok ways slots made none =
       let s0 = begun s in
       let ok0 : ScopeFits types t ft A s0 = record { file = ok.file; locals = ok.locals; result = ok.result } in
@@ -48,5 +49,6 @@ module _ (types : Types) (t : Tables) (ft : FunctionTypes) where
           none = none-right rs.faults _ rest;
         });
       } in
-      let h = over-given types t ft l g (piece_at t l s0 e) exits fit (none-right (used l j) _ head) (value-of types t ft l e s0 A ok0 (none-left (used l j) _ head)) in
+      let h = over-given types t ft l g (piece_at t l s0 e) exits fit (none-right (used l j) _ head)
+      (value-of types t ft l e s0 A ok0 (none-left (used l j) _ head)) in
       (quiet types t ft A exits s ((in_block (ranging t l names e xs)).walk s) _ refl ok h.0, h.1)

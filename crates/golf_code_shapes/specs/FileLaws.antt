@@ -20,7 +20,8 @@ use Rattle.golf_check_types.specs.Judging.{judge_at}
 use Rattle.golf_check_types.specs.declared.operands.Operand.{Operand}
 use Rattle.golf_check_types.specs.declared.scopes.Member.{Member}
 use Rattle.golf_check_types.specs.Scopes.{file_operand, member}
-use Rattle.golf_check_types.specs.Files.{outside, file_scope, with_imports, no_imports, globals_above, receiver_type, all_typed_names, Typed}
+use Rattle.golf_check_types.specs.Files.{outside, file_scope, with_imports, no_imports, globals_above, receiver_type}
+use Rattle.golf_check_types.specs.Files.{all_typed_names, Typed}
 use Rattle.golf_model_typing.specs.Types.{Shape, Signature, Types}
 use Rattle.golf_model_typing.specs.Shapes.{HasShapes}
 use Rattle.golf_code_of.specs.declared.tables.Tables.{Tables}
@@ -88,7 +89,8 @@ pub record NamesFit (t : Tables) (f : FileScope) (xs : List Decl) : Type 0 where
   pub names : (n : List ℕ) (m : Operand) → file_operand f n ≡ Some m → NameFits (types_of_code t f xs) t f m
   pub members : (k : ℕ) (n : List ℕ) (m : Member) → member f k n ≡ Some m → MemberFits (types_of_code t f xs) t f k m
   pub declarations : DeclarationsAreKnown f 0 xs
-  pub main : (callee : Signature) × (slice_get (types_of_code t f xs).functions (main_number f) ≡ Some callee) × (callee.params ≡ []) × (callee.result ≡ None)
+  pub main : (callee : Signature) × (slice_get (types_of_code t f xs).functions (main_number f) ≡ Some callee)
+      × (callee.params ≡ []) × (callee.result ≡ None)
 
 -- the names of a file
 abbrev pub scope_of : File → FileScope
@@ -99,5 +101,6 @@ types_of_file file = types_of_code (tables_of file.declarations) (scope_of file)
 
 -- a well-formed file that breaks no rule, and whose names fit, has code that has shapes
 abbrev pub FilesFit : Type 0
-FilesFit = (file : File) → Typed file → list_all decl_good file.declarations ≡ true → NamesFit (tables_of file.declarations) (scope_of file) file.declarations
+FilesFit = (file : File) → Typed file → list_all decl_good file.declarations ≡ true
+    → NamesFit (tables_of file.declarations) (scope_of file) file.declarations
     → (shapes : List (List Shape)) × HasShapes (CodeOf file) (record { of = types_of_file file; shapes = shapes })

@@ -9,7 +9,7 @@ use Rattle.golf_check_types.specs.Statements.{Walk, behind}
 use Rattle.golf_model_typing.specs.Types.{ValueType, Shape, Signature, FunctionTypes, Types}
 use Rattle.golf_model_typing.specs.Shapes.{slot_types}
 use Rattle.golf_code_layout.specs.Piece.{Piece}
-use Rattle.golf_code_shapes_layout.specs.Has.{shape, Has, Reaches}
+use Rattle.golf_code_shapes.specs.Has.{shape, Has, Reaches}
 use Rattle.golf_code_of.specs.declared.tables.Tables.{Tables}
 use Rattle.golf_code_of.specs.declared.making.Making.{Making}
 use Rattle.golf_code_of.specs.declared.making.Around.{Around}
@@ -25,7 +25,8 @@ Slotted ft n (o ∷ os) = (slice_get (slot_types ft) n ≡ Some (known_type o)) 
 -- the functions from this one on are those that are made
 abbrev pub MadeFit : Types → ℕ → List Making → Type 0
 MadeFit types n [] = Unit {0}
-MadeFit types n (m ∷ ms) = ((callee : Signature) × (slice_get types.functions n ≡ Some callee) × (callee.params ≡ known_types m.parameters)) × MadeFit types (n + 1) ms
+MadeFit types n (m ∷ ms) = ((callee : Signature) × (slice_get types.functions n ≡ Some callee)
+    × (callee.params ≡ known_types m.parameters)) × MadeFit types (n + 1) ms
 
 -- the operands of a built-in operation that `go` and `defer` begin, in source order
 abbrev pub BeginsWith : BuiltIn → List ValueType → Type 0
@@ -55,19 +56,24 @@ pub record WaysFit (assigned : List ℕ) (exits : List Shape) (s : Scope) (a : A
 
 -- the piece leads on, with more slots assigned, and after it the names fit
 abbrev pub Leads : Types → Tables → FunctionTypes → List ℕ → List Shape → Scope → Piece → Type 0
-Leads types t ft assigned exits s p = (more : List ℕ) × Every (λ i. In i more) assigned × ScopeFits types t ft more s × Has types ft p (shape [] assigned) (shape [] more) exits
+Leads types t ft assigned exits s p = (more : List ℕ) × Every (λ i. In i more) assigned × ScopeFits types t ft more s
+    × Has types ft p (shape [] assigned) (shape [] more) exits
 
 -- if the names of a scope fit, a statement that breaks no rule leads on
 abbrev pub StatementFits : Types → Tables → FunctionTypes → Walk → Lay → Type 0
 StatementFits types t ft w x =
-    (a : Around) (s : Scope) (assigned : List ℕ) (exits : List Shape) → ScopeFits types t ft assigned s → WaysFit assigned exits s a → Slotted ft s.next (w s).slots → MadeFit types a.functions (x a s).made → (w s).faults ≡ []
+    (a : Around) (s : Scope) (assigned : List ℕ) (exits : List Shape) → ScopeFits types t ft assigned s
+    → WaysFit assigned exits s a → Slotted ft s.next (w s).slots → MadeFit types a.functions (x a s).made
+    → (w s).faults ≡ []
     → Leads types t ft assigned exits (behind s (w s)) (x a s).piece × Every IsMaking (x a s).made
 
 -- the same of a piece that no jump leaves
 abbrev pub Moves : Types → Tables → FunctionTypes → List ℕ → Scope → Piece → Type 0
-Moves types t ft assigned s p = (more : List ℕ) × Every (λ i. In i more) assigned × ScopeFits types t ft more s × ((exits : List Shape) → Has types ft p (shape [] assigned) (shape [] more) exits)
+Moves types t ft assigned s p = (more : List ℕ) × Every (λ i. In i more) assigned × ScopeFits types t ft more s
+    × ((exits : List Shape) → Has types ft p (shape [] assigned) (shape [] more) exits)
 
 -- if the names of a scope fit, a simple statement that breaks no rule moves on
 abbrev pub SimpleFits : Types → Tables → FunctionTypes → Walk → (Scope → Piece) → Type 0
 SimpleFits types t ft w p =
-    (s : Scope) (assigned : List ℕ) → ScopeFits types t ft assigned s → Slotted ft s.next (w s).slots → (w s).faults ≡ [] → Moves types t ft assigned (behind s (w s)) (p s)
+    (s : Scope) (assigned : List ℕ) → ScopeFits types t ft assigned s → Slotted ft s.next (w s).slots
+    → (w s).faults ≡ [] → Moves types t ft assigned (behind s (w s)) (p s)

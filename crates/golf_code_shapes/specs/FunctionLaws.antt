@@ -10,7 +10,8 @@ use Rattle.golf_check_types.specs.declared.scopes.FileScope.{FileScope}
 use Rattle.golf_check_types.specs.declared.scopes.Scope.{Scope}
 use Rattle.golf_check_types.specs.Statements as W
 use Rattle.golf_check_types.specs.Statements.{behind}
-use Rattle.golf_check_types.specs.Files.{outside, result_type, receiver_walk, receiver_type, parameter_walk, all_typed_names, func_walk, body_scope}
+use Rattle.golf_check_types.specs.Files.{outside, result_type, receiver_walk, receiver_type, parameter_walk}
+use Rattle.golf_check_types.specs.Files.{all_typed_names, func_walk, body_scope}
 use Rattle.golf_model_typing.specs.Types.{Shape, Signature, Types, with_shapes}
 use Rattle.golf_model_typing.specs.Shapes.{FunctionFits}
 use Rattle.golf_code_of.specs.declared.tables.Tables.{Tables}
@@ -48,8 +49,12 @@ pub record FunctionIsFit (file : Scope) (f : Func) : Type 0 where
 
 -- such a function fits its types, if those of the names of the file and of the functions that are made fit
 abbrev pub FunctionsFit : Type 0
-FunctionsFit = (types : Types) (t : Tables) (gives : List Bool) (names : FileScope) (f : Func) (n : ℕ) → FileFits types t names → FunctionIsFit (outside names) f → MadeFit types n (body_laid t (outside names) n f).made
-    → ((shapes : List Shape) × FunctionFits types (function_of t gives (outside names) f (body_laid t (outside names) n f).piece) (with_shapes (function_signature t (outside names) f) shapes)) × Every IsMaking (body_laid t (outside names) n f).made
+FunctionsFit = (types : Types) (t : Tables) (gives : List Bool) (names : FileScope) (f : Func) (n : ℕ)
+    → FileFits types t names → FunctionIsFit (outside names) f → MadeFit types n (body_laid t (outside names) n f).made
+    → ((shapes : List Shape) × FunctionFits types
+    (function_of t gives (outside names) f (body_laid t (outside names) n f).piece)
+    (with_shapes (function_signature t (outside names) f) shapes))
+    × Every IsMaking (body_laid t (outside names) n f).made
 
 -- the types of a function that is made
 abbrev pub made_signature : Making → Signature
@@ -57,4 +62,5 @@ made_signature m = record { params = known_types m.parameters; locals = []; resu
 
 -- it fits them
 abbrev pub MadeFunctionsFit : Type 0
-MadeFunctionsFit = (types : Types) (gives : List Bool) (m : Making) → IsMaking m → (shapes : List Shape) × FunctionFits types (made_function gives m) (with_shapes (made_signature m) shapes)
+MadeFunctionsFit = (types : Types) (gives : List Bool) (m : Making) → IsMaking m → (shapes : List Shape)
+    × FunctionFits types (made_function gives m) (with_shapes (made_signature m) shapes)

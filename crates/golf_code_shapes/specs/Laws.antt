@@ -14,13 +14,17 @@ use Rattle.golf_code_of.specs.Laying.{stmt_part}
 use Rattle.golf_code_shapes.specs.Flowing.{StatementFits}
 use Rattle.golf_code_shapes.specs.Sound.{ScopeFits, Shown}
 
--- if the names of a scope mean what the types of the code say, an expression that breaks no rule has the code of what it is
+-- if the names of a scope mean what the types of the code say, an expression that breaks no rule has the code of what
+-- it is
 abbrev pub ExpressionFits : Types → Tables → FunctionTypes → Judge → (ℕ → Scope → Made) → Type 0
-ExpressionFits types t ft j c = (l : ℕ) (s : Scope) (assigned : List ℕ) → ScopeFits types t ft assigned s → (j l s).faults ≡ [] → Shown types t ft assigned s.file (j l s).meaning (c l s)
+ExpressionFits types t ft j c = (l : ℕ) (s : Scope) (assigned : List ℕ) → ScopeFits types t ft assigned s
+    → (j l s).faults ≡ [] → Shown types t ft assigned s.file (j l s).meaning (c l s)
 
 abbrev pub ExpressionsFit : Type 0
-ExpressionsFit = (types : Types) (t : Tables) (ft : FunctionTypes) (e : Expr) → ExpressionFits types t ft (judge e) (coded t e).code
+ExpressionsFit = (types : Types) (t : Tables) (ft : FunctionTypes) (e : Expr)
+    → ExpressionFits types t ft (judge e) (coded t e).code
 
 -- the same of a well-formed statement: it leads on
 abbrev pub StatementsFit : Type 0
-StatementsFit = (types : Types) (t : Tables) (ft : FunctionTypes) (x : Stmt) → (stmt_form x).good ≡ true → StatementFits types t ft (walk x) (stmt_part t x).lay
+StatementsFit = (types : Types) (t : Tables) (ft : FunctionTypes) (x : Stmt) → (stmt_form x).good ≡ true
+    → StatementFits types t ft (walk x) (stmt_part t x).lay

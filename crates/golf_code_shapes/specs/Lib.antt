@@ -4,3 +4,8 @@ pub mod Laws
 pub mod Flowing
 pub mod FunctionLaws
 pub mod FileLaws
+pub mod Has
+pub mod LayoutLaws
+pub mod Parts
+pub mod NameLaws
+pub mod GlobalLaws

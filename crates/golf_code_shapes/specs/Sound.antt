@@ -1,4 +1,5 @@
--- What is said of the code of expressions and statements: names mean what the types of the code say, and code that breaks no rule has shapes.
+-- What is said of the code of expressions and statements: names mean what the types of the code say, and code that
+-- breaks no rule has shapes.
 use Rattle.std.specs.Prelude.{◌≡◌, ℕ, ◌+◌, ◌<◌, List, [], ◌∷◌, ◌++◌, Option, Some, None, slice_get}
 use Rattle.std.specs.Option.{option_map, option_and_then}
 use Rattle.golf_theory.specs.Membership.{In, Every}
@@ -19,7 +20,7 @@ use Rattle.golf_check_types.specs.Scopes.{type_at, file_operand, member}
 use Rattle.golf_model_typing.specs.Types.{ValueType, IsNilable, Shape, Signature, FunctionTypes, Types, ValueFits}
 use Rattle.golf_model_typing.specs.Shapes.{slot_types}
 use Rattle.golf_code_layout.specs.Piece.{Piece}
-use Rattle.golf_code_shapes_layout.specs.Has.{shape, Has}
+use Rattle.golf_code_shapes.specs.Has.{shape, Has}
 use Rattle.golf_code_of.specs.Table.{text_number}
 use Rattle.golf_code_of.specs.declared.tables.Tables.{Tables}
 use Rattle.golf_code_of.specs.Values.{constant}
@@ -38,8 +39,10 @@ module _ (types : Types) (t : Tables) where
   -- the function of this number of a file has these types in the code; a method has its receiver as the first parameter
   abbrev pub Callee : FileScope → ℕ → List ValueType → Type 0
   Callee f k receiver =
-      (sig : Declared) × (callee : Signature) × (slice_get f.functions k ≡ Some sig) × (slice_get types.functions (k + 1) ≡ Some callee)
-      × (callee.params ≡ receiver ++ known_types sig.parameters) × (callee.result ≡ option_map value_type sig.result) × Every IsKnown sig.parameters
+      (sig : Declared) × (callee : Signature) × (slice_get f.functions k ≡ Some sig)
+      × (slice_get types.functions (k + 1) ≡ Some callee)
+      × (callee.params ≡ receiver ++ known_types sig.parameters) × (callee.result ≡ option_map value_type sig.result)
+      × Every IsKnown sig.parameters
 
   -- what a name of the file means
   abbrev pub NameFits : FileScope → Operand → Type 0
@@ -50,7 +53,8 @@ module _ (types : Types) (t : Tables) where
   NameFits f _ = ⊥
 
   abbrev pub MemberFits : FileScope → ℕ → Member → Type 0
-  MemberFits f k (members.Field i) = (ts : List ValueType) × (of_type : GoType) × (slice_get types.structs k ≡ Some ts) × (type_of_field f k i ≡ Some of_type) × (slice_get ts i ≡ Some (value_type of_type))
+  MemberFits f k (members.Field i) = (ts : List ValueType) × (of_type : GoType) × (slice_get types.structs k ≡ Some ts)
+      × (type_of_field f k i ≡ Some of_type) × (slice_get ts i ≡ Some (value_type of_type))
   MemberFits f k (members.Method q) = Callee f q (ValueType.Struct k ∷ [])
 
   -- the names of a file mean what the types of the code say
@@ -62,7 +66,8 @@ module _ (types : Types) (t : Tables) where
 module _ (types : Types) (t : Tables) (ft : FunctionTypes) where
   -- a local is in a slot of its type, which is assigned
   abbrev pub LocalFits : List ℕ → Local → Type 0
-  LocalFits assigned d = (of_type : GoType) × (d.of_type ≡ Some of_type) × In d.slot assigned × (slice_get (slot_types ft) d.slot ≡ Some (value_type of_type))
+  LocalFits assigned d = (of_type : GoType) × (d.of_type ≡ Some of_type) × In d.slot assigned
+      × (slice_get (slot_types ft) d.slot ≡ Some (value_type of_type))
 
   pub record ScopeFits (assigned : List ℕ) (s : Scope) : Type 0 where
     pub file : FileFits types t s.file
@@ -72,7 +77,8 @@ module _ (types : Types) (t : Tables) (ft : FunctionTypes) where
 module _ (types : Types) (ft : FunctionTypes) (assigned : List ℕ) where
   -- takes these operands, the top one first, and leaves those
   abbrev pub Turns : Piece → List ValueType → List ValueType → Type 0
-  Turns p takes leaves = (ops : List ValueType) (exits : List Shape) → Has types ft p (shape (takes ++ ops) assigned) (shape (leaves ++ ops) assigned) exits
+  Turns p takes leaves = (ops : List ValueType) (exits : List Shape)
+      → Has types ft p (shape (takes ++ ops) assigned) (shape (leaves ++ ops) assigned) exits
 
   abbrev pub Pushes : Piece → ValueType → Type 0
   Pushes p e = Turns p [] (e ∷ [])
@@ -85,7 +91,8 @@ module _ (types : Types) (ft : FunctionTypes) (assigned : List ℕ) where
   pub record Places (x : Made) (e : ValueType) : Type 0 where
     pub told : List ValueType
     pub parts : Turns x.parts [] told
-    pub twice : (ops : List ValueType) (exits : List Shape) → Has types ft x.twice (shape (told ++ ops) assigned) (shape (told ++ (told ++ ops)) assigned) exits
+    pub twice : (ops : List ValueType) (exits : List Shape)
+        → Has types ft x.twice (shape (told ++ ops) assigned) (shape (told ++ (told ++ ops)) assigned) exits
     pub read : Turns x.read told (e ∷ [])
     pub store : Turns x.store (e ∷ told) []
 
@@ -108,11 +115,13 @@ module _ (types : Types) (t : Tables) (ft : FunctionTypes) (assigned : List ℕ)
   Shown (operand.Field i (Some e)) x = PlaceOf types ft assigned x (value_type e)
   Shown (operand.Element (Some e)) x = PlaceOf types ft assigned x (value_type e)
   Shown operand.Nil x = (e : ValueType) → IsNilable e → Pushes types ft assigned x.piece e
-  Shown operand.Blank x = Silent types ft assigned x.parts × ((e : ValueType) → Turns types ft assigned x.store (e ∷ []) [])
+  Shown operand.Blank x = Silent types ft assigned x.parts
+      × ((e : ValueType) → Turns types ft assigned x.store (e ∷ []) [])
   Shown (operand.Nothing None) x = Silent types ft assigned x.piece
   Shown (operand.Nothing (Some rule)) x = Unit {0}
   Shown (operand.Function k) x = Silent types ft assigned x.piece × Callee types t f k []
-  Shown (operand.Method k) x = (j : ℕ) × Pushes types ft assigned x.piece (ValueType.Struct j) × Callee types t f k (ValueType.Struct j ∷ [])
+  Shown (operand.Method k) x = (j : ℕ) × Pushes types ft assigned x.piece (ValueType.Struct j)
+      × Callee types t f k (ValueType.Struct j ∷ [])
   Shown (operand.BuiltIn b) x = Receives types ft assigned (receiver_base b) x.piece
   Shown (operand.Package p) x = Silent types ft assigned x.piece
   Shown (operand.Struct k) x = Unit {0}

@@ -3,7 +3,8 @@
 ghost use Rattle.std.specs.Prelude.{◌≡◌, ◌+◌};
 ghost use Rattle.golf_code_facts.specs.Facts.{past_one};
 ghost use Rattle.golf_code_facts.specs.Statements.{past_two};
-ghost use Rattle.golf_code_facts.specs.Loops.{past_names, index_name as index_name_of, element_name as element_name_of, slice_names as slice_names_of, channel_name as channel_name_of};
+ghost use Rattle.golf_code_facts.specs.Loops.{past_names, index_name as index_name_of, element_name as element_name_of};
+ghost use Rattle.golf_code_facts.specs.Loops.{slice_names as slice_names_of, channel_name as channel_name_of};
 ghost use Rattle.golf_code_expressions.specs.Writing.{Writes};
 
 use crate::names::store_next;

@@ -18,7 +18,8 @@ use Rattle.golf_code_statements.specs.Lays.{after}
 use Rattle.golf_code_statements.proofs.Seams.{written, quiet}
 
 -- as many arguments as expressions
-pub as_many : (t : Tables) (l : ℕ) (xs : List Expr) (fs : List Fact) → length (arguments l (map (taking t) xs) fs) ≡ length xs
+pub as_many : (t : Tables) (l : ℕ) (xs : List Expr) (fs : List Fact)
+    → length (arguments l (map (taking t) xs) fs) ≡ length xs
 as_many t l [] fs = refl
 as_many t l (x ∷ xs) fs = ap (λ n. suc n) (as_many t l xs (skip fs))
 
@@ -30,12 +31,15 @@ module _ (w : Writer) (l : ℕ) (begin : ℕ → ℕ → Instr) (xs : List Expr)
   abbrev calls : Instr → Writer
   calls i = written (skip_all (length xs) w.facts) (with_piece w.draft (all (pushes ys ∷ op l i ∷ [])))
 
-  pub function_begun : (k : ℕ) → calls (begin (k + 1) (length xs + 0)) ≡ after w (begun w.draft.tables.now l begin w.draft.functions (operand.Function k) xs w.facts)
+  pub function_begun : (k : ℕ) → calls (begin (k + 1) (length xs + 0)) ≡ after w
+      (begun w.draft.tables.now l begin w.draft.functions (operand.Function k) xs w.facts)
   function_begun k =
-      ap (λ n. calls (begin (k + 1) n)) (let e : length xs + 0 ≡ length ys = omega (arith, as_many w.draft.tables.now l xs w.facts) in e)
+      ap (λ n. calls (begin (k + 1) n)) (let e : length xs + 0 ≡ length ys = omega
+      (arith, as_many w.draft.tables.now l xs w.facts) in e)
       ∙ quiet w (all (pushes ys ∷ op l (begin (k + 1) (length ys)) ∷ [])) (skip_all (length xs) w.facts)
 
-  pub method_begun : (k : ℕ) → calls (begin (k + 1) (length xs + 1)) ≡ after w (begun w.draft.tables.now l begin w.draft.functions (operand.Method k) xs w.facts)
+  pub method_begun : (k : ℕ) → calls (begin (k + 1) (length xs + 1)) ≡ after w
+      (begun w.draft.tables.now l begin w.draft.functions (operand.Method k) xs w.facts)
   method_begun k =
       ap (λ n. calls (begin (k + 1) (n + 1))) (sym (as_many w.draft.tables.now l xs w.facts))
       ∙ quiet w (all (pushes ys ∷ op l (begin (k + 1) (length ys + 1)) ∷ [])) (skip_all (length xs) w.facts)

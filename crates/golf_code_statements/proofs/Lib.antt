@@ -3,4 +3,3 @@ pub mod Selects
 pub mod Begun
 pub mod Types
 pub mod Branches
-pub mod Elses

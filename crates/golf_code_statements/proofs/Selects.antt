@@ -1,7 +1,8 @@
 -- The clauses of a `select` one after the other are its code.
 -- For: `select_at` and `clauses_at`, src/statements.rt.
 -- By: induction over the list of clauses.
-use Rattle.std.proofs.Common.{◌≡◌, ℕ, suc, ◌+◌, ◌<◌, List, [], ◌∷◌, ◌++◌, length, map, drop, get_or, add-one, ap, sym, ◌∙◌}
+use Rattle.std.proofs.Common.{◌≡◌, ℕ, suc, ◌+◌, ◌<◌, List, [], ◌∷◌, ◌++◌, length, map, drop, get_or, add-one, ap, sym}
+use Rattle.std.proofs.Common.{◌∙◌}
 use Rattle.std.proofs.Math.Seq.{drop-cons}
 use Rattle.golf_check_types.specs.declared.facts.Fact.{Fact}
 use Rattle.golf_code_layout.specs.Piece.{Piece, all}
@@ -23,7 +24,8 @@ marked fs d ms = written fs (record d { emitted = ms })
 
 -- the clauses after p, with what was there before
 pub clauses_are : (p : Piece) (cs : List ClauseBy) (u : Targets) (fs : List Fact) (d : Draft) (ms : List Emitted)
-    → with_clauses cs u (marked fs d (onto (opened (length cs) ms) p)) ≡ after (marked fs d ms) (clauses_lay p cs (around (marked fs d ms) u) fs)
+    → with_clauses cs u (marked fs d (onto (opened (length cs) ms) p)) ≡ after (marked fs d ms)
+    (clauses_lay p cs (around (marked fs d ms) u) fs)
 clauses_are p [] u fs d ms = quiet (marked fs d ms) p fs
 clauses_are p (c ∷ cs) u fs d ms =
     let a = around (marked fs d ms) u in
@@ -35,14 +37,16 @@ clauses_are p (c ∷ cs) u fs d ms =
     ∙ ap (written rest.left) (made_twice d (onto ms rest.laid.piece) x.laid.made rest.laid.made)
 
 -- a block is emitted, then the blocks of the clauses; the choice is written, then the clauses; last the end is emitted
-pub record WritesSelect (l : ℕ) (cs : List ClauseBy) (u : Targets) (w chosen written : Writer) (block blocks ended : List Emitted) : Type 0 where
+pub record WritesSelect (l : ℕ) (cs : List ClauseBy) (u : Targets) (w chosen written : Writer)
+    (block blocks ended : List Emitted) : Type 0 where
   pub block_is : block ≡ w.draft.emitted ++ emit.Block ∷ []
   pub blocks_are : blocks ≡ opened (length cs) block
   pub chosen_is : chosen ≡ marked w.facts w.draft (onto blocks (choice l cs w.facts))
   pub written_is : written ≡ with_clauses cs u chosen
   pub ended_is : ended ≡ written.draft.emitted ++ emit.End ∷ []
 
-pub select_lays : {l : ℕ} {cs : List ClauseBy} {u : Targets} {w w3 w4 : Writer} {m1 m2 m5 : List Emitted} → WritesSelect l cs u w w3 w4 m1 m2 m5
+pub select_lays : {l : ℕ} {cs : List ClauseBy} {u : Targets} {w w3 w4 : Writer} {m1 m2 m5 : List Emitted}
+    → WritesSelect l cs u w w3 w4 m1 m2 m5
     → written w4.facts (record w4.draft { emitted = m5 }) ≡ after w (select_lay l cs (around w u) w.facts)
 select_lays {l} {cs} {u} {w} {w3} {w4} {m1} {m2} {m5} how =
     let begin = w.draft.emitted ++ emit.Block ∷ [] in
@@ -50,18 +54,21 @@ select_lays {l} {cs} {u} {w} {w3} {w4} {m1} {m2} {m5} how =
     ap (λ ms. written w4.facts (record w4.draft { emitted = ms })) how.ended_is
     ∙ ap (λ (v : Writer). written v.facts (record v.draft { emitted = v.draft.emitted ++ emit.End ∷ [] })) (
     how.written_is
-    ∙ ap (with_clauses cs u) (how.chosen_is ∙ ap (λ ms. marked w.facts w.draft (onto ms p)) (how.blocks_are ∙ ap (opened (length cs)) how.block_is))
+    ∙ ap (with_clauses cs u) (how.chosen_is
+    ∙ ap (λ ms. marked w.facts w.draft (onto ms p)) (how.blocks_are ∙ ap (opened (length cs)) how.block_is))
     ∙ clauses_are p cs u w.facts w.draft begin)
 
 -- the end of a block is emitted, the clause is written with its targets, then the exit past the later blocks
-pub record WritesClause (later : ℕ) (c : ClauseBy) (u inner : Targets) (w written : Writer) (ended left : List Emitted) : Type 0 where
+pub record WritesClause (later : ℕ) (c : ClauseBy) (u inner : Targets) (w written : Writer)
+    (ended left : List Emitted) : Type 0 where
   pub inner_is : inner ≡ record { breaks = later; continues = u.continues + (later + 1) }
   pub ended_is : ended ≡ w.draft.emitted ++ emit.End ∷ []
   pub written_is : written ≡ after (marked w.facts w.draft ended) (c.lay (around w inner) w.facts)
   pub left_is : left ≡ onto written.draft.emitted (Piece.Exit c.line later)
 
 -- one clause and then the others
-pub clause_step : {later : ℕ} {c : ClauseBy} {u inner : Targets} {w w2 : Writer} {m1 m3 : List Emitted} (cs : List ClauseBy) → later ≡ length cs → WritesClause later c u inner w w2 m1 m3
+pub clause_step : {later : ℕ} {c : ClauseBy} {u inner : Targets} {w w2 : Writer} {m1 m3 : List Emitted}
+    (cs : List ClauseBy) → later ≡ length cs → WritesClause later c u inner w w2 m1 m3
     → with_clauses cs u (marked w2.facts w2.draft m3) ≡ with_clauses (c ∷ cs) u w
 clause_step {later} {c} {u} {inner} {w} {w2} {m1} {m3} cs counted how =
     ap (with_clauses cs u) (
@@ -75,6 +82,8 @@ clause_step {later} {c} {u} {inner} {w} {w2} {m1} {m3} cs counted how =
     inside k = record { breaks = k; continues = u.continues + (k + 1) }
 
 -- what is left from one place on
-pub left_from : {A B : Type 0} (f : A → B) (xs : List A) (i : ℕ) (x : A) → i < length xs → x ≡ get_or xs i x → map f (drop i xs) ≡ f x ∷ map f (drop (i + 1) xs)
+pub left_from : {A B : Type 0} (f : A → B) (xs : List A) (i : ℕ) (x : A) → i < length xs → x ≡ get_or xs i x
+    → map f (drop i xs) ≡ f x ∷ map f (drop (i + 1) xs)
 left_from f xs i x within is =
-    ap (map f) (drop-cons xs i x within) ∙ ap (λ y. f y ∷ map f (drop (suc i) xs)) (sym is) ∙ ap (λ n. f x ∷ map f (drop n xs)) (sym (add-one i))
+    ap (map f) (drop-cons xs i x within) ∙ ap (λ y. f y ∷ map f (drop (suc i) xs)) (sym is)
+    ∙ ap (λ n. f x ∷ map f (drop n xs)) (sym (add-one i))

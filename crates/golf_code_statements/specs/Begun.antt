@@ -15,4 +15,5 @@ use Rattle.golf_code_facts.specs.Statements.{LaidBy, by}
 abbrev pub begun : Tables → ℕ → (ℕ → ℕ → Instr) → ℕ → Operand → List Expr → List Fact → LaidBy
 begun t l begin next m xs fs =
     let ys = arguments l (map (taking t) xs) fs in
-    by (record { piece = all (pushes ys ∷ beginning l begin next m ys ∷ []); made = makings l m ys }) (skip_all (length xs) fs)
+    by (record { piece = all (pushes ys ∷ beginning l begin next m ys ∷ []); made = makings l m ys })
+    (skip_all (length xs) fs)

@@ -27,7 +27,10 @@ ended w = record { facts = w.facts; draft = record w.draft { emitted = w.draft.e
 
 -- it goes on at a target
 abbrev pub leaving : ℕ → ℕ → Writer → Writer
-leaving line k w = record { facts = w.facts; draft = record w.draft { emitted = onto w.draft.emitted (Piece.Exit line k) } }
+leaving line k w = record {
+  facts = w.facts;
+  draft = record w.draft { emitted = onto w.draft.emitted (Piece.Exit line k) };
+}
 
 -- a clause with this code, after which so many stand
 abbrev pub with_clause : ℕ → ℕ → LaidBy → Writer → Writer
@@ -35,4 +38,5 @@ with_clause line later x w = leaving line later (after (ended w) x)
 
 abbrev pub with_clauses : List ClauseBy → Targets → Writer → Writer
 with_clauses [] u w = w
-with_clauses (c ∷ cs) u w = with_clauses cs u (with_clause c.line (length cs) (c.lay (in_clause (length cs) (around w u)) w.facts) w)
+with_clauses (c ∷ cs) u w = with_clauses cs u
+    (with_clause c.line (length cs) (c.lay (in_clause (length cs) (around w u)) w.facts) w)

@@ -19,7 +19,11 @@ apart w = record { breaks = 0; continues = 0; functions = w.draft.functions }
 
 -- the code of a statement more, and the functions that are made for it
 abbrev pub with_laid : Draft → Laid → Draft
-with_laid d x = record d { emitted = onto d.emitted x.piece; made = d.made ++ x.made; functions = d.functions + length x.made }
+with_laid d x = record d {
+  emitted = onto d.emitted x.piece;
+  made = d.made ++ x.made;
+  functions = d.functions + length x.made;
+}
 
 abbrev pub after : Writer → LaidBy → Writer
 after w x = record { facts = x.left; draft = with_laid w.draft x.laid }

@@ -4,4 +4,3 @@ pub mod Clauses
 pub mod Begun
 pub mod Ranges
 pub mod Branches
-pub mod Elses

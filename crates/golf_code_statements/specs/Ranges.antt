@@ -13,10 +13,12 @@ use Rattle.golf_code_facts.specs.Loops.{in_loop, past_names, slice_names, channe
 abbrev pub ranged_slice : Tables → ℕ → RangeNames → List LayBy → LayBy
 ranged_slice t l names body a fs =
     let g = in_loop 2 0 (in_order body) a (past_names names (past_one fs)) in
-    by (wrapped (λ p. over_slice l (hidden_in (next fs)) Piece.Empty (slice_names t l (hidden_in (next fs)) names (past_one fs)) p) g.laid) g.left
+    by (wrapped (λ p. over_slice l (hidden_in (next fs)) Piece.Empty
+    (slice_names t l (hidden_in (next fs)) names (past_one fs)) p) g.laid) g.left
 
 -- over a channel
 abbrev pub ranged_channel : Tables → ℕ → RangeNames → List LayBy → LayBy
 ranged_channel t l names body a fs =
     let g = in_loop 2 0 (in_order body) a (past_names names (past_one fs)) in
-    by (wrapped (λ p. over_channel l (hidden_in (next fs)) Piece.Empty (channel_name t l names (past_one fs)) p) g.laid) g.left
+    by (wrapped (λ p. over_channel l (hidden_in (next fs)) Piece.Empty (channel_name t l names (past_one fs)) p) g.laid)
+    g.left

@@ -1,7 +1,7 @@
 //! What stands around the bodies of loops.
 
 ghost use Rattle.std.specs.Prelude.{◌≡◌, ◌+◌, [], ◌∷◌, ◌++◌, pos, OnOk, IfOk};
-ghost use Rattle.golf_check_types.specs.Types.{is_slice as is_slice_layer, given, given_type, starts_with};
+ghost use Rattle.golf_check_types.specs.Types.{is_slice as is_slice_of, given, given_type, starts_with};
 ghost use Rattle.golf_check_types.specs.Statements.{is_outer};
 ghost use Rattle.golf_code_layout.specs.Piece.{Piece, all, op as op_of};
 ghost use Rattle.golf_code_layout.specs.Emission.{Adds, onto};
@@ -55,7 +55,7 @@ pub fn optional_test(writer: &mut Writer, line: u32, test: &Option<OwnedExpr>) -
 }
 
 fn begins_slice(layers: &[Layer]) -> bool
-    ensures { result ≡ starts_with is_slice_layer layers.now }
+    ensures { result ≡ starts_with is_slice_of layers.now }
 {
     match layers {
         [Layer::Slice, _rest @ ..] => true,
@@ -64,7 +64,7 @@ fn begins_slice(layers: &[Layer]) -> bool
 }
 
 fn slice_type(t: &Option<GoType>) -> bool
-    ensures { result ≡ is_outer is_slice_layer (given_type t.now) }
+    ensures { result ≡ is_outer is_slice_of (given_type t.now) }
 {
     match t {
         None => false,
@@ -74,7 +74,7 @@ fn slice_type(t: &Option<GoType>) -> bool
 
 /// Whether a value is a slice.
 pub fn is_slice(operand: &Operand) -> bool
-    ensures { result ≡ is_outer is_slice_layer (given operand.now) }
+    ensures { result ≡ is_outer is_slice_of (given operand.now) }
 {
     match operand {
         Operand::Value(t)

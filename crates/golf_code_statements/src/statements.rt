@@ -2,13 +2,14 @@
 
 ghost use Rattle.std.specs.Prelude.{map, OnOk, ◌≡◌};
 ghost use Rattle.golf_code_facts.specs.Statements.{in_order, after_test, then_lay as then_lay_of, if_lay, else_lay};
-ghost use Rattle.golf_code_facts.specs.Loops.{in_loop, forever as forever_of, while as while_of, stepping as stepping_of, steps as steps_of, ranging, for_lay};
+ghost use Rattle.golf_code_facts.specs.Loops.{in_loop, forever as forever_of, while as while_of};
+ghost use Rattle.golf_code_facts.specs.Loops.{stepping as stepping_of, steps as steps_of, ranging, for_lay};
 ghost use Rattle.golf_code_facts.specs.Selects.{case_clause, default_clause, select_lay};
 ghost use Rattle.golf_code_facts.specs.Laying.{stmt_by, clause_by};
 ghost use Rattle.golf_code_statements.specs.Ranges.{ranged_slice, ranged_channel};
 ghost use Rattle.golf_code_statements.specs.Clauses.{with_clauses};
 ghost use Rattle.golf_code_statements.specs.Branches.{branched};
-ghost use Rattle.golf_code_statements.specs.Elses.{else_of, IsShorter};
+ghost use Rattle.golf_syntax_trees.specs.Elses.{else_of, IsShorter};
 ghost use Rattle.golf_syntax_trees.specs.declared.statements.Stmt.{out-Stmt, size-Stmt};
 ghost use Rattle.golf_code_statements.specs.Lays.{around, apart, Lays};
 
@@ -126,7 +127,7 @@ fn else_at(
 }
 
 // Returns the statement behind the `else` of an `if`, or the statement itself if it has none.
-#[tactic(auto, unfolding(crate::specs::Elses::else_of))]
+#[tactic(auto, unfolding(golf_syntax_trees::specs::Elses::else_of))]
 fn behind_else(stmt: &Stmt) -> &Stmt
     ensures is { result.now ≡ else_of stmt.now }
     ensures smaller { IsShorter (out-Stmt stmt.now) (size-Stmt result.now) (size-Stmt stmt.now) }

@@ -28,7 +28,8 @@ end_height _ h targets = h
 -- The same case by case.
 
 abbrev pub case_chosen : Option ℕ → SelectCase → Heights → Heights
-case_chosen below c s = let after = above below (case_left c.kind) in record s { most = max s.most (height after); targets = reached s.targets c.target after }
+case_chosen below c s = let after = above below
+    (case_left c.kind) in record s { most = max s.most (height after); targets = reached s.targets c.target after }
 
 abbrev pub cases_chosen : Option ℕ → List SelectCase → Heights → Heights
 cases_chosen below [] s = s
@@ -39,7 +40,8 @@ default_chosen below None s = record s { here = None }
 default_chosen below (Some k) s = record s { here = None; targets = reached s.targets k below }
 
 abbrev pub choice_flow : List SelectCase → Option ℕ → Heights → Flow
-choice_flow cases otherwise s = let below = option_map (λ n. n - cases_taken cases) s.here in defaulted below otherwise (chosen below cases s.targets)
+choice_flow cases otherwise s = let below =
+    option_map (λ n. n - cases_taken cases) s.here in defaulted below otherwise (chosen below cases s.targets)
 
 abbrev pub height_step : List Bool → Emitted → Heights → Heights
 height_step gives (emit.Op i line) s = stands (behind gives i s.here) s
@@ -48,7 +50,11 @@ height_step gives (emit.Unless line k) s = let after = option_map (λ n. n - 1) 
 height_step gives (emit.Choose line cases otherwise) s = takes_in s (choice_flow cases otherwise s)
 height_step gives emit.Block s = record s { kinds = true ∷ s.kinds; targets = None ∷ s.targets }
 height_step gives emit.Again s = record s { kinds = false ∷ s.kinds; targets = s.here ∷ s.targets }
-height_step gives emit.End s = record s { here = end_height s.kinds s.here s.targets; kinds = rest s.kinds; targets = outer s.targets }
+height_step gives emit.End s = record s {
+  here = end_height s.kinds s.here s.targets;
+  kinds = rest s.kinds;
+  targets = outer s.targets;
+}
 
 abbrev pub height_steps : List Bool → List Emitted → Heights → Heights
 height_steps gives [] s = s

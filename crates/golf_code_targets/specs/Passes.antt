@@ -1,5 +1,6 @@
 -- From parts to lines in two passes: the target of each block, and then the lines.
-use Rattle.std.specs.Prelude.{ℕ, ◌+◌, List, [], ◌∷◌, ◌++◌, length, map, Option, Some, None, slice_get, slice_set, unwrap_or}
+use Rattle.std.specs.Prelude.{ℕ, ◌+◌, List, [], ◌∷◌, ◌++◌, length, map, Option, Some, None, slice_get, slice_set}
+use Rattle.std.specs.Prelude.{unwrap_or}
 use Rattle.std.specs.Option.{option_map}
 use Rattle.golf_data.specs.declared.code.Instr.{Instr}
 use Rattle.golf_data.specs.declared.code.CodeLine.{CodeLine}
@@ -22,7 +23,8 @@ ended at [] found = found
 ended at (None ∷ waiting) found = found
 ended at (Some i ∷ waiting) found = slice_set found i at
 
--- a place is gone past, and the blocks that begin are waiting for their end, each with the place among the targets that waits
+-- a place is gone past, and the blocks that begin are waiting for their end, each with the place among the targets that
+-- waits
 abbrev pub target_step : Emitted → Targets → Targets
 target_step (emit.Op i line) s = record s { at = s.at + 1 }
 target_step (emit.Exit line k) s = record s { at = s.at + 1 }
@@ -55,7 +57,8 @@ abbrev pub line_step : List ℕ → Emitted → Body → Body
 line_step found (emit.Op i line) s = with_line s i line
 line_step found (emit.Exit line k) s = with_line s (Instr.Jump (target s.around k)) line
 line_step found (emit.Unless line k) s = with_line s (Instr.JumpIfNot (target s.around k)) line
-line_step found (emit.Choose line cases otherwise) s = with_line s (Instr.Select (map (case_at s.around) cases) (option_map (target s.around) otherwise)) line
+line_step found (emit.Choose line cases otherwise) s =
+    with_line s (Instr.Select (map (case_at s.around) cases) (option_map (target s.around) otherwise)) line
 line_step found emit.Block s = entered found s
 line_step found emit.Again s = entered found s
 line_step found emit.End s = record s { around = rest s.around }

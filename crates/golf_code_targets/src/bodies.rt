@@ -3,10 +3,11 @@
 ghost use Rattle.std.specs.Prelude.{◌≡◌, map, IfOk, OnOk};
 ghost use Rattle.std.specs.Option.{option_map};
 ghost use Rattle.golf_code_layout.specs.Piece.{target as target_of, case_at};
-ghost use Rattle.golf_code_targets.specs.Passes.{rest, with_line, entered, line_step, line_steps, no_lines as none_yet};
+ghost use Rattle.golf_code_targets.specs.Passes.{rest, with_line, entered, line_step, line_steps};
+ghost use Rattle.golf_code_targets.specs.Passes.{no_lines as no_lines_of};
 
 use crate::copies::copy_instr;
-use crate::stack::Stack;
+use crate::nesting::Nesting;
 use golf_base::{List, Memory};
 use golf_code_layout::Emitted;
 use golf_data::{CodeLine, Instr, SelectCase};
@@ -16,17 +17,17 @@ use std::alloc::Global;
 #[derive(Drop)]
 pub struct Body {
     /// The targets of the blocks around.
-    pub around: Stack<u32>,
+    pub around: Nesting<u32>,
     /// How many blocks have begun.
     pub next: usize,
     pub lines: List<CodeLine>,
 }
 
 fn no_lines(alloc: Global) -> Body
-    ensures { result ≡ none_yet }
+    ensures { result ≡ no_lines_of }
 {
     Body {
-        around: Stack::new(alloc),
+        around: Nesting::new(alloc),
         next: 0,
         lines: List::new(alloc),
     }
@@ -34,7 +35,7 @@ fn no_lines(alloc: Global) -> Body
 
 // The place of a target, counted from the innermost one.
 #[tactic(auto, using(crate::proofs::Looks::target_got))]
-fn target(around: &Stack<u32>, number: u32) -> u32
+fn target(around: &Nesting<u32>, number: u32) -> u32
     ensures { result ≡ target_of around.now number }
 {
     around.get(number as usize).unwrap_or(0)
@@ -42,7 +43,7 @@ fn target(around: &Stack<u32>, number: u32) -> u32
 
 fn cases(
     alloc: Global,
-    around: &Stack<u32>,
+    around: &Nesting<u32>,
     cases: &[SelectCase],
 ) -> Result<List<SelectCase>, Memory>
     ensures { IfOk result (λ cs. cs ≡ map (case_at around.now) cases.now) }
@@ -57,7 +58,7 @@ fn cases(
     Ok(placed)
 }
 
-fn optional_target(around: &Stack<u32>, number: Option<u32>) -> Option<u32>
+fn optional_target(around: &Nesting<u32>, number: Option<u32>) -> Option<u32>
     ensures { result ≡ option_map (target_of around.now) number }
 {
     match number {
@@ -133,7 +134,7 @@ fn step(alloc: Global, found: &[u32], body: &mut Body, part: &Emitted) -> Result
 
 /// The lines of a body whose blocks have these targets.
 pub fn lines_of(alloc: Global, found: &[u32], emitted: &[Emitted]) -> Result<List<CodeLine>, Memory>
-    ensures { IfOk result (λ lines. lines ≡ (line_steps found.now emitted.now none_yet).lines) }
+    ensures { IfOk result (λ lines. lines ≡ (line_steps found.now emitted.now no_lines_of).lines) }
 {
     let mut body = no_lines(alloc);
     for part in emitted {

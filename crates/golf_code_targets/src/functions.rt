@@ -1,7 +1,7 @@
 //! From parts to functions.
 
 ghost use Rattle.std.specs.Prelude.{◌≡◌, IfOk};
-ghost use Rattle.golf_code_targets.specs.Passes.{lines_of as lines_in};
+ghost use Rattle.golf_code_targets.specs.Passes.{lines_of as lines_of_of};
 ghost use Rattle.golf_code_targets.specs.Functions.{IsFunction};
 
 use crate::bodies::lines_of;
@@ -14,7 +14,7 @@ use golf_live::live;
 use std::alloc::Global;
 
 fn body_of(alloc: Global, emitted: &[Emitted]) -> Result<List<CodeLine>, Memory>
-    ensures { IfOk result (λ lines. lines ≡ lines_in emitted.now) }
+    ensures { IfOk result (λ lines. lines ≡ lines_of_of emitted.now) }
 {
     let found = targets_of(alloc, emitted)?;
     lines_of(alloc, found.as_slice(), emitted)

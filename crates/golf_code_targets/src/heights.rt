@@ -2,12 +2,15 @@
 
 ghost use Rattle.std.specs.Prelude.{◌≡◌, ◌-◌, ◌∷◌, ◌<◌, true, false, Some, None, max, IfOk, OnOk};
 ghost use Rattle.std.specs.Option.{option_map};
-ghost use Rattle.golf_data.specs.Effects.{cases_taken as taken_by_cases};
-ghost use Rattle.golf_code_layout.specs.Depth.{height as height_of, met as met_of, reached, behind as behind_of, through as through_of, above as above_of, innermost, outer};
+ghost use Rattle.golf_data.specs.Effects.{cases_taken as cases_taken_of};
+ghost use Rattle.golf_code_layout.specs.Depth.{height as height_of, met as met_of, reached, behind as behind_of};
+ghost use Rattle.golf_code_layout.specs.Depth.{through as through_of, above as above_of, innermost, outer};
 ghost use Rattle.golf_code_targets.specs.Passes.{rest};
-ghost use Rattle.golf_code_targets.specs.Heights.{stands, leads, takes_in, choice_flow, case_chosen, cases_chosen, default_chosen, end_height, height_step, no_heights as none_yet, most_of as most_in};
+ghost use Rattle.golf_code_targets.specs.Heights.{stands, leads, takes_in, choice_flow, case_chosen, cases_chosen};
+ghost use Rattle.golf_code_targets.specs.Heights.{default_chosen, end_height, height_step, no_heights as no_heights_of};
+ghost use Rattle.golf_code_targets.specs.Heights.{most_of as most_of_of};
 
-use crate::stack::Stack;
+use crate::nesting::Nesting;
 use golf_base::{List, Memory};
 use golf_code_layout::Emitted;
 use golf_data::{Instr, SelectCase, case_left, case_taken, effect_of};
@@ -21,19 +24,19 @@ pub struct Heights {
     /// How many stand here; None if no way leads here.
     pub here: Option<u32>,
     /// Whether the target of each block around is its end.
-    pub kinds: Stack<bool>,
+    pub kinds: Nesting<bool>,
     /// How many stand at the target of each block around, as far as it is led to.
-    pub targets: Stack<Option<u32>>,
+    pub targets: Nesting<Option<u32>>,
 }
 
 fn no_heights(alloc: Global) -> Heights
-    ensures { result ≡ none_yet }
+    ensures { result ≡ no_heights_of }
 {
     Heights {
         most: 0,
         here: Some(0),
-        kinds: Stack::new(alloc),
-        targets: Stack::new(alloc),
+        kinds: Nesting::new(alloc),
+        targets: Nesting::new(alloc),
     }
 }
 
@@ -95,7 +98,7 @@ fn raise(h: Option<u32>, by: u32) -> Result<Option<u32>, Memory>
 
 // A target is led to with so many operands.
 #[tactic(auto, using(crate::proofs::Looks::reached_there, crate::proofs::Looks::reached_past))]
-fn reach(targets: &mut Stack<Option<u32>>, number: u32, h: Option<u32>)
+fn reach(targets: &mut Nesting<Option<u32>>, number: u32, h: Option<u32>)
     ensures { targets.new ≡ reached targets.old number h }
 {
     match targets.get(number as usize) {
@@ -136,7 +139,7 @@ fn unless(heights: &mut Heights, number: u32)
 }
 
 fn cases_taken(cases: &[SelectCase]) -> Result<u32, Memory>
-    ensures { IfOk result (λ n. n ≡ taken_by_cases cases.now) }
+    ensures { IfOk result (λ n. n ≡ cases_taken_of cases.now) }
 {
     let mut sum = 0u32;
     for case in cases {
@@ -206,7 +209,7 @@ fn begin_again(heights: &mut Heights) -> Result<(), Memory>
     Ok(())
 }
 
-fn pop_target(targets: &mut Stack<Option<u32>>) -> Option<u32>
+fn pop_target(targets: &mut Nesting<Option<u32>>) -> Option<u32>
     ensures first { result ≡ innermost targets.old }
     ensures others { targets.new ≡ outer targets.old }
 {
@@ -252,7 +255,7 @@ fn step(gives: &[bool], heights: &mut Heights, part: &Emitted) -> Result<(), Mem
 
 /// The most operands that stand at a place of these parts, if these functions give a value.
 pub fn most_of(alloc: Global, gives: &[bool], emitted: &[Emitted]) -> Result<u32, Memory>
-    ensures { IfOk result (λ most. most ≡ most_in gives.now emitted.now) }
+    ensures { IfOk result (λ most. most ≡ most_of_of gives.now emitted.now) }
 {
     let mut heights = no_heights(alloc);
     for part in emitted {

@@ -8,7 +8,7 @@ mod bodies;
 mod copies;
 mod functions;
 mod heights;
-mod stack;
+mod nesting;
 mod targets;
 
 pub use functions::function;

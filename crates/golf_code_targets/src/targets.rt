@@ -1,9 +1,10 @@
 //! The first pass: the target of each block.
 
 ghost use Rattle.std.specs.Prelude.{◌≡◌, ◌+◌, ◌∷◌, ◌++◌, [], Some, None, length, slice_set, OnOk, IfOk};
-ghost use Rattle.golf_code_targets.specs.Passes.{rest, ended, target_step, no_targets as none_yet, targets_of as found_in};
+ghost use Rattle.golf_code_targets.specs.Passes.{rest, ended, target_step, no_targets as no_targets_of};
+ghost use Rattle.golf_code_targets.specs.Passes.{targets_of as targets_of_of};
 
-use crate::stack::Stack;
+use crate::nesting::Nesting;
 use golf_base::{List, Memory};
 use golf_code_layout::Emitted;
 use std::alloc::Global;
@@ -14,17 +15,17 @@ pub struct Targets {
     /// The place of the next instruction.
     pub at: u32,
     /// The blocks around, and for each that waits for its end, which target is then known.
-    pub waiting: Stack<Option<usize>>,
+    pub waiting: Nesting<Option<usize>>,
     /// The target of each block that has begun.
     pub found: List<u32>,
 }
 
 fn no_targets(alloc: Global) -> Targets
-    ensures { result ≡ none_yet }
+    ensures { result ≡ no_targets_of }
 {
     Targets {
         at: 0,
-        waiting: Stack::new(alloc),
+        waiting: Nesting::new(alloc),
         found: List::new(alloc),
     }
 }
@@ -95,7 +96,7 @@ fn step(targets: &mut Targets, part: &Emitted) -> Result<(), Memory>
 
 /// The target of each block, in the order in which the blocks begin.
 pub fn targets_of(alloc: Global, emitted: &[Emitted]) -> Result<List<u32>, Memory>
-    ensures { IfOk result (λ found. found ≡ found_in emitted.now) }
+    ensures { IfOk result (λ found. found ≡ targets_of_of emitted.now) }
 {
     let mut targets = no_targets(alloc);
     for part in emitted {

@@ -18,9 +18,11 @@ use Rattle.golf_code_texts.specs.Spines.{rest_texts, rest_texts_step, raised, Ri
 use Rattle.golf_code_texts.proofs.Walks.{with_more, joined_map}
 
 abbrev texts_layer : Expr-F Expr Element → Texts
-texts_layer y = expr_texts_step (map-Expr Expr Element Texts Texts expr_texts (fold-Element Texts Texts expr_texts_step element_texts_step) y)
+texts_layer y = expr_texts_step (map-Expr Expr Element Texts Texts expr_texts
+    (fold-Element Texts Texts expr_texts_step element_texts_step) y)
 
-layer : (y : Expr-F Expr Element) (left : Expr) → left_step y ≡ Some left → texts_layer y ≡ expr_texts left ++ rest_texts_step y
+layer : (y : Expr-F Expr Element) (left : Expr) → left_step y ≡ Some left → texts_layer y ≡ expr_texts left
+    ++ rest_texts_step y
 layer (F.Integer digits) left p = absurd (cc)
 layer (F.Text bytes) left p = absurd (cc)
 layer (F.Name n) left p = absurd (cc)
@@ -36,7 +38,8 @@ layer (F.NewSync n) left p = absurd (cc)
 layer (F.Unary o e) left p = absurd (cc)
 layer (F.Selector e n) left p = let same : e ≡ left = cc in ap expr_texts same ∙ sym (append-nil (expr_texts left))
 layer (F.Index a i) left p = let same : a ≡ left = cc in ap (λ z. expr_texts z ++ expr_texts i) same
-layer (F.Call f xs) left p = let same : f ≡ left = cc in ap (λ ts. expr_texts f ++ ts) (joined_map expr_texts xs) ∙ ap (λ z. expr_texts z ++ flat_map expr_texts xs) same
+layer (F.Call f xs) left p = let same : f ≡ left = cc in ap (λ ts. expr_texts f ++ ts) (joined_map expr_texts xs)
+    ∙ ap (λ z. expr_texts z ++ flat_map expr_texts xs) same
 layer (F.Binary o a b) left p = let same : a ≡ left = cc in ap (λ z. expr_texts z ++ expr_texts b) same
 
 splits : (e left : Expr) → left_of e ≡ Some left → expr_texts e ≡ expr_texts left ++ rest_texts e
@@ -45,10 +48,13 @@ splits e left p = fold_out-Expr Texts Texts expr_texts_step element_texts_step e
 
 module _ (e : Expr) (old : Texts) where
   -- the texts of the innermost one are added
-  pub starts : (ws : List (Bor Expr)) (inner : Expr) (new : Texts) → IsSpine left_of e (shown ws) inner → Within size-Expr (size-Expr e) (shown ws) → new ≡ with_texts old (expr_texts inner) → Rising e old ws new
+  pub starts : (ws : List (Bor Expr)) (inner : Expr) (new : Texts) → IsSpine left_of e (shown ws) inner
+      → Within size-Expr (size-Expr e) (shown ws) → new ≡ with_texts old (expr_texts inner) → Rising e old ws new
   starts ws inner new spine within adds = record {
     whole = ap (risen raised (shown ws)) adds
-        ∙ along left_of (λ z. with_texts old (expr_texts z)) raised (λ z left has. ap (with_texts old) (splits z left has) ∙ with_more old (expr_texts left) (rest_texts z)) e (shown ws) inner spine;
+        ∙ along left_of (λ z. with_texts old (expr_texts z)) raised
+        (λ z left has. ap (with_texts old) (splits z left has) ∙ with_more old (expr_texts left) (rest_texts z)) e
+        (shown ws) inner spine;
     within = within;
   }
 
@@ -56,7 +62,8 @@ module _ (e : Expr) (old : Texts) where
   pub ends : (ws : List (Bor Expr)) (new : Texts) → Rising e old ws new → ws ≡ [] → new ≡ with_texts old (expr_texts e)
   ends ws new r none = sym (ap (λ vs. risen raised (shown vs) new) none) ∙ r.whole
 
-  module _ (ws vs : List (Bor Expr)) (b : Bor Expr) (new : Texts) (r : Rising e old ws new) (last : ws ≡ vs ++ b ∷ []) where
+  module _ (ws vs : List (Bor Expr)) (b : Bor Expr) (new : Texts) (r : Rising e old ws new)
+      (last : ws ≡ vs ++ b ∷ []) where
     pub rest_smaller : size-Expr b.now ≤ size-Expr e
     rest_smaller = (no_deeper ws vs b last size-Expr (size-Expr e) r.within).1
 

@@ -4,7 +4,7 @@ ghost use Rattle.std.specs.Prelude.{◌≡◌, flat_map, OnOk};
 ghost use Rattle.golf_code_of.specs.Texts.{stmt_texts, optional_simple_texts, expr_texts, header_texts, comm_texts};
 ghost use Rattle.golf_code_of.proofs.TextEquations.{clause_texts};
 ghost use Rattle.golf_syntax_trees.specs.declared.statements.Stmt.{out-Stmt, size-Stmt};
-ghost use Rattle.golf_code_texts.specs.Elses.{else_of, IsShorter};
+ghost use Rattle.golf_syntax_trees.specs.Elses.{else_of, IsShorter};
 ghost use Rattle.golf_code_texts.specs.Adding.{with_texts};
 
 use crate::expressions::{call, expr};
@@ -56,7 +56,7 @@ fn both_parts(
 }
 
 // Returns the statement behind the `else` of an `if`, or the statement itself if it has none.
-#[tactic(auto, unfolding(crate::specs::Elses::else_of))]
+#[tactic(auto, unfolding(golf_syntax_trees::specs::Elses::else_of))]
 fn behind_else(stmt: &Stmt) -> &Stmt
     ensures is { result.now ≡ else_of stmt.now }
     ensures smaller { IsShorter (out-Stmt stmt.now) (size-Stmt result.now) (size-Stmt stmt.now) }

@@ -15,8 +15,10 @@ never : (n : ℕ) → ◌≡◌ {A = Option ℕ} None (Some n) → ⊥
 never n e = cc
 
 -- the words stand for that threads line
-pub asked-line : (words : List (List ℕ)) (r : Result (Option CommandLine) Memory) (n : ℕ) → threads_asked r ≡ Some n → IfOk r (λ line. line ≡ line_of words) → IsLine words (CommandLine.Threads n)
-asked-line words (Ok (Some (CommandLine.Threads m))) n e is = sym is ∙ ap (λ k. Some (CommandLine.Threads k)) (same m n e)
+pub asked-line : (words : List (List ℕ)) (r : Result (Option CommandLine) Memory) (n : ℕ) → threads_asked r ≡ Some n
+    → IfOk r (λ line. line ≡ line_of words) → IsLine words (CommandLine.Threads n)
+asked-line words (Ok (Some (CommandLine.Threads m))) n e is = sym is
+    ∙ ap (λ k. Some (CommandLine.Threads k)) (same m n e)
 asked-line words (Ok (Some (CommandLine.Run options))) n e is = absurd (never n e)
 asked-line words (Ok (Some (CommandLine.Generate m))) n e is = absurd (never n e)
 asked-line words (Ok (Some CommandLine.Meaning)) n e is = absurd (never n e)
@@ -24,5 +26,7 @@ asked-line words (Ok None) n e is = absurd (never n e)
 asked-line words (Err m) n e is = absurd (never n e)
 
 -- the words stand for what was found
-pub found-line : (words : List (List ℕ)) (r : Result (Option CommandLine) Memory) (found line : Option CommandLine) → r ≡ Ok found → found ≡ line → IfOk r (λ asked. asked ≡ line_of words) → line_of words ≡ line
-found-line words r found line e f is = sym (subst (λ (q : Result (Option CommandLine) Memory). IfOk q (λ asked. asked ≡ line_of words)) e is) ∙ f
+pub found-line : (words : List (List ℕ)) (r : Result (Option CommandLine) Memory) (found line : Option CommandLine)
+    → r ≡ Ok found → found ≡ line → IfOk r (λ asked. asked ≡ line_of words) → line_of words ≡ line
+found-line words r found line e f is = sym
+    (subst (λ (q : Result (Option CommandLine) Memory). IfOk q (λ asked. asked ≡ line_of words)) e is) ∙ f

@@ -1,7 +1,8 @@
 -- What the ends of a file's run mean.
 -- For: `run_source`, src/top.rt; `run_generated`, src/generated.rt; `FileTells`, specs/Means.antt
 -- By: cases of the way of the line and of the status; no induction
-use Rattle.std.proofs.Common.{◌≡◌, ◌≤◌, ℕ, Bool, true, false, List, [], ◌∷◌, ◌++◌, length, refl, sym, subst, ap, ◌∙◌, inl, inr, append_assoc}
+use Rattle.std.proofs.Common.{◌≡◌, ◌≤◌, ℕ, Bool, true, false, List, [], ◌∷◌, ◌++◌, length, refl, sym, subst, ap, ◌∙◌}
+use Rattle.std.proofs.Common.{inl, inr, append_assoc}
 use Rattle.std.specs.Prelude.{Option, Some, None}
 use Rattle.std.specs.Io.KnownBytes.{Appends}
 use Rattle.golf_data.specs.declared.code.Code.{Code}
@@ -20,7 +21,7 @@ use Rattle.golf_run_texts.specs.Output.{status_by, status_of, last_of, reports_o
 use Rattle.golf_run_texts.specs.Writes.{Write}
 use Rattle.golf_model.proofs.Agreeing.{dead-sound, dead-complete}
 use Rattle.golf_model_futures.proofs.MainLaws as Law
-use Rattle.golf_meaning_typed_files.proofs.Files.{files-sound}
+use Rattle.golf_meaning_typing.proofs.WholeFiles.{files-sound}
 use Rattle.golf_meaning_runs.proofs.Agreeing.{programs-agree}
 use Rattle.golf_meaning_runs.proofs.Runs.{runs-mean-sources}
 use Rattle.golf_code_never_stuck.specs.Reached.{IsProgram}
@@ -31,10 +32,12 @@ use Rattle.golf_reader.specs.declared.refusal.Refusal.TheVariants as refusals
 use Rattle.golf_reader.specs.Refusals.{IsRefusedBy, IsOnly}
 use Rattle.golf_run.specs.HasRun.{Sinks, sinks, GotWrites, IsSteady}
 use Rattle.golf_command.specs.Ends.{EndsWith, Refuses}
-use Rattle.golf_command.specs.Ways.{Way, IsWayOf, options_of, status_by_options, status_for, out_for, err_for, writes_for}
+use Rattle.golf_command.specs.Ways.{Way, IsWayOf, options_of, status_by_options, status_for, out_for, err_for}
+use Rattle.golf_command.specs.Ways.{writes_for}
 use Rattle.golf_command.specs.Promises.{Reads, Accepts, AreTrue, MovesAlways, MeansItsSource, RefusedBy}
 use Rattle.golf_command.specs.Promises.RefusedBy.{Unlexed, Unparsed, Untyped}
-use Rattle.golf_command.specs.Means.{Breaks, IsSoundBy, IsSound, Begins, AreFirst, MayFollow, MayStand, GoesWhole, Says, FileTells}
+use Rattle.golf_command.specs.Means.{Breaks, IsSoundBy, IsSound, Begins, AreFirst, MayFollow, MayStand, GoesWhole, Says}
+use Rattle.golf_command.specs.Means.{FileTells}
 use Rattle.golf_command.specs.Means.IsCause.{Refusal as Refusing, OutOfMemory}
 use Rattle.golf_command.specs.Means.MayFollow.{Next, Cause}
 use Rattle.golf_command.proofs.Sinking.{gets-more, breaks-later, some-rose, says}
@@ -50,13 +53,15 @@ are-true code options = record {
 }
 
 -- the code of a file that the program accepts is never stuck
-moves-always : (bytes : List ℕ) (file : File) (options : RunOptions) → Accepts bytes file → MovesAlways (CodeOf file) options
+moves-always : (bytes : List ℕ) (file : File) (options : RunOptions) → Accepts bytes file
+    → MovesAlways (CodeOf file) options
 moves-always bytes file options a =
     let program : IsProgram file = record { good = a.typed.tree.reads.form.good; typed = a.typed.keeps } in
     let plain = plain-runs-go-on file program in record {
       run = plain.0;
       continuations = plain.1 (events_of options);
-      moves = λ s c leads going. reached-moves-on (CodeOf file) s c (record { file = file; program = program; coded = refl; leads = leads }) going;
+      moves = λ s c leads going. reached-moves-on (CodeOf file) s c
+          (record { file = file; program = program; coded = refl; leads = leads }) going;
     }
 
 -- each function of such a file does what its source says
@@ -68,47 +73,76 @@ means-its-source bytes file a =
       runs = runs-mean-sources file program;
     }
 
-sound-by : (options : Option RunOptions) (bytes : List ℕ) (file : File) → Accepts bytes file → IsSoundBy options (CodeOf file)
-sound-by (Some options) bytes file a = record { reports = are-true (CodeOf file) options; moves = moves-always bytes file options a }
+sound-by : (options : Option RunOptions) (bytes : List ℕ) (file : File) → Accepts bytes file
+    → IsSoundBy options (CodeOf file)
+sound-by (Some options) bytes file a = record {
+  reports = are-true (CodeOf file) options;
+  moves = moves-always bytes file options a;
+}
 sound-by None bytes file a = tt
 
 sound-way : (way : Way) (bytes : List ℕ) (file : File) → Accepts bytes file → IsSound way file
-sound-way way bytes file a = record { source = means-its-source bytes file a; run = sound-by (options_of way) bytes file a }
+sound-way way bytes file a = record {
+  source = means-its-source bytes file a;
+  run = sound-by (options_of way) bytes file a;
+}
 
-begins : (line : CommandLine) (bytes : List ℕ) (file : File) → Accepts bytes file → (w : (way : Way) × IsWayOf line file way) → Begins line file []
-begins line bytes file a w = record { way = w.0; is_way = w.1; later = writes_for w.0 (CodeOf file); order = refl; sound = sound-way w.0 bytes file a }
+begins : (line : CommandLine) (bytes : List ℕ) (file : File) → Accepts bytes file
+    → (w : (way : Way) × IsWayOf line file way) → Begins line file []
+begins line bytes file a w = record {
+  way = w.0;
+  is_way = w.1;
+  later = writes_for w.0 (CodeOf file);
+  order = refl;
+  sound = sound-way w.0 bytes file a;
+}
 
 module _ (line : CommandLine) (bytes : List ℕ) (within : IsWithin line) where
   none-first : AreFirst line bytes []
-  none-first = record { accepted = λ file a. begins line bytes file a (some-way line file within); refused = λ none. refl }
+  none-first = record {
+    accepted = λ file a. begins line bytes file a (some-way line file within);
+    refused = λ none. refl;
+  }
 
   module _ (old new : Sinks) where
     -- a write failed after these
-    broken : (done : List Write) (cut : Write) (r : Status) → MayFollow line bytes done cut → r ≡ s.WriteFault → Breaks old new done cut → FileTells line bytes r old new
-    broken done cut r why is breaks = subst (λ t. FileTells line bytes t old new) (sym is) (record { means = (done, (cut, why, breaks)); causes = some-rose cut old new breaks.failed })
+    broken : (done : List Write) (cut : Write) (r : Status) → MayFollow line bytes done cut → r ≡ s.WriteFault
+        → Breaks old new done cut → FileTells line bytes r old new
+    broken done cut r why is breaks = subst (λ t. FileTells line bytes t old new) (sym is)
+        (record { means = (done, (cut, why, breaks)); causes = some-rose cut old new breaks.failed })
 
-    pub refused-tells : Reads line → (text : List ℕ) (r : Status) → RefusedBy bytes text → Says s.Refused text r old new → FileTells line bytes r old new
+    pub refused-tells : Reads line → (text : List ℕ) (r : Status) → RefusedBy bytes text → Says s.Refused text r old new
+        → FileTells line bytes r old new
     refused-tells reads text r why (inl e) =
-        subst (λ t. FileTells line bytes t old new) (sym e.0) (record { means = record { reads = reads; text = text; why = why; got = e.1 }; causes = e.2 })
-    refused-tells reads text r why (inr e) = broken [] (Write.ToErr text) r (Cause text none-first (Refusing text reads why)) e.0 e.1
+        subst (λ t. FileTells line bytes t old new) (sym e.0)
+        (record { means = record { reads = reads; text = text; why = why; got = e.1 }; causes = e.2 })
+    refused-tells reads text r why (inr e) =
+        broken [] (Write.ToErr text) r (Cause text none-first (Refusing text reads why)) e.0 e.1
 
     pub memory-tells : (r : Status) → Says s.Memory no_memory_text r old new → FileTells line bytes r old new
-    memory-tells r (inl e) = subst (λ t. FileTells line bytes t old new) (sym e.0) (record { means = ([], none-stands line, none-first, e.1); causes = e.2 })
-    memory-tells r (inr e) = broken [] (Write.ToErr no_memory_text) r (Cause no_memory_text none-first OutOfMemory) e.0 e.1
+    memory-tells r (inl e) = subst (λ t. FileTells line bytes t old new) (sym e.0)
+        (record { means = ([], none-stands line, none-first, e.1); causes = e.2 })
+    memory-tells r (inr e) = broken [] (Write.ToErr no_memory_text) r
+        (Cause no_memory_text none-first OutOfMemory) e.0 e.1
 
   -- the file of a line that reads is refused
-  module _ (reads : Reads line) (short : length bytes ≤ most_bytes) (out : Option (List ℕ)) (of : ℕ) (err err' : Option (List ℕ)) (ef ef' : ℕ) where
+  module _ (reads : Reads line) (short : length bytes ≤ most_bytes) (out : Option (List ℕ)) (of : ℕ)
+      (err err' : Option (List ℕ)) (ef ef' : ℕ) where
     abbrev Told : Status → Type 0
     Told r = FileTells line bytes r (sinks out of err ef) (sinks out of err' ef')
 
     by-text : (text : List ℕ) (r : Status) → RefusedBy bytes text → EndsWith r s.Refused text err err' ef ef' → Told r
-    by-text text r why e = refused-tells (sinks out of err ef) (sinks out of err' ef') reads text r why (says out of err err' ef ef' s.Refused r text e)
+    by-text text r why e = refused-tells (sinks out of err ef) (sinks out of err' ef') reads text r why
+        (says out of err err' ef ef' s.Refused r text e)
 
     by-want : (r : Status) → EndsWith r s.Memory no_memory_text err err' ef ef' → Told r
-    by-want r e = memory-tells (sinks out of err ef) (sinks out of err' ef') r (says out of err err' ef ef' s.Memory r no_memory_text e)
+    by-want r e = memory-tells (sinks out of err ef) (sinks out of err' ef') r
+        (says out of err err' ef ef' s.Memory r no_memory_text e)
 
-    pub refusal-tells : (refusal : Refusal) (r : Status) → IsRefusedBy bytes refusal → Refuses r refusal err err' ef ef' → Told r
-    refusal-tells (refusals.Lexical at byte) r why (inl e) = by-text (lexical_line at byte) r (Unlexed at byte short why) e
+    pub refusal-tells : (refusal : Refusal) (r : Status) → IsRefusedBy bytes refusal → Refuses r refusal err err' ef ef'
+        → Told r
+    refusal-tells (refusals.Lexical at byte) r why (inl e) =
+        by-text (lexical_line at byte) r (Unlexed at byte short why) e
     refusal-tells (refusals.Lexical at byte) r why (inr e) = by-want r e
     refusal-tells (refusals.Syntax at) r why (inl e) = by-text (syntax_line at) r (Unparsed at short why) e
     refusal-tells (refusals.Syntax at) r why (inr e) = by-want r e
@@ -118,7 +152,8 @@ module _ (line : CommandLine) (bytes : List ℕ) (within : IsWithin line) where
     refusal-tells refusals.Memory r why (inr e) = by-want r e
 
   -- the file has this code
-  module _ (file : File) (code : Code) (accepted : Accepts bytes file) (is : code ≡ CodeOf file) (only : IsOnly bytes file) (way : Way) (is_way : IsWayOf line file way) where
+  module _ (file : File) (code : Code) (accepted : Accepts bytes file) (is : code ≡ CodeOf file)
+      (only : IsOnly bytes file) (way : Way) (is_way : IsWayOf line file way) where
     first-of : (done more : List Write) → writes_for way code ≡ done ++ more → AreFirst line bytes done
     first-of done more split = record {
       accepted = λ other a. record {
@@ -132,7 +167,8 @@ module _ (line : CommandLine) (bytes : List ℕ) (within : IsWithin line) where
     }
 
     module _ (old new : Sinks) where
-      goes-whole : (r : Status) → r ≡ status_for way code → Appends old.out new.out (out_for way code) → Appends old.err new.err (err_for way code) → GoesWhole line bytes r old new
+      goes-whole : (r : Status) → r ≡ status_for way code → Appends old.out new.out (out_for way code)
+          → Appends old.err new.err (err_for way code) → GoesWhole line bytes r old new
       goes-whole r status out err = record {
         file = file;
         accepts = accepted;
@@ -144,30 +180,39 @@ module _ (line : CommandLine) (bytes : List ℕ) (within : IsWithin line) where
         sound = sound-way way bytes file accepted;
       }
 
-      status-runs : (o : Option Ending) (b : Bool) → GoesWhole line bytes (status_by b o) old new → IsSteady old new → FileTells line bytes (status_by b o) old new
+      status-runs : (o : Option Ending) (b : Bool) → GoesWhole line bytes (status_by b o) old new → IsSteady old new
+          → FileTells line bytes (status_by b o) old new
       status-runs (Some Ending.Returned) true h steady = record { means = h; causes = steady }
       status-runs (Some Ending.Returned) false h steady = record { means = h; causes = steady }
       status-runs (Some (Ending.Panicked kind g at)) b h steady = record { means = h; causes = steady }
       status-runs (Some Ending.Asleep) b h steady = record { means = h; causes = steady }
       status-runs None b h steady = record { means = h; causes = steady }
 
-      status-goes : (options : Option RunOptions) → GoesWhole line bytes (status_by_options options code) old new → IsSteady old new → FileTells line bytes (status_by_options options code) old new
+      status-goes : (options : Option RunOptions) → GoesWhole line bytes (status_by_options options code) old new
+          → IsSteady old new → FileTells line bytes (status_by_options options code) old new
       unfolding status_of
-      status-goes (Some options) h steady = status-runs (ending (last_of code options)) (anyone_reported (reports_of code options)) h steady
+      status-goes (Some options) h steady = status-runs (ending (last_of code options))
+          (anyone_reported (reports_of code options)) h steady
       status-goes None h steady = record { means = h; causes = steady }
 
       -- it went to its end
-      pub went-tells : (r : Status) → r ≡ status_for way code → Appends old.out new.out (out_for way code) → Appends old.err new.err (err_for way code) → IsSteady old new → FileTells line bytes r old new
+      pub went-tells : (r : Status) → r ≡ status_for way code → Appends old.out new.out (out_for way code)
+          → Appends old.err new.err (err_for way code) → IsSteady old new → FileTells line bytes r old new
       went-tells r status out err steady =
           subst (λ t. FileTells line bytes t old new) (sym status)
-          (status-goes (options_of way) (subst (λ t. GoesWhole line bytes t old new) status (goes-whole r status out err)) steady)
+          (status-goes (options_of way) (subst (λ t. GoesWhole line bytes t old new) status
+          (goes-whole r status out err)) steady)
 
       -- a write failed in it
-      pub failed-tells : (done rest : List Write) (cut : Write) → writes_for way code ≡ done ++ (cut ∷ rest) → Breaks old new done cut → FileTells line bytes s.WriteFault old new
-      failed-tells done rest cut split breaks = broken old new done cut s.WriteFault (Next cut (first-of (done ++ cut ∷ []) rest (split ∙ sym (append_assoc done (cut ∷ []) rest)))) refl breaks
+      pub failed-tells : (done rest : List Write) (cut : Write) → writes_for way code ≡ done ++ (cut ∷ rest)
+          → Breaks old new done cut → FileTells line bytes s.WriteFault old new
+      failed-tells done rest cut split breaks =
+          broken old new done cut s.WriteFault
+          (Next cut (first-of (done ++ cut ∷ []) rest (split ∙ sym (append_assoc done (cut ∷ []) rest)))) refl breaks
 
     -- memory ran out in it, and then a line was written
-    module _ (out out' mid err err' : Option (List ℕ)) (of of' mf ef ef' : ℕ) (done more : List Write) (split : writes_for way code ≡ done ++ more) (stands : MayStand line done) where
+    module _ (out out' mid err err' : Option (List ℕ)) (of of' mf ef ef' : ℕ) (done more : List Write)
+        (split : writes_for way code ≡ done ++ more) (stands : MayStand line done) where
       abbrev first : Sinks
       first = sinks out of err ef
 
@@ -177,12 +222,22 @@ module _ (line : CommandLine) (bytes : List ℕ) (within : IsWithin line) where
       abbrev last : Sinks
       last = sinks out' of' err' ef'
 
-      stopped : (r : Status) → GotWrites done first mid_way → IsSteady first mid_way → Says s.Memory no_memory_text r mid_way last → FileTells line bytes r first last
+      stopped : (r : Status) → GotWrites done first mid_way → IsSteady first mid_way
+          → Says s.Memory no_memory_text r mid_way last → FileTells line bytes r first last
       stopped r got steady (inl e) = subst (λ t. FileTells line bytes t first last) (sym e.0) (record {
-        means = (done, stands, first-of done more split, gets-more first mid_way last done (Write.ToErr no_memory_text ∷ []) got e.1);
+        means = (
+          done,
+          stands,
+          first-of done more split,
+          gets-more first mid_way last done (Write.ToErr no_memory_text ∷ []) got e.1,
+        );
         causes = record { out = e.2.out ∙ steady.out; err = e.2.err ∙ steady.err };
       })
-      stopped r got steady (inr e) = broken first last done (Write.ToErr no_memory_text) r (Cause no_memory_text (first-of done more split) OutOfMemory) e.0 (breaks-later first mid_way last done (Write.ToErr no_memory_text) got steady e.1)
+      stopped r got steady (inr e) = broken first last done (Write.ToErr no_memory_text) r
+          (Cause no_memory_text (first-of done more split) OutOfMemory) e.0
+          (breaks-later first mid_way last done (Write.ToErr no_memory_text) got steady e.1)
 
-      pub stopped-tells : (r : Status) → GotWrites done first mid_way → IsSteady first mid_way → EndsWith r s.Memory no_memory_text mid err' mf ef' → FileTells line bytes r first last
-      stopped-tells r got steady ends = stopped r got steady (says out' of' mid err' mf ef' s.Memory r no_memory_text ends)
+      pub stopped-tells : (r : Status) → GotWrites done first mid_way → IsSteady first mid_way
+          → EndsWith r s.Memory no_memory_text mid err' mf ef' → FileTells line bytes r first last
+      stopped-tells r got steady ends = stopped r got steady
+          (says out' of' mid err' mf ef' s.Memory r no_memory_text ends)

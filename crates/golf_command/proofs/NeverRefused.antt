@@ -17,7 +17,8 @@ module _ (n : ℕ) (some : 1 ≤ n) (most : n ≤ most_parts) where
   typed : (file : File) × HasTypedTree (generated_file n) file
   typed = let a = generated.accepted n some most in (a.0, record { tree = a.1.reads; keeps = a.1.typed })
 
-  module _ (bytes : List ℕ) (same : bytes ≡ generated_file n) (refusal : Refusal) (why : IsRefusedBy bytes refusal) where
+  module _ (bytes : List ℕ) (same : bytes ≡ generated_file n) (refusal : Refusal)
+      (why : IsRefusedBy bytes refusal) where
     refused-by : (other : Refusal) → refusal ≡ other → IsRefusedBy (generated_file n) other
     refused-by other e = subst (λ (bs : List ℕ). IsRefusedBy bs other) same (subst (IsRefusedBy bytes) e why)
 

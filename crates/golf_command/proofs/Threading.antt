@@ -10,7 +10,8 @@ use Rattle.golf_model.specs.Running.{run, stops}
 use Rattle.golf_run_schedules.specs.Events.{turns_among}
 use Rattle.golf_data.specs.declared.report.Report.{Report}
 use Rattle.golf_run_texts.specs.Texts.{report_text, reports_text, last_line, history_line}
-use Rattle.golf_run_texts.specs.Output.{events_of, last_of, out_of, reports_of, real_stops_of, collections_text, end_of, err_of, status_of, status_by, anyone_reported}
+use Rattle.golf_run_texts.specs.Output.{events_of, last_of, out_of, reports_of, real_stops_of, collections_text, end_of}
+use Rattle.golf_run_texts.specs.Output.{err_of, status_of, status_by, anyone_reported}
 use Rattle.golf_world.specs.declared.history.History.{History}
 use Rattle.golf_world.specs.History.{turns}
 use Rattle.golf_world.specs.Runs.{IsWholeRun}
@@ -23,7 +24,8 @@ use Rattle.golf_command.proofs.Turns.{numbers_in, turns-are, turns-counted, numb
 plain-texts : (rs : List Report) (ss : List State) → collections_text false rs ss ≡ reports_text rs
 plain-texts [] ss = refl
 plain-texts (r ∷ rs) [] = ap (λ t. report_text r ++ t) (plain-texts rs [])
-plain-texts (r ∷ rs) (s ∷ ss) = ap (λ t. t ++ collections_text false rs ss) (append-nil (report_text r)) ∙ ap (λ t. report_text r ++ t) (plain-texts rs ss)
+plain-texts (r ∷ rs) (s ∷ ss) = ap (λ t. t ++ collections_text false rs ss) (append-nil (report_text r))
+    ∙ ap (λ t. report_text r ++ t) (plain-texts rs ss)
 
 module _ (code : Code) (threads : ℕ) (s : State) (history : History) (w : IsWholeRun code threads s history) where
   abbrev ns : List ℕ
@@ -58,22 +60,28 @@ module _ (code : Code) (threads : ℕ) (s : State) (history : History) (w : IsWh
   unfolding end_of
   end-is = (λ i. last_line code.texts (count-is i) (ending-is i))
 
-  err-is : err_of code (history_options ns) ≡ reports_text history.reports ++ last_line code.texts (length history.entries) (ending s)
+  err-is : err_of code (history_options ns) ≡ reports_text history.reports
+      ++ last_line code.texts (length history.entries) (ending s)
   unfolding err_of history_options
-  err-is = ap (λ t. t ++ end_of code (history_options ns)) (plain-texts (reports_of code (history_options ns)) (real_stops_of code (history_options ns))) ∙ (λ i. reports_text (reports-are i) ++ end-is i)
+  err-is = ap (λ t. t ++ end_of code (history_options ns))
+      (plain-texts (reports_of code (history_options ns)) (real_stops_of code (history_options ns)))
+      ∙ (λ i. reports_text (reports-are i) ++ end-is i)
 
   status-is : status_of code (history_options ns) ≡ status_by (anyone_reported history.reports) (ending s)
   unfolding status_of
   status-is = (λ i. status_by (anyone_reported (reports-are i)) (ending-is i))
 
-  pub texts-are : (of : RunTexts) (texts : List (List ℕ)) → texts ≡ code.texts → of.status ≡ status_by (anyone_reported history.reports) (ending s) → of.out ≡ s.output
-      → of.err ≡ (reports_text history.reports ++ last_line texts (length history.entries) (ending s)) ++ history_line ns → AreTextsByThreads of threads code
+  pub texts-are : (of : RunTexts) (texts : List (List ℕ)) → texts ≡ code.texts
+      → of.status ≡ status_by (anyone_reported history.reports) (ending s) → of.out ≡ s.output
+      → of.err ≡ (reports_text history.reports ++ last_line texts (length history.entries) (ending s))
+      ++ history_line ns → AreTextsByThreads of threads code
   texts-are of texts same status out err = (
     ns,
     are-turns,
     record {
       status = status ∙ sym status-is;
       out = out ∙ sym out-is;
-      err = err ∙ ap (λ ts. (reports_text history.reports ++ last_line ts (length history.entries) (ending s)) ++ history_line ns) same ∙ ap (λ t. t ++ history_line ns) (sym err-is);
+      err = err ∙ ap (λ ts. (reports_text history.reports ++ last_line ts (length history.entries) (ending s))
+          ++ history_line ns) same ∙ ap (λ t. t ++ history_line ns) (sym err-is);
     },
   )

@@ -1,7 +1,8 @@
 -- The numbers of all turns of a run by threads: that there are some, and those of a history.
 -- For: `texts_by_threads`, src/threads.rt; `AreTurns`, specs/Ways.antt
 -- By: induction over the list of numbers, and over k, the turns that are allowed
-use Rattle.std.proofs.Common.{◌≡◌, ℕ, zero, suc, ◌+◌, ◌<◌, ◌≤◌, ◌⊎◌, inl, inr, false, List, [], ◌∷◌, ◌++◌, length, map, take, Option, Some, None, slice_get, refl, sym, ap, ◌∙◌, arith, length-append}
+use Rattle.std.proofs.Common.{◌≡◌, ℕ, zero, suc, ◌+◌, ◌<◌, ◌≤◌, ◌⊎◌, inl, inr, false, List, [], ◌∷◌, ◌++◌, length, map}
+use Rattle.std.proofs.Common.{take, Option, Some, None, slice_get, refl, sym, ap, ◌∙◌, arith, length-append}
 use Rattle.std.specs.Prelude.{option_map}
 use Rattle.std.proofs.lemmas.List.{take_all, take-map, length-map, length-take-le}
 use Rattle.std.proofs.lemmas.Option.{slice_get-map, slice_get_within}
@@ -44,11 +45,17 @@ not-there n is = cc
 same-number : (m n : ℕ) → ◌≡◌ {A = Option ℕ} (Some m) (Some n) → m ≡ n
 same-number m n is = cc
 
-get_push : (xs : List ℕ) (y z t : ℕ) → slice_get (xs ++ y ∷ []) t ≡ Some z → ((slice_get xs t ≡ Some z) × (take t (xs ++ y ∷ []) ≡ take t xs)) ⊎ ((take t (xs ++ y ∷ []) ≡ xs) × (y ≡ z) × (t ≡ length xs))
+get_push : (xs : List ℕ) (y z t : ℕ) → slice_get (xs ++ y ∷ []) t ≡ Some z
+    → ((slice_get xs t ≡ Some z) × (take t (xs ++ y ∷ []) ≡ take t xs))
+    ⊎ ((take t (xs ++ y ∷ []) ≡ xs) × (y ≡ z) × (t ≡ length xs))
 get_push [] y z zero e = inr (refl, cc, refl)
 get_push [] y z (suc t) e = absurd cc
 get_push (x ∷ xs) y z zero e = inl (e, refl)
-get_push (x ∷ xs) y z (suc t) e = elim (get_push xs y z t e) [ inl h ↦ inl (h.0, ap (λ l. x ∷ l) h.1) | inr h ↦ inr (ap (λ l. x ∷ l) h.0, h.1, ap suc h.2) ]
+get_push (x ∷ xs) y z (suc t) e = elim (get_push xs y z t e) [
+  | inl h ↦ inl (h.0, ap (λ l. x ∷ l) h.1)
+  | inr h ↦ inr
+      (ap (λ l. x ∷ l) h.0, h.1, ap suc h.2)
+]
 
 module _ (code : Code) (threads : ℕ) (some : 0 < threads) where
   -- turns until there are k of them or an ending
@@ -65,7 +72,8 @@ module _ (code : Code) (threads : ℕ) (some : 0 < threads) where
     abbrev more : List ℕ
     more = g.ns ++ next ∷ []
 
-    at-last : (t n : ℕ) → next ≡ n → t ≡ length g.ns → ending (after_turns code g.ns) ≡ None → take t more ≡ g.ns → IsTurnAt code threads more t n
+    at-last : (t n : ℕ) → next ≡ n → t ≡ length g.ns → ending (after_turns code g.ns) ≡ None → take t more ≡ g.ns
+        → IsTurnAt code threads more t n
     at-last t n is place goes same = record {
       thread = 0;
       is_one = some;
@@ -82,7 +90,12 @@ module _ (code : Code) (threads : ℕ) (some : 0 < threads) where
     }
 
     grow-by : (o : Option Ending) → ending (after_turns code g.ns) ≡ o → Grown (suc k)
-    grow-by (Some e) is = record { ns = g.ns; each = g.each; few = omega (arith, g.few); whole = λ none. absurd (not-ended e (sym is ∙ none)) }
+    grow-by (Some e) is = record {
+      ns = g.ns;
+      each = g.each;
+      few = omega (arith, g.few);
+      whole = λ none. absurd (not-ended e (sym is ∙ none));
+    }
     grow-by None is =
         let full = g.whole is in record {
           ns = more;
@@ -99,7 +112,10 @@ module _ (code : Code) (threads : ℕ) (some : 0 < threads) where
   grown (suc k) = let g = grown k in grow-by k g (ending (after_turns code g.ns)) refl
 
   pub some-turns : (ns : List ℕ) × AreTurns code threads ns
-  some-turns = let g = grown most_entries in (g.ns, record { each = g.each; few = g.few; whole = g.whole; events = their-events g.ns g.few })
+  some-turns = let g = grown most_entries in (
+    g.ns,
+    record { each = g.each; few = g.few; whole = g.whole; events = their-events g.ns g.few },
+  )
 
 -- ---- those of a history
 
@@ -118,28 +134,38 @@ module _ (code : Code) where
   after-is-run es = ap (λ x. run code (start code) x) (turns-are es)
 
   same-ending : (es : List HistoryEntry) → ending (after_turns code (numbers_in es)) ≡ ending (after code es)
-  same-ending es = ap ending (after-is-run es) ∙ sym (ap ending (after-is code es) ∙ (real-runs code false (turns es)).1)
+  same-ending es = ap ending (after-is-run es)
+      ∙ sym (ap ending (after-is code es) ∙ (real-runs code false (turns es)).1)
 
   same-runnable : (es : List HistoryEntry) → runnable (after code es) ≡ runnable (after_turns code (numbers_in es))
-  same-runnable es = ap runnable (after-is code es) ∙ same_can_run code false (turns es) ∙ ap runnable (sym (after-is-run es))
+  same-runnable es = ap runnable (after-is code es) ∙ same_can_run code false (turns es)
+      ∙ ap runnable (sym (after-is-run es))
 
   module _ (threads : ℕ) (es : List HistoryEntry) (h : IsHistory code threads es) where
-    numbered : (t n : ℕ) (o : Option HistoryEntry) → slice_get es t ≡ o → slice_get (numbers_in es) t ≡ Some n → IsTurnAt code threads (numbers_in es) t n
-    numbered t n None is here = absurd (not-there n (sym here ∙ slice_get-map (λ (x : HistoryEntry). x.number) es t ∙ ap (option_map (λ (x : HistoryEntry). x.number)) is))
+    numbered : (t n : ℕ) (o : Option HistoryEntry) → slice_get es t ≡ o → slice_get (numbers_in es) t ≡ Some n
+        → IsTurnAt code threads (numbers_in es) t n
+    numbered t n None is here = absurd (not-there n
+        (sym here ∙ slice_get-map (λ (x : HistoryEntry). x.number) es t
+        ∙ ap (option_map (λ (x : HistoryEntry). x.number)) is))
     numbered t n (Some e) is here =
         let entry = h t e is in
-        let number : n ≡ e.number = same-number n e.number (sym here ∙ slice_get-map (λ (x : HistoryEntry). x.number) es t ∙ ap (option_map (λ (x : HistoryEntry). x.number)) is) in
+        let number : n ≡ e.number = same-number n e.number
+        (sym here ∙ slice_get-map (λ (x : HistoryEntry). x.number) es t
+        ∙ ap (option_map (λ (x : HistoryEntry). x.number)) is) in
         let inside : t < length es = slice_get_within es t e is in
         let place : length (take t es) ≡ t = length-take-le t es (omega arith) in
         let same : take t (numbers_in es) ≡ numbers_in (take t es) = take-map (λ (x : HistoryEntry). x.number) t es in
         record {
           thread = e.pass;
           is_one = entry.pass;
-          number = number ∙ entry.number ∙ (λ i. number_at e.pass (place i) (length (same-runnable (take t es) i))) ∙ ap (λ xs. number_at e.pass t (length (runnable (after_turns code xs)))) (sym same);
+          number = number ∙ entry.number ∙ (λ i. number_at e.pass (place i) (length (same-runnable (take t es) i)))
+              ∙ ap (λ xs. number_at e.pass t (length (runnable (after_turns code xs)))) (sym same);
           goes = ap (λ xs. ending (after_turns code xs)) same ∙ same-ending (take t es) ∙ entry.goes;
         }
 
-    pub history-turns : length es ≤ most_entries → (ending (run code (start code) (turns es)) ≡ None → length es ≡ most_entries) → AreTurns code threads (numbers_in es)
+    pub history-turns : length es ≤ most_entries
+        → (ending (run code (start code) (turns es)) ≡ None → length es ≡ most_entries)
+        → AreTurns code threads (numbers_in es)
     history-turns few whole =
         let count = numbers-counted es in
         let short : length (numbers_in es) ≤ most_entries = omega (arith, count, few) in

@@ -14,7 +14,8 @@ use Rattle.golf_command.proofs.Turns.{some-turns}
 pub some-way : (line : CommandLine) (file : File) → IsWithin line → (way : Way) × IsWayOf line file way
 some-way (CommandLine.Run options) file w = (Way.ByOptions options, refl)
 some-way (CommandLine.Generate n) file w = (Way.Generated n, refl)
-some-way (CommandLine.Threads n) file w = let some : 0 < n = omega (arith, w.0) in let turns = some-turns (CodeOf file) n some in (Way.ByThreads turns.0, (turns.0, refl, turns.1))
+some-way (CommandLine.Threads n) file w = let some : 0 < n = omega (arith, w.0) in let turns =
+    some-turns (CodeOf file) n some in (Way.ByThreads turns.0, (turns.0, refl, turns.1))
 some-way CommandLine.Meaning file w = (Way.Compared (function_count file.declarations), refl)
 
 pub none-stands : (line : CommandLine) → MayStand line []

@@ -11,7 +11,8 @@ use Rattle.golf_run_texts.specs.declared.status.Status.TheVariants as s
 
 -- the line was written with that status, or the write failed in the middle of it
 abbrev pub EndsWith : Status → Status → List ℕ → Option (List ℕ) → Option (List ℕ) → ℕ → ℕ → Type 0
-EndsWith result status line err err' before now = ((result ≡ status) × Appends err err' line × (now ≡ before)) ⊎ ((result ≡ s.WriteFault) × WritesPrefix err err' line × Rose before now)
+EndsWith result status line err err' before now = ((result ≡ status) × Appends err err' line × (now ≡ before))
+    ⊎ ((result ≡ s.WriteFault) × WritesPrefix err err' line × Rose before now)
 
 -- the line of a refusal
 abbrev pub refusal_line : Refusal → List ℕ
@@ -29,4 +30,6 @@ refusal_status refusals.Memory = s.Memory
 
 -- the refusal's line was written with its status, or memory ran out for the line
 abbrev pub Refuses : Status → Refusal → Option (List ℕ) → Option (List ℕ) → ℕ → ℕ → Type 0
-Refuses result refusal err err' before now = EndsWith result (refusal_status refusal) (refusal_line refusal) err err' before now ⊎ EndsWith result s.Memory no_memory_text err err' before now
+Refuses result refusal err err' before now =
+    EndsWith result (refusal_status refusal) (refusal_line refusal) err err' before now
+    ⊎ EndsWith result s.Memory no_memory_text err err' before now

@@ -14,15 +14,30 @@ use Rattle.golf_run_texts.specs.Writes.{Write}
 
 -- in rotation, by four markers, with recovery
 unfoldable pub generated_options : RunOptions
-generated_options = record { schedule = Schedule.Rotate; turns = most_turns; every = None; markers = 4; recover = true; why = false }
+generated_options = record {
+  schedule = Schedule.Rotate;
+  turns = most_turns;
+  every = None;
+  markers = 4;
+  recover = true;
+  why = false;
+}
 
 -- the numbers of the run of the generated file of n parts
-abbrev pub summary_of : ℕ → Totals → Summary
-summary_of n t = record { parts = n; lines = newlines (generated_file n); collections = t.collections; reported = t.reported; kept = t.kept; reclaimed = t.reclaimed; objects = t.objects }
+abbrev pub summed_up : ℕ → Totals → Summary
+summed_up n t = record {
+  parts = n;
+  lines = newlines (generated_file n);
+  collections = t.collections;
+  reported = t.reported;
+  kept = t.kept;
+  reclaimed = t.reclaimed;
+  objects = t.objects;
+}
 
 -- the line that sums the run up
 unfoldable pub generated_summary : ℕ → Code → List ℕ
-generated_summary n code = summary (summary_of n (totals_of (reports_of code generated_options)))
+generated_summary n code = summary (summed_up n (totals_of (reports_of code generated_options)))
 
 -- it goes to standard output, and how the run ended to standard error
 unfoldable pub generated_writes : ℕ → Code → List Write

@@ -17,10 +17,12 @@ use Rattle.golf_command.specs.Promises.{Reads, Accepts}
 use Rattle.golf_command.specs.Means.{seen, LineTells}
 
 -- a line says why there is no file, which is all that a line that reads comes to then
-abbrev pub Ends : Status → Option (List ℕ) → Option (List ℕ) → ℕ → ℕ → Option (List ℕ) → Option (List ℕ) → ℕ → ℕ → Type 0
+abbrev pub Ends : Status → Option (List ℕ) → Option (List ℕ) → ℕ → ℕ → Option (List ℕ) → Option (List ℕ) → ℕ → ℕ
+    → Type 0
 Ends status left left' before now err err' faults faults' =
     (line : CommandLine) → Reads line → IsWithin line → (out : Option (List ℕ)) (out_faults : ℕ)
-    → LineTells line status (seen left before (sinks out out_faults err faults)) (seen left' now (sinks out out_faults err' faults'))
+    → LineTells line status (seen left before (sinks out out_faults err faults))
+    (seen left' now (sinks out out_faults err' faults'))
 
 -- the source was read to its end, and these are its bytes, no more than a file may have
 pub record HasFetched (bytes : List ℕ) (left left' : Option (List ℕ)) (before now : ℕ) : Type 0 where
@@ -39,17 +41,26 @@ pub record HasFile (file : File) (left left' : Option (List ℕ)) (before now : 
   pub only : IsOnly bytes file
 
 -- the bytes, and nothing was written; or why there are none
-abbrev pub Fetches : Result (List ℕ) Status → Option (List ℕ) → Option (List ℕ) → ℕ → ℕ → Option (List ℕ) → Option (List ℕ) → ℕ → ℕ → Type 0
-Fetches (Ok bytes) left left' before now err err' faults faults' = HasFetched bytes left left' before now × (err' ≡ err) × (faults' ≡ faults)
-Fetches (Err status) left left' before now err err' faults faults' = Ends status left left' before now err err' faults faults'
+abbrev pub Fetches : Result (List ℕ) Status → Option (List ℕ) → Option (List ℕ) → ℕ → ℕ → Option (List ℕ)
+    → Option (List ℕ) → ℕ → ℕ → Type 0
+Fetches (Ok bytes) left left' before now err err' faults faults' = HasFetched bytes left left' before now × (err' ≡ err)
+    × (faults' ≡ faults)
+Fetches (Err status) left left' before now err err' faults faults' =
+    Ends status left left' before now err err' faults faults'
 
 -- the code, and nothing was written; or why there is none
-abbrev pub Loads : Result Code Status → Option (List ℕ) → Option (List ℕ) → ℕ → ℕ → Option (List ℕ) → Option (List ℕ) → ℕ → ℕ → Type 0
-Loads (Ok code) left left' before now err err' faults faults' = (file : File) × HasFile file left left' before now × (code ≡ CodeOf file) × (err' ≡ err) × (faults' ≡ faults)
-Loads (Err status) left left' before now err err' faults faults' = Ends status left left' before now err err' faults faults'
+abbrev pub Loads : Result Code Status → Option (List ℕ) → Option (List ℕ) → ℕ → ℕ → Option (List ℕ) → Option (List ℕ)
+    → ℕ → ℕ → Type 0
+Loads (Ok code) left left' before now err err' faults faults' = (file : File) × HasFile file left left' before now
+    × (code ≡ CodeOf file) × (err' ≡ err) × (faults' ≡ faults)
+Loads (Err status) left left' before now err err' faults faults' =
+    Ends status left left' before now err err' faults faults'
 
 -- the tree with what the checker found of it, and nothing was written; or why there is none
-abbrev pub LoadsTree : Result Checked Status → Option (List ℕ) → Option (List ℕ) → ℕ → ℕ → Option (List ℕ) → Option (List ℕ) → ℕ → ℕ → Type 0
+abbrev pub LoadsTree : Result Checked Status → Option (List ℕ) → Option (List ℕ) → ℕ → ℕ → Option (List ℕ)
+    → Option (List ℕ) → ℕ → ℕ → Type 0
 LoadsTree (Ok checked) left left' before now err err' faults faults' =
-    HasFile checked.file left left' before now × (checked.scope ≡ scope_of checked.file) × (checked.facts ≡ facts_in checked.file) × (err' ≡ err) × (faults' ≡ faults)
-LoadsTree (Err status) left left' before now err err' faults faults' = Ends status left left' before now err err' faults faults'
+    HasFile checked.file left left' before now × (checked.scope ≡ scope_of checked.file)
+    × (checked.facts ≡ facts_in checked.file) × (err' ≡ err) × (faults' ≡ faults)
+LoadsTree (Err status) left left' before now err err' faults faults' =
+    Ends status left left' before now err err' faults faults'

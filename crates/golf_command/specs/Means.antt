@@ -15,13 +15,15 @@ use Rattle.golf_run_texts.specs.Fixed.{usage_text, read_fault_text, no_memory_te
 use Rattle.golf_run_texts.specs.Writes.{Write}
 use Rattle.golf_run.specs.HasRun.{Sinks, GotWrites, IsPrefixOf, HasFailed, IsSteady}
 use Rattle.golf_command.specs.Ways.{Way, IsWayOf, options_of, status_for, out_for, err_for, writes_for}
-use Rattle.golf_command.specs.Promises.{IsLine, IsNoLine, Reads, IsFileOf, Accepts, AreTrue, MovesAlways, MeansItsSource, RefusedBy, WordsMean}
+use Rattle.golf_command.specs.Promises.{IsLine, IsNoLine, Reads, IsFileOf, Accepts, AreTrue, MovesAlways}
+use Rattle.golf_command.specs.Promises.{MeansItsSource, RefusedBy, WordsMean}
 
 -- the bytes of the words
 abbrev pub words_of : List (String Global) → List (List ℕ)
 words_of words = map string_bytes words
 
--- what is seen of a source and two sinks at a time: the bytes that are left, and those that were written, if they are told, and how often each has failed
+-- what is seen of a source and two sinks at a time: the bytes that are left, and those that were written, if they are
+-- told, and how often each has failed
 pub record View : Type 0 where
   pub left : Option (List ℕ)
   pub read_faults : ℕ
@@ -51,7 +53,8 @@ abbrev pub IsSoundBy : Option RunOptions → Code → Type 0
 IsSoundBy (Some options) code = IsSoundRun code options
 IsSoundBy None code = Unit {0}
 
--- what is said of an accepted file, in whichever way the line goes: the code of each function and method does what its source says; and what is said of the run
+-- what is said of an accepted file, in whichever way the line goes: the code of each function and method does what its
+-- source says; and what is said of the run
 pub record IsSound (way : Way) (file : File) : Type 0 where
   pub source : MeansItsSource file
   pub run : IsSoundBy (options_of way) (CodeOf file)
@@ -77,9 +80,12 @@ pub data IsCause (line : CommandLine) (bytes : List ℕ) : List ℕ → Type 0 w
 -- what may be written after them: the next write of the way, or the text of a cause
 pub data MayFollow (line : CommandLine) (bytes : List ℕ) (done : List Write) : Write → Type 0 where
   Next : (write : Write) → AreFirst line bytes (done ++ write ∷ []) → MayFollow line bytes done write
-  Cause : (text : List ℕ) → AreFirst line bytes done → IsCause line bytes text → MayFollow line bytes done (Write.ToErr text)
+  Cause : (text : List ℕ) → AreFirst line bytes done → IsCause line bytes text
+      → MayFollow line bytes done (Write.ToErr text)
 
--- The file was accepted, and each sink got its whole text: of a run, what the machine that frees and reclaims nothing prints, and the reports of its book with the last line; if nothing is run, the line that says how many functions agree, and nothing.
+-- The file was accepted, and each sink got its whole text: of a run, what the machine that frees and reclaims nothing
+-- prints, and the reports of its book with the last line; if nothing is run, the line that says how many functions
+-- agree, and nothing.
 pub record GoesWhole (line : CommandLine) (bytes : List ℕ) (answer : Status) (old new : Sinks) : Type 0 where
   pub file : File
   pub accepts : Accepts bytes file
@@ -97,7 +103,8 @@ pub record IsRefused (line : CommandLine) (bytes : List ℕ) (old new : Sinks) :
   pub why : RefusedBy bytes text
   pub got : GotWrites (Write.ToErr text ∷ []) old new
 
--- which writes may stand if memory runs out: a run by options has written its first ones, the others have written nothing
+-- which writes may stand if memory runs out: a run by options has written its first ones, the others have written
+-- nothing
 abbrev pub MayStand : CommandLine → List Write → Type 0
 MayStand (CommandLine.Run options) done = Unit {0}
 MayStand (CommandLine.Generate n) done = done ≡ []
@@ -113,8 +120,10 @@ FileMeans line bytes s.Spent old new = GoesWhole line bytes s.Spent old new
 FileMeans line bytes s.Refused old new = IsRefused line bytes old new
 FileMeans line bytes s.Usage old new = ⊥
 FileMeans line bytes s.ReadFault old new = ⊥
-FileMeans line bytes s.WriteFault old new = (done : List Write) × ((cut : Write) × MayFollow line bytes done cut × Breaks old new done cut)
-FileMeans line bytes s.Memory old new = (done : List Write) × MayStand line done × AreFirst line bytes done × GotWrites (done ++ Write.ToErr no_memory_text ∷ []) old new
+FileMeans line bytes s.WriteFault old new = (done : List Write)
+    × ((cut : Write) × MayFollow line bytes done cut × Breaks old new done cut)
+FileMeans line bytes s.Memory old new = (done : List Write) × MayStand line done × AreFirst line bytes done
+    × GotWrites (done ++ Write.ToErr no_memory_text ∷ []) old new
 
 -- ---- what it says of a call
 
@@ -151,7 +160,8 @@ LineMeans line answer old new = IsUnread line answer old new ⊎ TellsOfFile lin
 
 -- what it says if they are none
 abbrev pub UsageMeans : Status → View → View → Type 0
-UsageMeans answer old new = Says s.Usage usage_text answer old.sinks new.sinks ⊎ Says s.Memory no_memory_text answer old.sinks new.sinks
+UsageMeans answer old new = Says s.Usage usage_text answer old.sinks new.sinks
+    ⊎ Says s.Memory no_memory_text answer old.sinks new.sinks
 
 -- which counts of faults rose: those that a status names, and no other
 abbrev pub SinkCauses : Status → Sinks → Sinks → Type 0
@@ -200,7 +210,8 @@ pub record IsUntouched (old new : View) : Type 0 where
   pub left : Keeps old.left new.left
   pub faults : new.read_faults ≡ old.read_faults
 
--- All that the status of a call says: what it means if the words are a line, and if they are none; that nothing is read but for a line that reads; what failed; and that nothing is lacking if nothing failed.
+-- All that the status of a call says: what it means if the words are a line, and if they are none; that nothing is read
+-- but for a line that reads; what failed; and that nothing is lacking if nothing failed.
 pub record Tells (words : List (List ℕ)) (answer : Status) (old new : View) : Type 0 where
   pub line : (line : CommandLine) → IsLine words line → LineMeans line answer old new
   pub usage : IsNoLine words → UsageMeans answer old new

@@ -56,25 +56,34 @@ pub record Accepts (bytes : List ℕ) (file : File) : Type 0 where
   pub within : length bytes ≤ most_bytes
   pub typed : HasTypedTree bytes file
 
--- What the reports of a run are worth. Each names, once, exactly the goroutines that are dead right before its collection and that no earlier one named; these are the blocked ones outside the live set; and whoever is dead there takes no step in any continuation.
+-- What the reports of a run are worth. Each names, once, exactly the goroutines that are dead right before its
+-- collection and that no earlier one named; these are the blocked ones outside the live set; and whoever is dead there
+-- takes no step in any continuation.
 pub record AreTrue (code : Code) (options : RunOptions) : Type 0 where
   pub each : TellsOfEach [] (stops code (events_of options)) (reports_of code options)
   pub dead : (p : State) (g : ℕ) → In p (stops code (events_of options)) → In g (dead p) ↔ Dead p g
   pub still : (p : State) (g : ℕ) → In p (stops code (events_of options)) → Dead p g → Still code p g
 
--- on the machine that frees and reclaims nothing no state that events lead on to is stuck: whoever's turn it is, a rule fits, until the program has ended
+-- on the machine that frees and reclaims nothing no state that events lead on to is stuck: whoever's turn it is, a rule
+-- fits, until the program has ended
 abbrev pub GoesOnFrom : Code → State → Type 0
-GoesOnFrom code s = (events : List Event) (c : ℕ) → ending (run code s events) ≡ None → MovesOn code (run code s events) c
+GoesOnFrom code s = (events : List Event) (c : ℕ) → ending (run code s events) ≡ None
+    → MovesOn code (run code s events) c
 
--- No turn of the program is stuck: none of its run, none of a continuation of the state right before a collection, and none in a state that moves lead to, collections that free and remove among them.
+-- No turn of the program is stuck: none of its run, none of a continuation of the state right before a collection, and
+-- none in a state that moves lead to, collections that free and remove among them.
 pub record MovesAlways (code : Code) (options : RunOptions) : Type 0 where
   pub run : GoesOnFrom code (start code)
   pub continuations : (p : State) → In p (stops code (events_of options)) → GoesOnFrom code p
   pub moves : (s : State) (c : ℕ) → Leads code s → ending s ≡ None → MovesOn code s c
 
--- The code of each function and method of the file does what its source says: for as many arguments as it has parameters, and for all answers, the same visible operations, in the same order, with the same end. For each bound of one there is a bound of the other.
--- No rule is lacking to the source; and if it looks at kinds in answers, it is unfit by an answer alone.
--- And so it is in each run of the plain machine, after each turn. With the answers that a call got, its source means operations that begin with those that it has shown. If the call waits, they are exactly these, and the source waits at the last one; if it has ended, they are exactly these, with the same end. Its code means the same.
+-- The code of each function and method of the file does what its source says: for as many arguments as it has
+-- parameters, and for all answers, the same visible operations, in the same order, with the same end. For each bound of
+-- one there is a bound of the other. No rule is lacking to the source; and if it looks at kinds in answers, it is unfit
+-- by an answer alone. And so it is in each run of the plain machine, after each turn. With the answers that a call got,
+-- its source means operations that begin with those that it has shown. If the call waits, they are exactly these, and
+-- the source waits at the last one; if it has ended, they are exactly these, with the same end. Its code means the
+-- same.
 pub record MeansItsSource (file : File) : Type 0 where
   pub agrees : SourcesAgree file
   pub lacks_no_rule : MeaningsSound file
@@ -83,15 +92,19 @@ pub record MeansItsSource (file : File) : Type 0 where
 -- the line with which a file is refused
 pub data RefusedBy (bytes : List ℕ) : List ℕ → Type 0 where
   TooLong : most_bytes < length bytes → RefusedBy bytes too_long_text
-  Unlexed : (line byte : ℕ) → length bytes ≤ most_bytes → IsUnlexed bytes line byte → RefusedBy bytes (lexical_line line byte)
+  Unlexed : (line byte : ℕ) → length bytes ≤ most_bytes → IsUnlexed bytes line byte
+      → RefusedBy bytes (lexical_line line byte)
   Unparsed : (line : ℕ) → length bytes ≤ most_bytes → IsUnparsed bytes line → RefusedBy bytes (syntax_line line)
-  Untyped : (line rule : ℕ) → length bytes ≤ most_bytes → IsUntyped bytes line rule → RefusedBy bytes (rule_line line rule)
+  Untyped : (line rule : ℕ) → length bytes ≤ most_bytes → IsUntyped bytes line rule
+      → RefusedBy bytes (rule_line line rule)
 
 -- ---- both
 
 -- the status, and what standard output and standard error get; only the file of a line that reads can be refused
 pub data WordsMean (words : List (List ℕ)) (left : Option (List ℕ)) : Status → List ℕ → List ℕ → Type 0 where
   Misused : IsNoLine words → WordsMean words left s.Usage [] usage_text
-  Refused : (line : CommandLine) (bytes text : List ℕ) → IsLine words line → Reads line → IsFileOf line left bytes → RefusedBy bytes text → WordsMean words left s.Refused [] text
-  Goes : (line : CommandLine) (bytes : List ℕ) (file : File) (way : Way) → IsLine words line → IsFileOf line left bytes → Accepts bytes file → IsWayOf line file way
+  Refused : (line : CommandLine) (bytes text : List ℕ) → IsLine words line → Reads line → IsFileOf line left bytes
+      → RefusedBy bytes text → WordsMean words left s.Refused [] text
+  Goes : (line : CommandLine) (bytes : List ℕ) (file : File) (way : Way) → IsLine words line → IsFileOf line left bytes
+      → Accepts bytes file → IsWayOf line file way
       → WordsMean words left (status_for way (CodeOf file)) (out_for way (CodeOf file)) (err_for way (CodeOf file))

@@ -1,5 +1,6 @@
 -- In which way a line may go, and what it writes then.
-use Rattle.std.specs.Prelude.{◌≡◌, ℕ, ◌<◌, ◌≤◌, false, List, [], ◌∷◌, ◌++◌, length, map, take, slice_get, Option, Some, None}
+use Rattle.std.specs.Prelude.{◌≡◌, ℕ, ◌<◌, ◌≤◌, false, List, [], ◌∷◌, ◌++◌, length, map, take, slice_get, Option, Some}
+use Rattle.std.specs.Prelude.{None}
 use Rattle.golf_data.specs.declared.code.Code.{Code}
 use Rattle.golf_model.specs.State.{State, start, runnable, ending}
 use Rattle.golf_model.specs.Running.{Event, run}
@@ -27,7 +28,8 @@ turns_with ns = map (λ n. Event.Turn n) ns
 unfoldable pub after_turns : Code → List ℕ → State
 after_turns code ns = run code (start code) (turns_with ns)
 
--- the number n stands at place t: one of so many threads took that turn, with the number that follows from which it is, the place and how many goroutines could run; and the program had not ended before
+-- the number n stands at place t: one of so many threads took that turn, with the number that follows from which it is,
+-- the place and how many goroutines could run; and the program had not ended before
 pub record IsTurnAt (code : Code) (threads : ℕ) (ns : List ℕ) (t n : ℕ) : Type 0 where
   pub thread : ℕ
   pub is_one : thread < threads
@@ -36,9 +38,17 @@ pub record IsTurnAt (code : Code) (threads : ℕ) (ns : List ℕ) (t n : ℕ) : 
 
 -- how a run whose turns had these numbers is run again: by them as written choices, without recovery
 unfoldable pub history_options : List ℕ → RunOptions
-history_options ns = record { schedule = Schedule.Choices ns; turns = most_entries; every = None; markers = 1; recover = false; why = false }
+history_options ns = record {
+  schedule = Schedule.Choices ns;
+  turns = most_entries;
+  every = None;
+  markers = 1;
+  recover = false;
+  why = false;
+}
 
--- these are the numbers of all turns of a run by so many threads: no proper prefix of them has an ending, and all together have one, or are as many as a history may have
+-- these are the numbers of all turns of a run by so many threads: no proper prefix of them has an ending, and all
+-- together have one, or are as many as a history may have
 pub record AreTurns (code : Code) (threads : ℕ) (ns : List ℕ) : Type 0 where
   pub each : (t n : ℕ) → slice_get ns t ≡ Some n → IsTurnAt code threads ns t n
   pub few : length ns ≤ most_entries
@@ -47,7 +57,8 @@ pub record AreTurns (code : Code) (threads : ℕ) (ns : List ℕ) : Type 0 where
 
 -- ---- ways
 
--- a run goes by options, or as that of a generated file, or by threads whose turns had these numbers; or nothing is run, and so many functions are compared with their source
+-- a run goes by options, or as that of a generated file, or by threads whose turns had these numbers; or nothing is
+-- run, and so many functions are compared with their source
 pub data Way : Type 0 where
   ByOptions : (options : RunOptions) → Way
   Generated : (parts : ℕ) → Way
@@ -93,5 +104,6 @@ err_for (Way.Compared n) code = []
 abbrev pub writes_for : Way → Code → List Write
 writes_for (Way.ByOptions options) code = writes_of code options
 writes_for (Way.Generated n) code = generated_writes n code
-writes_for (Way.ByThreads ns) code = Write.ToOut (out_for (Way.ByThreads ns) code) ∷ Write.ToErr (err_for (Way.ByThreads ns) code) ∷ []
+writes_for (Way.ByThreads ns) code = Write.ToOut (out_for (Way.ByThreads ns) code)
+    ∷ Write.ToErr (err_for (Way.ByThreads ns) code) ∷ []
 writes_for (Way.Compared n) code = Write.ToOut (meaning_line n) ∷ []

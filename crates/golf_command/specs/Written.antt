@@ -29,14 +29,18 @@ abbrev pub WroteBoth : Bool → List ℕ → List ℕ → Sinks → Sinks → Ty
 WroteBoth true text line old new = GotWrites (Write.ToOut text ∷ Write.ToErr line ∷ []) old new × IsSteady old new
 WroteBoth false text line old new = WasCut (Write.ToOut text ∷ Write.ToErr line ∷ []) old new
 
--- all was written with the status of the run, or a write was cut; without texts the line that says so was written, and nothing else
+-- all was written with the status of the run, or a write was cut; without texts the line that says so was written, and
+-- nothing else
 abbrev pub HasWritten : Result RunTexts Memory → Status → Sinks → Sinks → Type 0
 HasWritten (Ok of) answer old new =
-    ((answer ≡ of.status) × GotWrites (text_writes of) old new × IsSteady old new) ⊎ ((answer ≡ s.WriteFault) × WasCut (text_writes of) old new)
+    ((answer ≡ of.status) × GotWrites (text_writes of) old new × IsSteady old new)
+    ⊎ ((answer ≡ s.WriteFault) × WasCut (text_writes of) old new)
 HasWritten (Err m) answer old new = Says s.Memory no_memory_text answer old new
 
--- the text was written to standard output, with status 0, or its write was cut; without a text the line that says so was written, and nothing else
+-- the text was written to standard output, with status 0, or its write was cut; without a text the line that says so
+-- was written, and nothing else
 abbrev pub HasTold : Result (List ℕ) Memory → Status → Sinks → Sinks → Type 0
 HasTold (Ok text) answer old new =
-    ((answer ≡ s.Clean) × GotWrites (Write.ToOut text ∷ []) old new × IsSteady old new) ⊎ ((answer ≡ s.WriteFault) × Breaks old new [] (Write.ToOut text))
+    ((answer ≡ s.Clean) × GotWrites (Write.ToOut text ∷ []) old new × IsSteady old new)
+    ⊎ ((answer ≡ s.WriteFault) × Breaks old new [] (Write.ToOut text))
 HasTold (Err m) answer old new = Says s.Memory no_memory_text answer old new

@@ -1,7 +1,7 @@
 //! How a call that runs no file ends: a line on the second sink, and the status.
 
 ghost use Rattle.std.specs.Prelude.{◌≡◌, IfOk};
-ghost use Rattle.golf_command.specs.Ends.{EndsWith, Refuses, refusal_line, refusal_status as status_of_refusal};
+ghost use Rattle.golf_command.specs.Ends.{EndsWith, Refuses, refusal_line, refusal_status as refusal_status_of};
 
 use golf_base::{List, Memory, Sink, write_all};
 use golf_reader::Refusal;
@@ -31,7 +31,7 @@ fn refusal_text(alloc: Global, refusal: Refusal) -> Result<List<u8>, Memory>
 }
 
 fn refusal_status(refusal: Refusal) -> Status
-    ensures { result ≡ status_of_refusal refusal }
+    ensures { result ≡ refusal_status_of refusal }
 {
     match refusal {
         Refusal::Lexical { .. } | Refusal::Syntax { .. } | Refusal::Untyped { .. } => {

@@ -3,9 +3,9 @@
 ghost use Rattle.std.specs.Prelude.{◌≡◌, ◌≤◌, IfOk};
 ghost use Rattle.golf_data.specs.Places.{HasPlaces};
 ghost use Rattle.golf_run_schedules.specs.Options.{IsWithinLimits};
-ghost use Rattle.golf_command_sample.specs.File.{file as file_of, most_parts, summary as summary_bytes};
+ghost use Rattle.golf_command_sample.specs.File.{file as file_of, most_parts, summary as summary_of};
 ghost use Rattle.golf_run.specs.HasRun.{sinks};
-ghost use Rattle.golf_command.specs.Generating.{generated_options as options_of_generated, summary_of};
+ghost use Rattle.golf_command.specs.Generating.{generated_options as generated_options_of, summed_up};
 ghost use Rattle.golf_command.specs.Ways.{Way};
 ghost use Rattle.golf_command.specs.Written.{AreTextsOf};
 ghost use Rattle.golf_command.specs.Means.{FileTells};
@@ -25,7 +25,7 @@ use std::thread::Threads;
 
 // In rotation, by four markers, with recovery.
 fn generated_options() -> RunOptions
-    ensures options { result ≡ options_of_generated }
+    ensures options { result ≡ generated_options_of }
     ensures limits { IsWithinLimits result }
 {
     RunOptions {
@@ -41,7 +41,7 @@ fn generated_options() -> RunOptions
 // The line that sums the run of a file of so many parts up.
 fn summary(alloc: Global, parts: u32, totals: Totals) -> Result<List<u8>, Memory>
     requires { parts ≤ most_parts }
-    ensures { IfOk result (λ text. text ≡ summary_bytes (summary_of parts totals)) }
+    ensures { IfOk result (λ text. text ≡ summary_of (summed_up parts totals)) }
 {
     file_lines();
     let lines = 20 + 9 * parts;

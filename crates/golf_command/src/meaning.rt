@@ -3,8 +3,8 @@
 ghost use Rattle.std.specs.Prelude.{◌≡◌, IfOk};
 ghost use Rattle.golf_check_types.specs.Files.{facts_in};
 ghost use Rattle.golf_check.specs.Heads.{scope_of};
-ghost use Rattle.golf_meaning_functions.specs.Files.{function_count as count_of};
-ghost use Rattle.golf_run_texts.specs.Texts.{meaning_line as meaning_bytes};
+ghost use Rattle.golf_meaning_functions.specs.Files.{function_count as function_count_of};
+ghost use Rattle.golf_run_texts.specs.Texts.{meaning_line as meaning_line_of};
 ghost use Rattle.golf_run.specs.HasRun.{sinks};
 ghost use Rattle.golf_command.specs.Means.{seen, LineTells};
 ghost use Rattle.golf_command_words.specs.declared.line.CommandLine.{CommandLine};
@@ -22,7 +22,7 @@ use std::alloc::Global;
 fn agreement(alloc: Global, checked: &Checked) -> Result<List<u8>, Memory>
     requires scope { checked.now.scope ≡ scope_of checked.now.file }
     requires facts { checked.now.facts ≡ facts_in checked.now.file }
-    ensures { IfOk result (λ text. text ≡ meaning_bytes (count_of checked.now.file.declarations)) }
+    ensures { IfOk result (λ text. text ≡ meaning_line_of (function_count_of checked.now.file.declarations)) }
 {
     let code = generate(alloc, checked)?;
     let same = check_all(alloc, checked, &code)?;

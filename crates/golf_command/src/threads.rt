@@ -2,7 +2,8 @@
 
 ghost use Rattle.std.specs.Prelude.{◌≡◌, ◌≤◌, ◌++◌, IfOk, length, map};
 ghost use Rattle.golf_data.specs.Places.{HasPlaces};
-ghost use Rattle.golf_run_texts.specs.Texts.{history_line as history_bytes, last_line as last_bytes, reports_text as reports_bytes};
+ghost use Rattle.golf_run_texts.specs.Texts.{history_line as history_line_of, last_line as last_line_of};
+ghost use Rattle.golf_run_texts.specs.Texts.{reports_text as reports_text_of};
 ghost use Rattle.golf_run.specs.HasRun.{sinks};
 ghost use Rattle.golf_command.specs.Means.{seen, LineTells};
 ghost use Rattle.golf_command.specs.Written.{AreTextsByThreads};
@@ -51,7 +52,7 @@ fn errors(
 ) -> Result<List<u8>, Memory>
     requires { length history.now.entries ≤ most_entries }
     ensures { IfOk result (λ text. text ≡
-        (reports_bytes history.now.reports ++ last_bytes texts.now (length history.now.entries) ending) ++ history_bytes (map (λ e. e.number) history.now.entries)) }
+        (reports_text_of history.now.reports ++ last_line_of texts.now (length history.now.entries) ending) ++ history_line_of (map (λ e. e.number) history.now.entries)) }
 {
     let mut text = reports_text(alloc, history.reports.as_slice())?;
     let last = last_line(alloc, texts, history.entries.len() as u32, ending)?;

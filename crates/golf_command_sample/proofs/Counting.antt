@@ -1,7 +1,8 @@
 -- The newlines of the generated file.
 -- For: `HasLines` (golf_command_sample/specs/Lines.antt) and `file_lines` (src/file.rt)
 -- By: induction over the number of parts or calls
-use Rattle.std.proofs.Common.{◌≡◌, ℕ, zero, suc, ◌+◌, ◌*◌, ◌<◌, ◌%◌, ◌^◌, ◌==◌, Bool, cond, true, false, refl, ◌∙◌, List, [], ◌∷◌, ◌++◌, codes, decimal, arith}
+use Rattle.std.proofs.Common.{◌≡◌, ℕ, zero, suc, ◌+◌, ◌*◌, ◌<◌, ◌%◌, ◌^◌, ◌==◌, Bool, cond, true, false, refl, ◌∙◌}
+use Rattle.std.proofs.Common.{List, [], ◌∷◌, ◌++◌, codes, decimal, arith}
 use Rattle.std.proofs.lemmas.Fmt.{decimal_by_steps}
 use Rattle.std.proofs.lemmas.List.Sums.{sum_by-append}
 use Rattle.golf_command_sample.specs.File.{head, part, part_body, parts, call, calls, tail, file}

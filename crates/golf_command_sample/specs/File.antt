@@ -7,12 +7,17 @@ abbrev pub most_parts : ℕ
 most_parts = 5000
 
 abbrev pub head : List ℕ
-head = codes "package main\n\nimport \"runtime\"\n\ntype Node struct {\n\tc chan int\n\tnext *Node\n}\n\nvar root *Node\n\nfunc wait(c chan int) {\n\t<-c\n}\n\n"
+head =
+    codes
+    "package main\n\nimport \"runtime\"\n\ntype Node struct {\n\tc chan int\n\tnext *Node\n}\n\nvar root *Node\n\nfunc wait(c chan int) {\n\t<-c\n}\n\n"
 
 abbrev pub part_body : List ℕ
-part_body = codes "(n int) {\n\tc := make(chan int)\n\tgo wait(c)\n\tif n%2 == 0 {\n\t\troot = &Node{c: c, next: root}\n\t}\n}\n\n"
+part_body =
+    codes
+    "(n int) {\n\tc := make(chan int)\n\tgo wait(c)\n\tif n%2 == 0 {\n\t\troot = &Node{c: c, next: root}\n\t}\n}\n\n"
 
--- the k-th part leaves a waiter; nothing else holds the channel of an odd one, and the list at `root` that of an even one
+-- the k-th part leaves a waiter; nothing else holds the channel of an odd one, and the list at `root` that of an even
+-- one
 abbrev pub part : ℕ → List ℕ
 part k = codes "func part" ++ (decimal k ++ part_body)
 
@@ -39,11 +44,14 @@ file n = head ++ (parts n ++ (codes "func main() {\n" ++ (calls n ++ tail n)))
 -- the line that sums a run of the file up: its parts and lines, and the numbers of its collections and reports
 abbrev pub summary_front : ℕ → ℕ → ℕ → ℕ → List ℕ
 summary_front n lines collections reported =
-    codes "generated " ++ (decimal n ++ (codes ": lines " ++ (decimal lines ++ (codes ", collections " ++ (decimal collections ++ (codes ", reported " ++ decimal reported))))))
+    codes "generated " ++ (decimal n ++ (codes ": lines "
+    ++ (decimal lines ++ (codes ", collections "
+    ++ (decimal collections ++ (codes ", reported " ++ decimal reported))))))
 
 abbrev pub summary_back : ℕ → ℕ → ℕ → List ℕ
 summary_back kept reclaimed objects =
-    codes ", kept " ++ (decimal kept ++ (codes ", reclaimed " ++ (decimal reclaimed ++ (codes ", objects " ++ (decimal objects ++ codes "\n")))))
+    codes ", kept " ++ (decimal kept ++ (codes ", reclaimed "
+    ++ (decimal reclaimed ++ (codes ", objects " ++ (decimal objects ++ codes "\n")))))
 
 abbrev pub summary : Summary → List ℕ
 summary s = summary_front s.parts s.lines s.collections s.reported ++ summary_back s.kept s.reclaimed s.objects

@@ -9,4 +9,11 @@ use Rattle.golf_command_sample_accepted.proofs.Heads.{tree-reads}
 use Rattle.golf_command_sample_accepted.proofs.Typing.{tree-typed}
 
 pub accepted : AlwaysAccepted
-accepted n some fits = (tree n, record { short = short n fits; reads = tree-reads n some (omega arith); typed = tree-typed n (omega arith) })
+accepted n some fits = (
+  tree n,
+  record {
+    short = short n fits;
+    reads = tree-reads n some (omega arith);
+    typed = tree-typed n (omega arith);
+  },
+)

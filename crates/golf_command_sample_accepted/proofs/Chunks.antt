@@ -1,7 +1,8 @@
 -- How bytes are scanned that stand before others.
 -- For: `scan` (golf_lex/specs/Scanning.antt) and `Lexes` (golf_lex_tokens/specs/Lexes.antt)
 -- By: induction over the list of digits; otherwise computing with the automaton
-use Rattle.std.proofs.Common.{◌≡◌, ℕ, ◌≤◌, Bool, true, false, ◌||◌, List, [], ◌∷◌, ◌++◌, refl, sym, ap, ◌∙◌, append_assoc, append-nil, arith}
+use Rattle.std.proofs.Common.{◌≡◌, ℕ, ◌≤◌, Bool, true, false, ◌||◌, List, [], ◌∷◌, ◌++◌, refl, sym, ap, ◌∙◌}
+use Rattle.std.proofs.Common.{append_assoc, append-nil, arith}
 use Rattle.std.proofs.lemmas.Bool.{and_parts}
 use Rattle.std.proofs.lemmas.Bool.Decides.{nat_tests}
 use Rattle.std.specs.Prelude.{Option, Some, None, option_and_then, nat_eq}
@@ -33,7 +34,8 @@ abbrev pub in_integer : List ℕ → List ℕ → Option (List Lexeme)
 in_integer bytes rest = in_state 49 bytes rest
 
 -- digits after digits
-pub scan-digits : (bytes ds rest : List ℕ) → list_all is_digit ds ≡ true → in_integer bytes (ds ++ rest) ≡ in_integer (bytes ++ ds) rest
+pub scan-digits : (bytes ds rest : List ℕ) → list_all is_digit ds ≡ true
+    → in_integer bytes (ds ++ rest) ≡ in_integer (bytes ++ ds) rest
 scan-digits bytes [] rest h = ap (λ xs. in_integer xs rest) (sym (append-nil bytes))
 scan-digits bytes (d ∷ ds) rest h =
     let p = and_parts (is_digit d) (list_all is_digit ds) h in
@@ -44,7 +46,8 @@ or-true true b h = refl
 or-true false b h = h
 
 -- digits in a word
-pub scan-word : (bytes ds rest : List ℕ) → list_all is_digit ds ≡ true → in_word bytes (ds ++ rest) ≡ in_word (bytes ++ ds) rest
+pub scan-word : (bytes ds rest : List ℕ) → list_all is_digit ds ≡ true
+    → in_word bytes (ds ++ rest) ≡ in_word (bytes ++ ds) rest
 scan-word bytes [] rest h = ap (λ xs. in_word xs rest) (sym (append-nil bytes))
 scan-word bytes (d ∷ ds) rest h =
     let p = and_parts (is_digit d) (list_all is_digit ds) h in
@@ -58,7 +61,9 @@ twice : (o : Option (List Lexeme)) → behind (newline ∷ []) o ≡ behind (new
 twice None = refl
 twice (Some ps) = refl
 
-begins : {S : Type 0} (f : S → Option (List Lexeme)) (o : Option S) → option_and_then (λ next. behind (newline ∷ []) (f next)) o ≡ behind (newline ∷ []) (option_and_then (λ next. behind [] (f next)) o)
+begins : {S : Type 0} (f : S → Option (List Lexeme)) (o : Option S)
+    → option_and_then (λ next. behind (newline ∷ []) (f next)) o ≡ behind (newline ∷ [])
+    (option_and_then (λ next. behind [] (f next)) o)
 begins f None = refl
 begins f (Some next) = twice (f next)
 
@@ -88,14 +93,18 @@ paren = record { class = Of (Punctuation punctuations.OpenParen); bytes = 40 ∷
 abbrev pub space : Lexeme
 space = record { class = Blank; bytes = 32 ∷ [] }
 
-pub scan-in-paren : (d : ℕ) (ds rest : List ℕ) → 49 ≤ d → d ≤ 57 → list_all is_digit ds ≡ true → in_paren (d ∷ (ds ++ rest)) ≡ behind (paren ∷ []) (in_integer (d ∷ ds) rest)
+pub scan-in-paren : (d : ℕ) (ds rest : List ℕ) → 49 ≤ d → d ≤ 57 → list_all is_digit ds ≡ true
+    → in_paren (d ∷ (ds ++ rest)) ≡ behind (paren ∷ []) (in_integer (d ∷ ds) rest)
 scan-in-paren d ds rest least most h =
-    ap (λ o. option_and_then (λ next. behind (paren ∷ []) (scan next (d ∷ []) (ds ++ rest))) o) (begun-digit d least most)
+    ap (λ o. option_and_then (λ next. behind (paren ∷ []) (scan next (d ∷ []) (ds ++ rest))) o)
+    (begun-digit d least most)
     ∙ ap (behind (paren ∷ [])) (scan-digits (d ∷ []) ds rest h)
 
-pub scan-in-space : (d : ℕ) (ds rest : List ℕ) → 49 ≤ d → d ≤ 57 → list_all is_digit ds ≡ true → in_space (d ∷ (ds ++ rest)) ≡ behind (space ∷ []) (in_integer (d ∷ ds) rest)
+pub scan-in-space : (d : ℕ) (ds rest : List ℕ) → 49 ≤ d → d ≤ 57 → list_all is_digit ds ≡ true
+    → in_space (d ∷ (ds ++ rest)) ≡ behind (space ∷ []) (in_integer (d ∷ ds) rest)
 scan-in-space d ds rest least most h =
-    ap (λ o. option_and_then (λ next. behind (space ∷ []) (scan next (d ∷ []) (ds ++ rest))) o) (begun-digit d least most)
+    ap (λ o. option_and_then (λ next. behind (space ∷ []) (scan next (d ∷ []) (ds ++ rest))) o)
+    (begun-digit d least most)
     ∙ ap (behind (space ∷ [])) (scan-digits (d ∷ []) ds rest h)
 
 pub scanned-lexes : (bytes : List ℕ) (ps : List Lexeme) → scanned bytes ≡ Some ps → Lexes bytes (tokens_of ps)

@@ -1,7 +1,8 @@
 -- How long a generated file is.
 -- For: `file` (golf_command_sample/specs/File.antt)
 -- By: induction over the number of parts or calls
-use Rattle.std.proofs.Common.{◌≡◌, ℕ, zero, suc, ◌*◌, ◌≤◌, refl, List, ◌++◌, length, length-append, codes, decimal, arith, lit<}
+use Rattle.std.proofs.Common.{◌≡◌, ℕ, zero, suc, ◌*◌, ◌≤◌, refl, List, ◌++◌, length, length-append, codes, decimal}
+use Rattle.std.proofs.Common.{arith, lit<}
 use Rattle.std.proofs.lemmas.Fmt.{length-decimal-le}
 use Rattle.golf_command_sample.specs.File.{head, most_parts, part, part_body, parts, call, calls, tail, file}
 
@@ -12,11 +13,23 @@ part-length : (k : ℕ) → k ≤ most_parts → length (part k) ≤ 110
 part-length k fits =
     let front : length (codes "func part") ≡ 9 = refl in
     let body : length part_body ≡ 97 = refl in
-    omega (arith, front, body, number-length k fits, length-append (codes "func part") (decimal k ++ part_body), length-append (decimal k) part_body)
+    omega (
+      arith,
+      front,
+      body,
+      number-length k fits,
+      length-append (codes "func part") (decimal k ++ part_body),
+      length-append (decimal k) part_body,
+    )
 
 parts-length : (n : ℕ) → n ≤ most_parts → length (parts n) ≤ 110 * n
 parts-length zero fits = omega arith
-parts-length (suc n) fits = omega (arith, length-append (parts n) (part (suc n)), parts-length n (omega arith), part-length (suc n) fits)
+parts-length (suc n) fits = omega (
+  arith,
+  length-append (parts n) (part (suc n)),
+  parts-length n (omega arith),
+  part-length (suc n) fits,
+)
 
 call-length : (k : ℕ) → k ≤ most_parts → length (call k) ≤ 17
 call-length k fits =
@@ -37,7 +50,12 @@ call-length k fits =
 
 calls-length : (n : ℕ) → n ≤ most_parts → length (calls n) ≤ 17 * n
 calls-length zero fits = omega arith
-calls-length (suc n) fits = omega (arith, length-append (calls n) (call (suc n)), calls-length n (omega arith), call-length (suc n) fits)
+calls-length (suc n) fits = omega (
+  arith,
+  length-append (calls n) (call (suc n)),
+  calls-length n (omega arith),
+  call-length (suc n) fits,
+)
 
 abbrev tail_end : List ℕ
 tail_end = codes "; i++ {\n\t}\n\truntime.GC()\n}\n"
@@ -46,7 +64,14 @@ tail-length : (n : ℕ) → n ≤ most_parts → length (tail n) ≤ 60
 tail-length n fits =
     let front : length (codes "\tfor i := 0; i < ") ≡ 17 = refl in
     let end : length tail_end ≡ 27 = refl in
-    omega (arith, front, end, number-length n fits, length-append (codes "\tfor i := 0; i < ") (decimal n ++ tail_end), length-append (decimal n) tail_end)
+    omega (
+      arith,
+      front,
+      end,
+      number-length n fits,
+      length-append (codes "\tfor i := 0; i < ") (decimal n ++ tail_end),
+      length-append (decimal n) tail_end,
+    )
 
 pub short : (n : ℕ) → n ≤ most_parts → length (file n) ≤ 1048576
 unfolding file

@@ -18,9 +18,11 @@ found (Some ps) = ps
 abbrev pub part_lexemes : ℕ → List Lexeme → List Lexeme
 part_lexemes k ps = found (scanned (codes "func ")) ++ (found (in_word (part_name k) part_body) ++ ps)
 
-pub scan-part : (k : ℕ) (rest : List ℕ) (ps : List Lexeme) → 1 ≤ k → k < 2 ^ 64 → scanned rest ≡ Some ps → scanned (part k ++ rest) ≡ Some (part_lexemes k ps)
+pub scan-part : (k : ℕ) (rest : List ℕ) (ps : List Lexeme) → 1 ≤ k → k < 2 ^ 64 → scanned rest ≡ Some ps
+    → scanned (part k ++ rest) ≡ Some (part_lexemes k ps)
 scan-part k rest ps some fits e =
     let ds = all-digits (decimal k) (number k some fits) in
     ap (λ xs. scanned (codes "func part" ++ xs)) (append_assoc (decimal k) part_body rest)
-    ∙ ap (λ o. behind [] (behind (found (scanned (codes "func"))) (behind (space ∷ []) o))) (scan-word (codes "part") (decimal k) (part_body ++ rest) ds)
+    ∙ ap (λ o. behind [] (behind (found (scanned (codes "func"))) (behind (space ∷ []) o)))
+    (scan-word (codes "part") (decimal k) (part_body ++ rest) ds)
     ∙ rw (scan-behind rest, e) refl

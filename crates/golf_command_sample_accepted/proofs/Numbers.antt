@@ -1,7 +1,8 @@
 -- What the digits of a number are.
 -- For: `is_digit`, `newlines` (golf_lex_tokens/specs/Bytes.antt)
 -- By: induction over the digits of the number
-use Rattle.std.proofs.Common.{◌≡◌, ℕ, ◌+◌, ◌<◌, ◌≤◌, ◌%◌, ◌^◌, true, false, ◌&&◌, refl, sym, ap, subst, ◌∙◌, List, [], ◌∷◌, ◌++◌, decimal, arith}
+use Rattle.std.proofs.Common.{◌≡◌, ℕ, ◌+◌, ◌<◌, ◌≤◌, ◌%◌, ◌^◌, true, false, ◌&&◌, refl, sym, ap, subst, ◌∙◌, List, []}
+use Rattle.std.proofs.Common.{◌∷◌, ◌++◌, decimal, arith}
 use Rattle.std.proofs.lemmas.Bool.{and_parts}
 use Rattle.std.specs.Prelude.{nat_eq}
 use Rattle.std.specs.List.{list_all}
@@ -24,9 +25,11 @@ digit n h = grind (arith, nat_tests)
 one_digit : (n : ℕ) → n < 10 → list_all is_digit ((48 + n) ∷ []) ≡ true
 one_digit n h = ap (λ t. t && true) (digit n h)
 
-pub all-append : (ds es : List ℕ) → list_all is_digit ds ≡ true → list_all is_digit es ≡ true → list_all is_digit (ds ++ es) ≡ true
+pub all-append : (ds es : List ℕ) → list_all is_digit ds ≡ true → list_all is_digit es ≡ true
+    → list_all is_digit (ds ++ es) ≡ true
 all-append [] es h g = g
-all-append (d ∷ ds) es h g = let p = and_parts (is_digit d) (list_all is_digit ds) h in ap (λ t. t && list_all is_digit (ds ++ es)) p.0 ∙ all-append ds es p.1 g
+all-append (d ∷ ds) es h g = let p = and_parts (is_digit d) (list_all is_digit ds) h in ap
+    (λ t. t && list_all is_digit (ds ++ es)) p.0 ∙ all-append ds es p.1 g
 
 number-more : (m n : ℕ) (ds : List ℕ) → IsNumber ds → m < 10 → IsNumber (ds ++ (48 + m) ∷ [])
 number-more m n ds i small = record {
@@ -40,11 +43,20 @@ number-more m n ds i small = record {
 
 pub number : (n : ℕ) → 1 ≤ n → n < 2 ^ 64 → IsNumber (decimal n)
 number n some fits = decimal_by_steps (λ m ds. 1 ≤ m → IsNumber ds)
-    (λ m small pos. record { first = 48 + m; rest = []; are = refl; least = omega arith; most = omega arith; digits = refl })
+    (λ m small pos. record {
+      first = 48 + m;
+      rest = [];
+      are = refl;
+      least = omega arith;
+      most = omega arith;
+      digits = refl;
+    })
     (λ m ds large front pos. number-more (m % 10) m ds (front (omega arith)) (omega arith)) n fits some
 
 pub all-digits : (ds : List ℕ) → IsNumber ds → list_all is_digit ds ≡ true
-all-digits ds i = subst (λ xs. list_all is_digit xs ≡ true) (sym i.are) (ap (λ t. t && list_all is_digit i.rest) (let e : is_digit i.first ≡ true = (let a = i.least in let b = i.most in grind (arith, nat_tests)) in e) ∙ i.digits)
+all-digits ds i = subst (λ xs. list_all is_digit xs ≡ true) (sym i.are)
+    (ap (λ t. t && list_all is_digit i.rest)
+    (let e : is_digit i.first ≡ true = (let a = i.least in let b = i.most in grind (arith, nat_tests)) in e) ∙ i.digits)
 
 -- digits are no newlines
 digit-newline : (d : ℕ) → is_digit d ≡ true → nat_eq d 10 ≡ false

@@ -30,32 +30,67 @@ abbrev pub m : Punctuation → TokenKind
 m x = kinds.Punctuation x
 
 abbrev pub first_kinds : ℕ → List TokenKind
-first_kinds k = kinds.Keyword keywords.Func ∷ kinds.Name (part_name k) ∷ m punctuations.OpenParen ∷ kinds.Name (codes "n") ∷ kinds.Name (codes "int") ∷ m punctuations.CloseParen ∷ m punctuations.OpenBrace ∷ []
+first_kinds k = kinds.Keyword keywords.Func ∷ kinds.Name (part_name k) ∷ m punctuations.OpenParen
+    ∷ kinds.Name (codes "n") ∷ kinds.Name (codes "int") ∷ m punctuations.CloseParen ∷ m punctuations.OpenBrace ∷ []
 
 abbrev pub make_kinds : List TokenKind
-make_kinds = kinds.Name (codes "c") ∷ m punctuations.Define ∷ kinds.Name (codes "make") ∷ m punctuations.OpenParen ∷ kinds.Keyword keywords.Chan ∷ kinds.Name (codes "int") ∷ m punctuations.CloseParen ∷ m punctuations.Semicolon ∷ []
+make_kinds = kinds.Name (codes "c") ∷ m punctuations.Define ∷ kinds.Name (codes "make") ∷ m punctuations.OpenParen
+    ∷ kinds.Keyword keywords.Chan ∷ kinds.Name (codes "int") ∷ m punctuations.CloseParen ∷ m punctuations.Semicolon ∷ []
 
 abbrev pub go_kinds : List TokenKind
-go_kinds = kinds.Keyword keywords.Go ∷ kinds.Name (codes "wait") ∷ m punctuations.OpenParen ∷ kinds.Name (codes "c") ∷ m punctuations.CloseParen ∷ m punctuations.Semicolon ∷ []
+go_kinds = kinds.Keyword keywords.Go ∷ kinds.Name (codes "wait") ∷ m punctuations.OpenParen ∷ kinds.Name (codes "c")
+    ∷ m punctuations.CloseParen ∷ m punctuations.Semicolon ∷ []
 
 abbrev pub if_kinds : List TokenKind
-if_kinds = kinds.Keyword keywords.If ∷ kinds.Name (codes "n") ∷ m punctuations.Percent ∷ kinds.Integer (codes "2") ∷ m punctuations.Equal ∷ kinds.Integer (codes "0") ∷ m punctuations.OpenBrace ∷ []
+if_kinds = kinds.Keyword keywords.If ∷ kinds.Name (codes "n") ∷ m punctuations.Percent ∷ kinds.Integer (codes "2")
+    ∷ m punctuations.Equal ∷ kinds.Integer (codes "0") ∷ m punctuations.OpenBrace ∷ []
 
 abbrev pub keep_kinds : List TokenKind
 keep_kinds =
-    kinds.Name (codes "root") ∷ m punctuations.Assign ∷ m punctuations.Ampersand ∷ kinds.Name (codes "Node") ∷ m punctuations.OpenBrace
-    ∷ kinds.Name (codes "c") ∷ m punctuations.Colon ∷ kinds.Name (codes "c") ∷ m punctuations.Comma ∷ kinds.Name (codes "next") ∷ m punctuations.Colon ∷ kinds.Name (codes "root") ∷ m punctuations.CloseBrace ∷ []
+    kinds.Name (codes "root") ∷ m punctuations.Assign ∷ m punctuations.Ampersand ∷ kinds.Name (codes "Node")
+    ∷ m punctuations.OpenBrace
+    ∷ kinds.Name (codes "c") ∷ m punctuations.Colon ∷ kinds.Name (codes "c") ∷ m punctuations.Comma
+    ∷ kinds.Name (codes "next") ∷ m punctuations.Colon ∷ kinds.Name (codes "root") ∷ m punctuations.CloseBrace ∷ []
 
 abbrev pub part_words : ℕ → ℕ → List Word → List Word
 part_words k l ws =
-    line_words l (first_kinds k) ++ (line_words (l + 1) make_kinds ++ (line_words (l + 1 + 1) go_kinds ++ (line_words (l + 1 + 1 + 1) if_kinds
-    ++ (line_words (l + 1 + 1 + 1 + 1) keep_kinds ++ punctuation punctuations.CloseBrace ∷ punctuation punctuations.CloseBrace ∷ punctuation punctuations.Semicolon ∷ ws))))
+    line_words l (first_kinds k) ++ (line_words (l + 1) make_kinds
+    ++ (line_words (l + 1 + 1) go_kinds ++ (line_words (l + 1 + 1 + 1) if_kinds
+    ++ (line_words (l + 1 + 1 + 1 + 1) keep_kinds ++ punctuation punctuations.CloseBrace
+    ∷ punctuation punctuations.CloseBrace ∷ punctuation punctuations.Semicolon ∷ ws))))
 
-pub ruleset prints = (type_shape.print-Named, type_shape.print-Chan, shape.print-Integer, shape.print-Name, shape.print-StructLiteral, shape.print-Make, shape.print-Call, shape.print-Binary, shape.print-element, stmt_shape.print-Simple, stmt_shape.print-Go, stmt_shape.print-If)
+pub ruleset prints = (
+  type_shape.print-Named,
+  type_shape.print-Chan,
+  shape.print-Integer,
+  shape.print-Name,
+  shape.print-StructLiteral,
+  shape.print-Make,
+  shape.print-Call,
+  shape.print-Binary,
+  shape.print-element,
+  stmt_shape.print-Simple,
+  stmt_shape.print-Go,
+  stmt_shape.print-If,
+)
 
-pub ruleset forms = (type_shape.form-Named, type_shape.form-Chan, shape.form-Integer, shape.form-Name, shape.form-StructLiteral, shape.form-Make, shape.form-Call, shape.form-Binary, shape.form-element, stmt_shape.form-Simple, stmt_shape.form-Go, stmt_shape.form-If)
+pub ruleset forms = (
+  type_shape.form-Named,
+  type_shape.form-Chan,
+  shape.form-Integer,
+  shape.form-Name,
+  shape.form-StructLiteral,
+  shape.form-Make,
+  shape.form-Call,
+  shape.form-Binary,
+  shape.form-element,
+  stmt_shape.form-Simple,
+  stmt_shape.form-Go,
+  stmt_shape.form-If,
+)
 
-pub part-prints : (k l : ℕ) (ds : List Decl) → closed (map print_decl (part_decl k l ∷ ds)) ≡ part_words k l (closed (map print_decl ds))
+pub part-prints : (k l : ℕ) (ds : List Decl)
+    → closed (map print_decl (part_decl k l ∷ ds)) ≡ part_words k l (closed (map print_decl ds))
 part-prints k l ds = simp prints
 
 field-good : (n : List ℕ) → field_good (int_field n) ≡ true
@@ -65,4 +100,5 @@ body-good : (k l : ℕ) → stmts_good (map stmt_form (part_func k l).body) ≡ 
 body-good k l = simp forms
 
 pub part-good : (k l : ℕ) → decl_good (part_decl k l) ≡ true
-part-good k l = ap (λ t. (t && true) && (true && stmts_good (map stmt_form (part_func k l).body))) (field-good (codes "n")) ∙ body-good k l
+part-good k l = ap (λ t. (t && true) && (true && stmts_good (map stmt_form (part_func k l).body)))
+    (field-good (codes "n")) ∙ body-good k l

@@ -1,7 +1,8 @@
 -- The tree breaks no rule.
 -- For: `tree` (golf_command_sample_accepted/specs/Trees.antt)
 -- By: induction over the number of parts
-use Rattle.std.proofs.Common.{◌≡◌, ℕ, zero, suc, ◌+◌, ◌<◌, ◌≤◌, ◌^◌, ◌==◌, true, false, ◌&&◌, refl, ap, ◌∙◌, List, [], ◌∷◌, ◌++◌, codes, arith}
+use Rattle.std.proofs.Common.{◌≡◌, ℕ, zero, suc, ◌+◌, ◌<◌, ◌≤◌, ◌^◌, ◌==◌, true, false, ◌&&◌, refl, ap, ◌∙◌, List, []}
+use Rattle.std.proofs.Common.{◌∷◌, ◌++◌, codes, arith}
 use Rattle.std.specs.Prelude.{Option, None, flat_map}
 use Rattle.std.proofs.lemmas.Bool.Decides.{nat_tests}
 use Rattle.golf_syntax_trees.specs.declared.types.TypeExpr.TheVariants as ty
@@ -21,13 +22,19 @@ use Rattle.golf_check_types.specs.Faults.{Fault, broken}
 use Rattle.golf_check_types.specs.Names.{is_number}
 use Rattle.golf_check_types.specs.Scopes.{meaning, type_name, value_name, call_name, package_name, is_reserved}
 use Rattle.golf_check_types.specs.Written.{Write, write, write_step, named_base}
-use Rattle.golf_check_types.specs.Files.{naming_of, methods_added, Above, next_above, none_above, may_be_named, names_faults, type_faults, main_faults, is_main, outside, bare_file, with_types, with_forms, file_scope, struct_types, global_types, function_types, walk_faults, package_of, decl_faults, Broken, Typed}
+use Rattle.golf_check_types.specs.Files.{naming_of, methods_added, Above, next_above, none_above, may_be_named}
+use Rattle.golf_check_types.specs.Files.{names_faults, type_faults, main_faults, is_main, outside, bare_file}
+use Rattle.golf_check_types.specs.Files.{with_types, with_forms, file_scope, struct_types, global_types, function_types}
+use Rattle.golf_check_types.specs.Files.{walk_faults, package_of, decl_faults, Broken, Typed}
 use Rattle.golf_check_types.proofs.Seams.{none_of_both}
 use Rattle.golf_code_of.proofs.TypeWrites as w
-use Rattle.golf_command_sample_accepted.specs.Trees.{part_name, part_decl, part_line, parts_before, main_decl, node_decl, root_decl, wait_func, later, tree}
-use Rattle.golf_command_sample_accepted.proofs.Tables.{place, all_entries, all_meant, skip-word, found-part, naming-parts, add-main}
+use Rattle.golf_command_sample_accepted.specs.Trees.{part_name, part_decl, part_line, parts_before, main_decl}
+use Rattle.golf_command_sample_accepted.specs.Trees.{node_decl, root_decl, wait_func, later, tree}
+use Rattle.golf_command_sample_accepted.proofs.Tables.{place, all_entries, all_meant, skip-word, found-part}
+use Rattle.golf_command_sample_accepted.proofs.Tables.{naming-parts, add-main}
 use Rattle.golf_command_sample_accepted.proofs.Judging.{int_written, part-keeps}
-use Rattle.golf_command_sample_accepted.proofs.Mainly.{int_signature, main_signature, signatures, scope, main-keeps, wait-keeps}
+use Rattle.golf_command_sample_accepted.proofs.Mainly.{int_signature, main_signature, signatures, scope, main-keeps}
+use Rattle.golf_command_sample_accepted.proofs.Mainly.{wait-keeps}
 
 abbrev decls : ℕ → List Decl
 decls n = node_decl ∷ root_decl ∷ d.Func wait_func ∷ later n
@@ -38,10 +45,22 @@ imported = record { fmt = false; runtime = true; sync = false }
 -- Names.
 
 abbrev node_members : List Members
-node_members = record { names = (codes "c", 0) ∷ (codes "next", 1) ∷ []; kinds = member_as.Field 0 ∷ member_as.Field 1 ∷ [] } ∷ []
+node_members = record {
+  names = (codes "c", 0) ∷ (codes "next", 1) ∷ [];
+  kinds = member_as.Field 0 ∷ member_as.Field 1
+      ∷ [];
+} ∷ []
 
 abbrev bare_by : Naming → List Members → FileScope
-bare_by k structs = record { imports = imported; names = k.names; entities = k.entities; structs = structs; fields = []; globals = []; functions = [] }
+bare_by k structs = record {
+  imports = imported;
+  names = k.names;
+  entities = k.entities;
+  structs = structs;
+  fields = [];
+  globals = [];
+  functions = [];
+}
 
 abbrev whole_naming : ℕ → Naming
 whole_naming n = record {
@@ -56,9 +75,11 @@ whole_naming n = record {
 naming-all : (n : ℕ) → n < 2 ^ 32 → naming_of (decls n) ≡ whole_naming n
 naming-all n small = naming-parts n (main_decl n (part_line n) ∷ []) (omega arith) ∙ add-main n n (part_line n)
 
-methods-parts : (k : Naming) (structs : List Members) (n f : ℕ) (ds : List Decl) → ((g : ℕ) → methods_added k g structs ds ≡ structs) → methods_added k f structs (parts_before n ds) ≡ structs
+methods-parts : (k : Naming) (structs : List Members) (n f : ℕ) (ds : List Decl)
+    → ((g : ℕ) → methods_added k g structs ds ≡ structs) → methods_added k f structs (parts_before n ds) ≡ structs
 methods-parts k structs zero f ds h = h f
-methods-parts k structs (suc n) f ds h = methods-parts k structs n f (part_decl (suc n) (part_line n) ∷ ds) (λ g. h (g + 1))
+methods-parts k structs (suc n) f ds h =
+    methods-parts k structs n f (part_decl (suc n) (part_line n) ∷ ds) (λ g. h (g + 1))
 
 abbrev bare : ℕ → FileScope
 bare n = bare_by (whole_naming n) node_members
@@ -66,17 +87,22 @@ bare n = bare_by (whole_naming n) node_members
 bare-is : (n : ℕ) → n < 2 ^ 32 → bare_file imported (decls n) ≡ bare n
 bare-is n small =
     ap (λ k. bare_by k (methods_added k 0 k.structs (decls n))) (naming-all n small)
-    ∙ ap (bare_by (whole_naming n)) (methods-parts (whole_naming n) node_members n 1 (main_decl n (part_line n) ∷ []) (λ g. refl))
+    ∙ ap (bare_by (whole_naming n)) (methods-parts (whole_naming n) node_members n 1 (main_decl n (part_line n) ∷ [])
+    (λ g. refl))
 
 -- Types.
 
-flat-none : {B : Type 0} (g : Decl → List B) → ((k l : ℕ) → g (part_decl k l) ≡ []) → (n : ℕ) (ds : List Decl) → flat_map g (parts_before n ds) ≡ flat_map g ds
+flat-none : {B : Type 0} (g : Decl → List B) → ((k l : ℕ) → g (part_decl k l) ≡ []) → (n : ℕ) (ds : List Decl)
+    → flat_map g (parts_before n ds) ≡ flat_map g ds
 flat-none g h zero ds = refl
-flat-none g h (suc n) ds = flat-none g h n (part_decl (suc n) (part_line n) ∷ ds) ∙ ap (λ xs. xs ++ flat_map g ds) (h (suc n) (part_line n))
+flat-none g h (suc n) ds = flat-none g h n (part_decl (suc n) (part_line n) ∷ ds)
+    ∙ ap (λ xs. xs ++ flat_map g ds) (h (suc n) (part_line n))
 
-flat-signatures : (g : Decl → List Signature) → ((k l : ℕ) → g (part_decl k l) ≡ int_signature ∷ []) → (n : ℕ) (ds : List Decl) → flat_map g (parts_before n ds) ≡ signatures n (flat_map g ds)
+flat-signatures : (g : Decl → List Signature) → ((k l : ℕ) → g (part_decl k l) ≡ int_signature ∷ [])
+    → (n : ℕ) (ds : List Decl) → flat_map g (parts_before n ds) ≡ signatures n (flat_map g ds)
 flat-signatures g h zero ds = refl
-flat-signatures g h (suc n) ds = flat-signatures g h n (part_decl (suc n) (part_line n) ∷ ds) ∙ ap (λ xs. signatures n (xs ++ flat_map g ds)) (h (suc n) (part_line n))
+flat-signatures g h (suc n) ds = flat-signatures g h n (part_decl (suc n) (part_line n) ∷ ds)
+    ∙ ap (λ xs. signatures n (xs ++ flat_map g ds)) (h (suc n) (part_line n))
 
 abbrev chan_written : Write
 chan_written = write_step (TF.Chan int_written)
@@ -89,7 +115,8 @@ chan-write = w.write-Chan (ty.Named (codes "int")) ∙ ap (λ x. write_step (TF.
 
 part-signature : (n k l : ℕ) → function_types (outside (bare n)) (part_decl k l) ≡ int_signature ∷ []
 unfolding named_base
-part-signature n k l = ap (λ (x : Write). record { parameters = (x 0 (outside (bare n))).type ∷ []; result = None } ∷ []) (w.write-Named (codes "int"))
+part-signature n k l = ap (λ (x : Write). record { parameters = (x 0 (outside (bare n))).type ∷ []; result = None }
+    ∷ []) (w.write-Named (codes "int"))
 
 abbrev typed_by : ℕ → Write → Write → List (List (Option GoType)) → List (Option GoType) → List Signature → FileScope
 typed_by n x y fields globals functions =
@@ -105,11 +132,16 @@ unfolding meaning named_base
 types-are n =
     let s = outside (bare n) in
     let last = main_decl n (part_line n) ∷ [] in
-    ap (λ x. typed_by n x (write (ty.Pointer (codes "Node"))) (flat_map (struct_types s) (later n)) (flat_map (global_types s) (later n)) (flat_map (function_types s) (later n))) chan-write
-    ∙ ap (λ y. typed_by n chan_written y (flat_map (struct_types s) (later n)) (flat_map (global_types s) (later n)) (flat_map (function_types s) (later n))) (w.write-Pointer (codes "Node"))
-    ∙ ap (λ a. typed_by n chan_written node_written a (flat_map (global_types s) (later n)) (flat_map (function_types s) (later n))) (flat-none (struct_types s) (λ k l. refl) n last)
-    ∙ ap (λ a. typed_by n chan_written node_written [] a (flat_map (function_types s) (later n))) (flat-none (global_types s) (λ k l. refl) n last)
-    ∙ ap (λ a. typed_by n chan_written node_written [] [] a) (flat-signatures (function_types s) (part-signature n) n last)
+    ap (λ x. typed_by n x (write (ty.Pointer (codes "Node"))) (flat_map (struct_types s) (later n))
+    (flat_map (global_types s) (later n)) (flat_map (function_types s) (later n))) chan-write
+    ∙ ap (λ y. typed_by n chan_written y (flat_map (struct_types s) (later n)) (flat_map (global_types s) (later n))
+    (flat_map (function_types s) (later n))) (w.write-Pointer (codes "Node"))
+    ∙ ap (λ a. typed_by n chan_written node_written a (flat_map (global_types s) (later n))
+    (flat_map (function_types s) (later n))) (flat-none (struct_types s) (λ k l. refl) n last)
+    ∙ ap (λ a. typed_by n chan_written node_written [] a (flat_map (function_types s) (later n)))
+    (flat-none (global_types s) (λ k l. refl) n last)
+    ∙ ap (λ a. typed_by n chan_written node_written [] [] a)
+    (flat-signatures (function_types s) (part-signature n) n last)
 
 forms-parts : (f : FileScope) (g n : ℕ) (ds : List Decl) → with_forms f g (parts_before n ds) ≡ with_forms f g ds
 forms-parts f g zero ds = refl
@@ -138,17 +170,22 @@ part-named : (n j : ℕ) → j < n → n < 2 ^ 32 → may_be_named (bare n) (abo
 unfolding may_be_named type_name value_name call_name package_name is_reserved
 part-named n j less small =
     let wide : n < 2 ^ 64 = omega arith in
-    ap (λ o. is_number o (above j).names) (found-part n j ((codes "main", place n) ∷ []) less wide) ∙ is-same (above j).names (place j) (above-names j)
+    ap (λ o. is_number o (above j).names) (found-part n j ((codes "main", place n) ∷ []) less wide)
+    ∙ is-same (above j).names (place j) (above-names j)
 
-names-parts : (n m : ℕ) (ds : List Decl) → m ≤ n → n < 2 ^ 32 → names_faults (bare n) (above 0) (parts_before m ds) ≡ names_faults (bare n) (above m) ds
+names-parts : (n m : ℕ) (ds : List Decl) → m ≤ n → n < 2 ^ 32
+    → names_faults (bare n) (above 0) (parts_before m ds) ≡ names_faults (bare n) (above m) ds
 names-parts n zero ds most small = refl
 names-parts n (suc m) ds most small =
     names-parts n m (part_decl (suc m) (part_line m) ∷ ds) (omega arith) small
-    ∙ ap (λ b. broken (part_line m) 2 (b && true) ++ names_faults (bare n) (above (suc m)) ds) (part-named n m (omega arith) small)
+    ∙ ap (λ b. broken (part_line m) 2 (b && true) ++ names_faults (bare n) (above (suc m)) ds)
+    (part-named n m (omega arith) small)
 
 main-named : (n : ℕ) → may_be_named (bare n) (above n).names (codes "main") ≡ true
 unfolding may_be_named type_name value_name call_name package_name is_reserved
-main-named n = ap (λ o. is_number o (above n).names) (skip-word (codes "main") (λ k. refl) n ((codes "main", place n) ∷ [])) ∙ is-same (above n).names (place n) (above-names n)
+main-named n = ap (λ o. is_number o (above n).names)
+    (skip-word (codes "main") (λ k. refl) n ((codes "main", place n) ∷ []))
+    ∙ is-same (above n).names (place n) (above-names n)
 
 names-keep : (n : ℕ) → n < 2 ^ 32 → names_faults (bare n) none_above (decls n) ≡ []
 unfolding may_be_named type_name value_name call_name package_name is_reserved
@@ -163,7 +200,8 @@ unfolding named_base
 part-written s k l = ap (λ (x : Write). ((x l s).faults ++ []) ++ []) (w.write-Named (codes "int"))
 
 abbrev written_by : Scope → Write → Write → List Fault → List Fault
-written_by s x y fs = ((x 5 s).faults ++ ((y 5 s).faults ++ [])) ++ ((y 10 s).faults ++ ((((x 12 s).faults ++ []) ++ []) ++ fs))
+written_by s x y fs = ((x 5 s).faults ++ ((y 5 s).faults ++ []))
+    ++ ((y 10 s).faults ++ ((((x 12 s).faults ++ []) ++ []) ++ fs))
 
 types-keep : (n : ℕ) → flat_map (type_faults (outside (bare n))) (decls n) ≡ []
 unfolding meaning named_base
@@ -186,11 +224,13 @@ main-there n = mains-parts n (main_decl n (part_line n) ∷ [])
 
 -- Bodies.
 
-walks-parts : (n m : ℕ) (ds : List Decl) → walk_faults (scope n).file 1 (parts_before m ds) ≡ walk_faults (scope n).file 1 ds
+walks-parts : (n m : ℕ) (ds : List Decl)
+    → walk_faults (scope n).file 1 (parts_before m ds) ≡ walk_faults (scope n).file 1 ds
 walks-parts n zero ds = refl
 walks-parts n (suc m) ds =
     walks-parts n m (part_decl (suc m) (part_line m) ∷ ds)
-    ∙ ap (λ fs. fs ++ walk_faults (scope n).file 1 ds) (part-keeps (suc m) (part_line m) (all_entries n) (all_meant n) (signatures n (main_signature ∷ [])))
+    ∙ ap (λ fs. fs ++ walk_faults (scope n).file 1 ds)
+    (part-keeps (suc m) (part_line m) (all_entries n) (all_meant n) (signatures n (main_signature ∷ [])))
 
 walks-keep : (n : ℕ) → n < 2 ^ 32 → walk_faults (scope n).file 0 (decls n) ≡ []
 walks-keep n small =

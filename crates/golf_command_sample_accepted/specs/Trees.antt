@@ -41,11 +41,14 @@ waits l = st.Go l (name (codes "wait")) (name (codes "c") ∷ [])
 
 -- `root = &Node{c: c, next: root}`
 abbrev pub keeps : ℕ → Stmt
-keeps l = does l (simple.Assign (name (codes "root")) (ex.StructLiteral (codes "Node") (element (codes "c") (name (codes "c")) ∷ element (codes "next") (name (codes "root")) ∷ [])))
+keeps l = does l (simple.Assign (name (codes "root"))
+    (ex.StructLiteral (codes "Node") (element (codes "c") (name (codes "c"))
+    ∷ element (codes "next") (name (codes "root")) ∷ [])))
 
 -- `n%2 == 0`
 abbrev pub is_even : Expr
-is_even = ex.Binary binary.Equal (ex.Binary binary.Remainder (name (codes "n")) (ex.Integer (codes "2"))) (ex.Integer (codes "0"))
+is_even = ex.Binary binary.Equal (ex.Binary binary.Remainder (name (codes "n")) (ex.Integer (codes "2")))
+    (ex.Integer (codes "0"))
 
 abbrev pub int_field : List ℕ → Field
 int_field n = record { first = n; more = []; of_type = ty.Named (codes "int") }
@@ -84,7 +87,10 @@ calls_part k l = does l (simple.Expression (ex.Call (name (part_name k)) (ex.Int
 
 -- `for i := 0; i < n; i++ {}`
 abbrev pub counts_to : ℕ → ℕ → Stmt
-counts_to n l = st.For l (header.Steps (Some (record { line = l; kind = simple.Define (codes "i") (ex.Integer (codes "0")) })) (Some (ex.Binary binary.Less (name (codes "i")) (ex.Integer (decimal n)))) (Some (record { line = l; kind = simple.Increment (name (codes "i")) }))) []
+counts_to n l = st.For l (header.Steps (Some
+    (record { line = l; kind = simple.Define (codes "i") (ex.Integer (codes "0")) }))
+    (Some (ex.Binary binary.Less (name (codes "i")) (ex.Integer (decimal n))))
+    (Some (record { line = l; kind = simple.Increment (name (codes "i")) }))) []
 
 -- `runtime.GC()`
 abbrev pub collects : ℕ → Stmt
@@ -104,13 +110,25 @@ abbrev pub last_stmts : ℕ → ℕ → List Stmt
 last_stmts n l = counts_to n l ∷ collects (l + 1 + 1) ∷ []
 
 abbrev pub main_func : ℕ → ℕ → Func
-main_func n l = record { line = l; receiver = None; name = codes "main"; parameters = []; result = None; body = calls_before l n (last_stmts n (call_line l n)) }
+main_func n l = record {
+  line = l;
+  receiver = None;
+  name = codes "main";
+  parameters = [];
+  result = None;
+  body = calls_before l n (last_stmts n (call_line l n));
+}
 
 abbrev pub main_decl : ℕ → ℕ → Decl
 main_decl n l = d.Func (main_func n l)
 
 abbrev pub node_decl : Decl
-node_decl = d.Struct 5 (codes "Node") (record { first = codes "c"; more = []; of_type = ty.Chan (ty.Named (codes "int")) } ∷ record { first = codes "next"; more = []; of_type = ty.Pointer (codes "Node") } ∷ [])
+node_decl = d.Struct 5 (codes "Node") (record {
+  first = codes "c";
+  more = [];
+  of_type = ty.Chan (ty.Named (codes "int"));
+}
+    ∷ record { first = codes "next"; more = []; of_type = ty.Pointer (codes "Node") } ∷ [])
 
 abbrev pub root_decl : Decl
 root_decl = d.Var (record { line = 10; name = codes "root"; content = content.Zero (ty.Pointer (codes "Node")) })
@@ -131,4 +149,8 @@ later n = parts_before n (main_decl n (part_line n) ∷ [])
 
 -- the tree of the file of n parts
 abbrev pub tree : ℕ → File
-tree n = record { imports = import.One 3 (codes "runtime") ∷ []; declarations = node_decl ∷ root_decl ∷ d.Func wait_func ∷ later n }
+tree n = record {
+  imports = import.One 3 (codes "runtime") ∷ [];
+  declarations = node_decl ∷ root_decl ∷ d.Func wait_func
+      ∷ later n;
+}

@@ -1,7 +1,8 @@
 -- A text that is cut at its first separator.
 -- For: `at_comma`, `at_colon`, src/values.rt; `cut`, specs/Values.antt
 -- By: cases of whether the separator is there; no induction
-use Rattle.std.proofs.Common.{◌≡◌, ℕ, ◌<◌, Bool, cond, sym, ap, ap₂, ◌∙◌, ◌==◌, length, Option, Some, None, Bor, lt-ltb, le-ltb, arith}
+use Rattle.std.proofs.Common.{◌≡◌, ℕ, ◌<◌, Bool, cond, sym, ap, ap₂, ◌∙◌, ◌==◌, length, Option, Some, None, Bor, lt-ltb}
+use Rattle.std.proofs.Common.{le-ltb, arith}
 use Rattle.std.specs.Option.{option_map}
 use Rattle.std.specs.List.{position_or_len, before_first, after_first}
 use Rattle.std.proofs.lemmas.Str.Pattern.{IsSplitOnceResult, split_once_first}
@@ -20,4 +21,5 @@ cut_is c text None h low =
     ap (cut_if c text) (sym (le-ltb (place c text) (length text) (omega (arith, past))))
 cut_is c text (Some x) h low =
     let parts = split_once_first c text (Some x) h low in
-    ap₂ (λ (a b : Text). Some (a, b)) parts.1 parts.2 ∙ ap (cut_if c text) (sym (lt-ltb (place c text) (length text) parts.0))
+    ap₂ (λ (a b : Text). Some (a, b)) parts.1 parts.2
+    ∙ ap (cut_if c text) (sym (lt-ltb (place c text) (length text) parts.0))

@@ -8,21 +8,32 @@ use Rattle.golf_command_words.specs.declared.line.CommandLine.{CommandLine}
 abbrev run_alone : List Text
 run_alone = codes "run" ∷ []
 
-run_alone_is : line_of run_alone ≡ Some (CommandLine.Run (record { schedule = Schedule.Rotate; turns = 1000000; every = None; markers = 1; recover = false; why = false }))
+run_alone_is : line_of run_alone ≡ Some (CommandLine.Run
+    (record { schedule = Schedule.Rotate; turns = 1000000; every = None; markers = 1; recover = false; why = false }))
 unfolding uses_after
 run_alone_is = refl
 
 abbrev seed_and_markers : List Text
-seed_and_markers = codes "run" ∷ codes "--schedule=seed:0" ∷ codes "--markers" ∷ codes "002" ∷ codes "--recover" ∷ codes "--" ∷ []
+seed_and_markers = codes "run" ∷ codes "--schedule=seed:0" ∷ codes "--markers" ∷ codes "002" ∷ codes "--recover"
+    ∷ codes "--" ∷ []
 
-seed_and_markers_is : line_of seed_and_markers ≡ Some (CommandLine.Run (record { schedule = Schedule.Seed 0; turns = 1000000; every = None; markers = 2; recover = true; why = false }))
+seed_and_markers_is : line_of seed_and_markers ≡ Some
+    (CommandLine.Run (record {
+      schedule = Schedule.Seed 0;
+      turns = 1000000;
+      every = None;
+      markers = 2;
+      recover = true;
+      why = false;
+    }))
 unfolding uses_after
 seed_and_markers_is = refl
 
 abbrev why_first : List Text
 why_first = codes "run" ∷ codes "--why" ∷ codes "--turns=9" ∷ codes "--recover" ∷ []
 
-why_first_is : line_of why_first ≡ Some (CommandLine.Run (record { schedule = Schedule.Rotate; turns = 9; every = None; markers = 1; recover = true; why = true }))
+why_first_is : line_of why_first ≡ Some (CommandLine.Run
+    (record { schedule = Schedule.Rotate; turns = 9; every = None; markers = 1; recover = true; why = true }))
 unfolding uses_after
 why_first_is = refl
 
@@ -64,7 +75,15 @@ hyphens_as_value_is = refl
 abbrev twenty_digits : List Text
 twenty_digits = codes "run" ∷ codes "--turns" ∷ codes "00000000000000000007" ∷ []
 
-twenty_digits_are : line_of twenty_digits ≡ Some (CommandLine.Run (record { schedule = Schedule.Rotate; turns = 7; every = None; markers = 1; recover = false; why = false }))
+twenty_digits_are : line_of twenty_digits ≡ Some
+    (CommandLine.Run (record {
+      schedule = Schedule.Rotate;
+      turns = 7;
+      every = None;
+      markers = 1;
+      recover = false;
+      why = false;
+    }))
 unfolding uses_after
 twenty_digits_are = refl
 

@@ -1,15 +1,20 @@
 -- The line that the words stand for is what `clap` finds in them.
 -- For: `parse`, src/reading.rt; `line_of`, specs/Words.antt; `split_of`, specs/Splitting.antt
 -- By: cases of the first word; induction over the list of words after it
-use Rattle.std.proofs.Common.{◌≡◌, ◌∙◌, ◌++◌, Bool, cond, true, false, refl, sym, ap, ap₂, subst, List, [], ◌∷◌, map, Option, Some, None, Result, Ok, Err, IfOk, option_and_then, is_some, bytes_eq, codes, IsUtf8, String, string_bytes}
+use Rattle.std.proofs.Common.{◌≡◌, ◌∙◌, ◌++◌, Bool, cond, true, false, refl, sym, ap, ap₂, subst, List, [], ◌∷◌, map}
+use Rattle.std.proofs.Common.{Option, Some, None, Result, Ok, Err, IfOk, option_and_then, is_some, bytes_eq, codes}
+use Rattle.std.proofs.Common.{IsUtf8, String, string_bytes}
 use Rattle.std.specs.List.{AllByRecursion}
 use Rattle.std.specs.Option.{option_map_or}
 use Rattle.std.proofs.lemmas.Str.{IsUtf8-string_bytes}
 use Rattle.clap.specs.Lexer.{long_of, short_of}
 use Rattle.clap.specs.Kinds.{Kinds, or_else}
-use Rattle.clap.specs.Walk.{Held, Names, Row, Step, Walk, after_step, idle, finished, long_or_other, nothing_held, settled, short_or_plain, subcommand_met, subcommand_or_other, trailing, walk, walk_from, walked}
+use Rattle.clap.specs.Walk.{Held, Names, Row, Step, Walk, after_step, idle, finished, long_or_other, nothing_held}
+use Rattle.clap.specs.Walk.{settled, short_or_plain, subcommand_met, subcommand_or_other, trailing, walk, walk_from}
+use Rattle.clap.specs.Walk.{walked}
 use Rattle.clap.specs.Simple.{App, Shape, built, entered, names_of}
-use Rattle.clap.specs.Faults.{bundle_fault, check_fault, defaults_fault, entered_fault, flag_word_fault, level_fault, other_fault, settle_fault, step_fault, turn_fault, walk_fault}
+use Rattle.clap.specs.Faults.{bundle_fault, check_fault, defaults_fault, entered_fault, flag_word_fault, level_fault}
+use Rattle.clap.specs.Faults.{other_fault, settle_fault, step_fault, turn_fault, walk_fault}
 use Rattle.clap.proofs.WalkLemmas.{walk_stopped}
 use Rattle.golf_command_words.specs.Values.{Text}
 use Rattle.golf_command_words.specs.Words.{generate_of, line_of, meaning_of, run_of, uses_after}
@@ -39,14 +44,21 @@ found_at walk_kinds f =
     (check_fault top (finished top.rules f.held) (is_some (entered app f.stopped)))))))
     (entered app f.stopped)
 
-split_is : (words : List Text) → split_of words ≡ found_at (walk_fault top names (walk_from nothing_held) words) (walk top.rules names nothing_held words)
+split_is : (words : List Text) → split_of words ≡ found_at (walk_fault top names (walk_from nothing_held) words)
+    (walk top.rules names nothing_held words)
 unfolding split_of
 split_is words = refl
 
 -- ---- a subcommand
 
 abbrev stopped_at : Text → List Text → Walk
-stopped_at name seen = record { held = nothing_held; waiting = idle; position = 1; is_trailing = false; stopped = Some (name, seen) }
+stopped_at name seen = record {
+  held = nothing_held;
+  waiting = idle;
+  position = 1;
+  is_trailing = false;
+  stopped = Some (name, seen);
+}
 
 left_to_it : (name : Text) (seen words : List Text) → walk_fault top names (stopped_at name seen) words ≡ []
 unfolding walk_fault walked
@@ -65,7 +77,8 @@ at_generate : (rest : List Text) → walk_fault top names (walk_from nothing_hel
 unfolding walk_fault walked
 at_generate rest = left_to_it (codes "generate") [] rest
 
-generate_stops : (rest : List Text) → stopped_at (codes "generate") rest ≡ walk top.rules names nothing_held (codes "generate" ∷ rest)
+generate_stops : (rest : List Text) → stopped_at (codes "generate") rest ≡ walk top.rules names nothing_held
+    (codes "generate" ∷ rest)
 unfolding walked
 generate_stops rest = walk_stopped top.rules names (walk_from nothing_held) (codes "generate") [] rest
 
@@ -73,7 +86,8 @@ at_meaning : (rest : List Text) → walk_fault top names (walk_from nothing_held
 unfolding walk_fault walked
 at_meaning rest = left_to_it (codes "meaning") [] rest
 
-meaning_stops : (rest : List Text) → stopped_at (codes "meaning") rest ≡ walk top.rules names nothing_held (codes "meaning" ∷ rest)
+meaning_stops : (rest : List Text) → stopped_at (codes "meaning") rest ≡ walk top.rules names nothing_held
+    (codes "meaning" ∷ rest)
 unfolding walked
 meaning_stops rest = walk_stopped top.rules names (walk_from nothing_held) (codes "meaning") [] rest
 
@@ -81,45 +95,61 @@ abbrev rows_of_leaf : Shape → List Text → List Row
 rows_of_leaf s words = finished s.rules (walk s.rules [] nothing_held words).held
 
 run_entered : (rest : List Text) → found_at [] (stopped_at (codes "run") rest)
-    ≡ unless_fault (or_else (level_fault run_shape [] nothing_held rest false []) []) (Some (codes "run", rows_of_leaf run_shape rest))
+    ≡ unless_fault (or_else (level_fault run_shape [] nothing_held rest false []) [])
+    (Some (codes "run", rows_of_leaf run_shape rest))
 unfolding defaults_fault
 run_entered rest = refl
 
 generate_entered : (rest : List Text) → found_at [] (stopped_at (codes "generate") rest)
-    ≡ unless_fault (or_else (level_fault generate_shape [] nothing_held rest false []) []) (Some (codes "generate", rows_of_leaf generate_shape rest))
+    ≡ unless_fault (or_else (level_fault generate_shape [] nothing_held rest false []) [])
+    (Some (codes "generate", rows_of_leaf generate_shape rest))
 unfolding defaults_fault
 generate_entered rest = refl
 
 meaning_entered : (rest : List Text) → found_at [] (stopped_at (codes "meaning") rest)
-    ≡ unless_fault (or_else (level_fault meaning_shape [] nothing_held rest false []) []) (Some (codes "meaning", rows_of_leaf meaning_shape rest))
+    ≡ unless_fault (or_else (level_fault meaning_shape [] nothing_held rest false []) [])
+    (Some (codes "meaning", rows_of_leaf meaning_shape rest))
 unfolding defaults_fault
 meaning_entered rest = refl
 
 -- the line by the rows of a subcommand, if nothing in its words is at fault
-line_found : (name : Text) (read : List Row → Option CommandLine) (kinds : Kinds) (rows : List Row) → line_by (Some (name, rows)) ≡ read rows
-    → line_by (unless_fault (or_else kinds []) (Some (name, rows))) ≡ option_and_then read (unless_fault kinds (Some rows))
+line_found : (name : Text) (read : List Row → Option CommandLine) (kinds : Kinds) (rows : List Row)
+    → line_by (Some (name, rows)) ≡ read rows
+    → line_by (unless_fault (or_else kinds []) (Some (name, rows))) ≡ option_and_then read
+    (unless_fault kinds (Some rows))
 line_found name read [] rows is = is
 line_found name read (k ∷ ks) rows is = refl
 
-run_law : (rest : List Text) → AllByRecursion IsUtf8 rest → line_of (codes "run" ∷ rest) ≡ line_by (split_of (codes "run" ∷ rest))
+run_law : (rest : List Text) → AllByRecursion IsUtf8 rest
+    → line_of (codes "run" ∷ rest) ≡ line_by (split_of (codes "run" ∷ rest))
 run_law rest utf8 =
     let kinds = level_fault run_shape [] nothing_held rest false [] in
-    sym (ap line_by (split_is (codes "run" ∷ rest) ∙ ap₂ (λ (k : Kinds) (f : Walk). found_at k f) (at_run rest) (sym (run_stops rest)) ∙ run_entered rest)
-    ∙ line_found (codes "run") run_by kinds (rows_of_leaf run_shape rest) refl ∙ ap (option_and_then run_by) (level_is run_shape rest)
+    sym (ap line_by (split_is (codes "run" ∷ rest)
+    ∙ ap₂ (λ (k : Kinds) (f : Walk). found_at k f) (at_run rest) (sym (run_stops rest)) ∙ run_entered rest)
+    ∙ line_found (codes "run") run_by kinds (rows_of_leaf run_shape rest) refl
+    ∙ ap (option_and_then run_by) (level_is run_shape rest)
     ∙ run_line_is rest utf8)
 
-generate_law : (rest : List Text) → AllByRecursion IsUtf8 rest → line_of (codes "generate" ∷ rest) ≡ line_by (split_of (codes "generate" ∷ rest))
+generate_law : (rest : List Text) → AllByRecursion IsUtf8 rest
+    → line_of (codes "generate" ∷ rest) ≡ line_by (split_of (codes "generate" ∷ rest))
 generate_law rest utf8 =
     let kinds = level_fault generate_shape [] nothing_held rest false [] in
-    sym (ap line_by (split_is (codes "generate" ∷ rest) ∙ ap₂ (λ (k : Kinds) (f : Walk). found_at k f) (at_generate rest) (sym (generate_stops rest)) ∙ generate_entered rest)
-    ∙ line_found (codes "generate") generate_by kinds (rows_of_leaf generate_shape rest) refl ∙ ap (option_and_then generate_by) (level_is generate_shape rest)
+    sym (ap line_by (split_is (codes "generate" ∷ rest)
+    ∙ ap₂ (λ (k : Kinds) (f : Walk). found_at k f) (at_generate rest) (sym (generate_stops rest))
+    ∙ generate_entered rest)
+    ∙ line_found (codes "generate") generate_by kinds (rows_of_leaf generate_shape rest) refl
+    ∙ ap (option_and_then generate_by) (level_is generate_shape rest)
     ∙ generate_line_is rest utf8)
 
-meaning_law : (rest : List Text) → AllByRecursion IsUtf8 rest → line_of (codes "meaning" ∷ rest) ≡ line_by (split_of (codes "meaning" ∷ rest))
+meaning_law : (rest : List Text) → AllByRecursion IsUtf8 rest
+    → line_of (codes "meaning" ∷ rest) ≡ line_by (split_of (codes "meaning" ∷ rest))
 meaning_law rest utf8 =
     let kinds = level_fault meaning_shape [] nothing_held rest false [] in
-    sym (ap line_by (split_is (codes "meaning" ∷ rest) ∙ ap₂ (λ (k : Kinds) (f : Walk). found_at k f) (at_meaning rest) (sym (meaning_stops rest)) ∙ meaning_entered rest)
-    ∙ line_found (codes "meaning") meaning_by kinds (rows_of_leaf meaning_shape rest) refl ∙ ap (option_and_then meaning_by) (level_is meaning_shape rest)
+    sym (ap line_by (split_is (codes "meaning" ∷ rest)
+    ∙ ap₂ (λ (k : Kinds) (f : Walk). found_at k f) (at_meaning rest) (sym (meaning_stops rest))
+    ∙ meaning_entered rest)
+    ∙ line_found (codes "meaning") meaning_by kinds (rows_of_leaf meaning_shape rest) refl
+    ∙ ap (option_and_then meaning_by) (level_is meaning_shape rest)
     ∙ meaning_line_is rest utf8)
 
 -- ---- any other first word
@@ -128,47 +158,63 @@ meaning_law rest utf8 =
 abbrev turn_at : Kinds → Held × Step → Kinds
 turn_at kinds met = or_else kinds (step_fault top 1 met.0 met.1)
 
-first_turn : (word : Text) (b : Bool) (l : Option (Text × Option Text)) (s : Option Text) → subcommand_met names idle word ≡ None → bytes_eq word (45 ∷ 45 ∷ []) ≡ b → long_of word ≡ l
+first_turn : (word : Text) (b : Bool) (l : Option (Text × Option Text)) (s : Option Text)
+    → subcommand_met names idle word ≡ None → bytes_eq word (45 ∷ 45 ∷ []) ≡ b → long_of word ≡ l
     → turn_fault top names (walk_from nothing_held) word
-    ≡ turn_at (cond b [] (flag_word_fault top.rules false l word nothing_held)) (cond b (nothing_held, trailing 1) (long_or_other top.rules idle word l nothing_held))
+    ≡ turn_at (cond b [] (flag_word_fault top.rules false l word nothing_held))
+    (cond b (nothing_held, trailing 1) (long_or_other top.rules idle word l nothing_held))
 first_turn word b l s none e is =
-    ap (λ o. turn_at (other_fault top o word nothing_held) (subcommand_or_other top.rules o idle 1 word nothing_held)) none
-    ∙ ap (λ t. turn_at (cond t [] (flag_word_fault top.rules false (long_of word) word nothing_held)) (cond t (nothing_held, trailing 1) (long_or_other top.rules idle word (long_of word) nothing_held))) e
-    ∙ ap (λ o. turn_at (cond b [] (flag_word_fault top.rules false o word nothing_held)) (cond b (nothing_held, trailing 1) (long_or_other top.rules idle word o nothing_held))) is
+    ap (λ o. turn_at (other_fault top o word nothing_held) (subcommand_or_other top.rules o idle 1 word nothing_held))
+    none
+    ∙ ap (λ t. turn_at (cond t [] (flag_word_fault top.rules false (long_of word) word nothing_held))
+    (cond t (nothing_held, trailing 1) (long_or_other top.rules idle word (long_of word) nothing_held))) e
+    ∙ ap (λ o. turn_at (cond b [] (flag_word_fault top.rules false o word nothing_held))
+    (cond b (nothing_held, trailing 1) (long_or_other top.rules idle word o nothing_held))) is
 
 -- it is at fault, unless it is `--`
 turn_fails : (word : Text) → IsUtf8 word → subcommand_met names idle word ≡ None → bytes_eq word (45 ∷ 45 ∷ []) ≡ false
     → fails (turn_fault top names (walk_from nothing_held) word) ≡ true
 turn_fails word utf8 none e = go (long_of word) (short_of word) refl refl
   where
-    go : (l : Option (Text × Option Text)) (s : Option Text) → long_of word ≡ l → short_of word ≡ s → fails (turn_fault top names (walk_from nothing_held) word) ≡ true
+    go : (l : Option (Text × Option Text)) (s : Option Text) → long_of word ≡ l → short_of word ≡ s
+        → fails (turn_fault top names (walk_from nothing_held) word) ≡ true
     go (Some p) s is short = ap fails (first_turn word false (Some p) s none e is)
     go None (Some flags) is short =
         ap fails (first_turn word false None (Some flags) none e is
-        ∙ ap (λ o. turn_at (option_map_or (λ t. bundle_fault top.rules false t nothing_held) o []) (short_or_plain top.rules idle word o nothing_held)) short)
-        ∙ settle_first (bundle_fault top.rules false flags nothing_held) _ (bundle_fails top.rules false flags nothing_held (short_text word flags short utf8) refl (λ x. refl))
+        ∙ ap (λ o. turn_at (option_map_or (λ t. bundle_fault top.rules false t nothing_held) o [])
+        (short_or_plain top.rules idle word o nothing_held)) short)
+        ∙ settle_first (bundle_fault top.rules false flags nothing_held) _
+        (bundle_fails top.rules false flags nothing_held (short_text word flags short utf8) refl (λ x. refl))
     go None None is short =
         ap fails (first_turn word false None None none e is
-        ∙ ap (λ o. turn_at (option_map_or (λ t. bundle_fault top.rules false t nothing_held) o []) (short_or_plain top.rules idle word o nothing_held)) short)
+        ∙ ap (λ o. turn_at (option_map_or (λ t. bundle_fault top.rules false t nothing_held) o [])
+        (short_or_plain top.rules idle word o nothing_held)) short)
 
 fault_first : (word : Text) (rest : List Text) → fails (turn_fault top names (walk_from nothing_held) word) ≡ true
     → fails (walk_fault top names (walk_from nothing_held) (word ∷ rest)) ≡ true
 unfolding walk_fault
-fault_first word rest e = settle_first (turn_fault top names (walk_from nothing_held) word) (walk_fault top names (walked top.rules names (walk_from nothing_held) word) rest) e
+fault_first word rest e = settle_first (turn_fault top names (walk_from nothing_held) word)
+    (walk_fault top names (walked top.rules names (walk_from nothing_held) word) rest) e
 
-none_found : (words : List Text) → fails (walk_fault top names (walk_from nothing_held) words) ≡ true → split_of words ≡ None
+none_found : (words : List Text) → fails (walk_fault top names (walk_from nothing_held) words) ≡ true
+    → split_of words ≡ None
 none_found words e =
     split_is words
-    ∙ unless_fails (or_else (walk_fault top names (walk_from nothing_held) words) _) _ (settle_first (walk_fault top names (walk_from nothing_held) words) _ e)
+    ∙ unless_fails (or_else (walk_fault top names (walk_from nothing_held) words) _) _
+    (settle_first (walk_fault top names (walk_from nothing_held) words) _ e)
 
 abbrev trailed : Walk
 trailed = record { held = nothing_held; waiting = idle; position = 1; is_trailing = true; stopped = None }
 
-dashes_first : (word : Text) → subcommand_met names idle word ≡ None → bytes_eq word (45 ∷ 45 ∷ []) ≡ true → walked top.rules names (walk_from nothing_held) word ≡ trailed
+dashes_first : (word : Text) → subcommand_met names idle word ≡ None → bytes_eq word (45 ∷ 45 ∷ []) ≡ true
+    → walked top.rules names (walk_from nothing_held) word ≡ trailed
 unfolding walked
 dashes_first word none e =
-    ap (λ (o : Option Text). after_step top.rules word (walk_from nothing_held) (subcommand_or_other top.rules o idle 1 word nothing_held).0 (subcommand_or_other top.rules o idle 1 word nothing_held).1) none
-    ∙ ap (λ (b : Bool). after_step top.rules word (walk_from nothing_held) (cond b (nothing_held, trailing 1) (long_or_other top.rules idle word (long_of word) nothing_held)).0
+    ap (λ (o : Option Text). after_step top.rules word (walk_from nothing_held)
+    (subcommand_or_other top.rules o idle 1 word nothing_held).0
+    (subcommand_or_other top.rules o idle 1 word nothing_held).1) none
+    ∙ ap (λ (b : Bool). after_step top.rules word (walk_from nothing_held)
+    (cond b (nothing_held, trailing 1) (long_or_other top.rules idle word (long_of word) nothing_held)).0
     (cond b (nothing_held, trailing 1) (long_or_other top.rules idle word (long_of word) nothing_held)).1) e
 
 second_fails : (word : Text) (rest : List Text) → fails (walk_fault top names trailed (word ∷ rest)) ≡ true
@@ -179,20 +225,24 @@ or_fails : (a b : Kinds) → fails b ≡ true → fails (or_else a b) ≡ true
 or_fails [] b e = e
 or_fails (k ∷ ks) b e = refl
 
-dashes_fault : (word x : Text) (xs : List Text) → subcommand_met names idle word ≡ None → bytes_eq word (45 ∷ 45 ∷ []) ≡ true
+dashes_fault : (word x : Text) (xs : List Text) → subcommand_met names idle word ≡ None
+    → bytes_eq word (45 ∷ 45 ∷ []) ≡ true
     → fails (walk_fault top names (walk_from nothing_held) (word ∷ x ∷ xs)) ≡ true
 unfolding walk_fault
 dashes_fault word x xs none e =
-    or_fails (turn_fault top names (walk_from nothing_held) word) (walk_fault top names (walked top.rules names (walk_from nothing_held) word) (x ∷ xs))
+    or_fails (turn_fault top names (walk_from nothing_held) word)
+    (walk_fault top names (walked top.rules names (walk_from nothing_held) word) (x ∷ xs))
     (ap (λ w. fails (walk_fault top names w (x ∷ xs))) (dashes_first word none e) ∙ second_fails x xs)
 
-dashes_alone : (word : Text) → subcommand_met names idle word ≡ None → bytes_eq word (45 ∷ 45 ∷ []) ≡ true → split_of (word ∷ []) ≡ None
+dashes_alone : (word : Text) → subcommand_met names idle word ≡ None → bytes_eq word (45 ∷ 45 ∷ []) ≡ true
+    → split_of (word ∷ []) ≡ None
 dashes_alone word none e =
     split_is (word ∷ [])
     ∙ ap (λ w. found_at (walk_fault top names (walk_from nothing_held) (word ∷ [])) w) (dashes_first word none e)
     ∙ unless_none (or_else (walk_fault top names (walk_from nothing_held) (word ∷ [])) _)
 
-other_found : (word : Text) (rest : List Text) → IsUtf8 word → subcommand_met names idle word ≡ None → split_of (word ∷ rest) ≡ None
+other_found : (word : Text) (rest : List Text) → IsUtf8 word → subcommand_met names idle word ≡ None
+    → split_of (word ∷ rest) ≡ None
 other_found word rest utf8 none = go (bytes_eq word (45 ∷ 45 ∷ [])) rest refl
   where
     go : (b : Bool) (more : List Text) → bytes_eq word (45 ∷ 45 ∷ []) ≡ b → split_of (word ∷ more) ≡ None
@@ -200,10 +250,12 @@ other_found word rest utf8 none = go (bytes_eq word (45 ∷ 45 ∷ [])) rest ref
     go true [] e = dashes_alone word none e
     go true (x ∷ xs) e = none_found (word ∷ x ∷ xs) (dashes_fault word x xs none e)
 
-no_subcommand : (word : Text) → bytes_eq (codes "run") word ≡ false → bytes_eq (codes "generate") word ≡ false → bytes_eq (codes "meaning") word ≡ false → subcommand_met names idle word ≡ None
+no_subcommand : (word : Text) → bytes_eq (codes "run") word ≡ false → bytes_eq (codes "generate") word ≡ false
+    → bytes_eq (codes "meaning") word ≡ false → subcommand_met names idle word ≡ None
 no_subcommand word run generate meaning = rw (run, generate, meaning) refl
 
-no_line : (word : Text) (rest : List Text) → bytes_eq (codes "run") word ≡ false → bytes_eq (codes "generate") word ≡ false → bytes_eq (codes "meaning") word ≡ false → line_of (word ∷ rest) ≡ None
+no_line : (word : Text) (rest : List Text) → bytes_eq (codes "run") word ≡ false
+    → bytes_eq (codes "generate") word ≡ false → bytes_eq (codes "meaning") word ≡ false → line_of (word ∷ rest) ≡ None
 no_line word rest run generate meaning =
     ap₂ (λ (r g : Bool). cond r (option_and_then run_of (uses_after [] None rest))
     (cond g (generate_of rest) (cond (bytes_eq (codes "meaning") word) (meaning_of rest) None))) run generate
@@ -212,24 +264,34 @@ no_line word rest run generate meaning =
 -- ---- the law
 
 nothing_found : None ≡ line_by (split_of [])
-nothing_found = sym (ap line_by (split_is [] ∙ unless_none (or_else (walk_fault top names (walk_from nothing_held) []) _)))
+nothing_found = sym (ap line_by (split_is []
+    ∙ unless_none (or_else (walk_fault top names (walk_from nothing_held) []) _)))
 
 pub line_law : (words : List Text) → AllByRecursion IsUtf8 words → line_of words ≡ line_by (split_of words)
 line_law [] utf8 = nothing_found
-line_law (word ∷ rest) utf8 = go (bytes_eq (codes "run") word) (bytes_eq (codes "generate") word) (bytes_eq (codes "meaning") word) refl refl refl
+line_law (word ∷ rest) utf8 = go (bytes_eq (codes "run") word) (bytes_eq (codes "generate") word)
+    (bytes_eq (codes "meaning") word) refl refl refl
   where
-    go : (r g m : Bool) → bytes_eq (codes "run") word ≡ r → bytes_eq (codes "generate") word ≡ g → bytes_eq (codes "meaning") word ≡ m → line_of (word ∷ rest) ≡ line_by (split_of (word ∷ rest))
-    go true g m run generate meaning = subst (λ w. line_of (w ∷ rest) ≡ line_by (split_of (w ∷ rest))) (same_text (codes "run") word run) (run_law rest utf8.1)
-    go false true m run generate meaning = subst (λ w. line_of (w ∷ rest) ≡ line_by (split_of (w ∷ rest))) (same_text (codes "generate") word generate) (generate_law rest utf8.1)
-    go false false true run generate meaning = subst (λ w. line_of (w ∷ rest) ≡ line_by (split_of (w ∷ rest))) (same_text (codes "meaning") word meaning) (meaning_law rest utf8.1)
-    go false false false run generate meaning = no_line word rest run generate meaning ∙ sym (ap line_by (other_found word rest utf8.0 (no_subcommand word run generate meaning)))
+    go : (r g m : Bool) → bytes_eq (codes "run") word ≡ r → bytes_eq (codes "generate") word ≡ g
+        → bytes_eq (codes "meaning") word ≡ m → line_of (word ∷ rest) ≡ line_by (split_of (word ∷ rest))
+    go true g m run generate meaning = subst (λ w. line_of (w ∷ rest) ≡ line_by (split_of (w ∷ rest)))
+        (same_text (codes "run") word run) (run_law rest utf8.1)
+    go false true m run generate meaning =
+        subst (λ w. line_of (w ∷ rest) ≡ line_by (split_of (w ∷ rest))) (same_text (codes "generate") word generate)
+        (generate_law rest utf8.1)
+    go false false true run generate meaning =
+        subst (λ w. line_of (w ∷ rest) ≡ line_by (split_of (w ∷ rest))) (same_text (codes "meaning") word meaning)
+        (meaning_law rest utf8.1)
+    go false false false run generate meaning = no_line word rest run generate meaning
+        ∙ sym (ap line_by (other_found word rest utf8.0 (no_subcommand word run generate meaning)))
 
 -- the words of a program are UTF-8
 pub words_are_utf8 : {Z : Type 0} (words : List (String Z)) → AllByRecursion IsUtf8 (map string_bytes words)
 words_are_utf8 [] = tt
 words_are_utf8 (word ∷ rest) = (IsUtf8-string_bytes word, words_are_utf8 rest)
 
-pub as_line : {E : Type 0} (words : List Text) (r : Result (Option CommandLine) E) → line_of words ≡ line_by (split_of words) → IfOk r (λ line. line ≡ line_by (split_of words))
+pub as_line : {E : Type 0} (words : List Text) (r : Result (Option CommandLine) E)
+    → line_of words ≡ line_by (split_of words) → IfOk r (λ line. line ≡ line_by (split_of words))
     → IfOk r (λ line. line ≡ line_of words)
 as_line words (Ok line) law h = h ∙ sym law
 as_line words (Err e) law h = tt

@@ -21,18 +21,22 @@ simple = refl
 
 -- an answer of a parse of this command
 pub split_found : (a : App) (words : List Text) (found : Option (Text × List Row)) → a ≡ golf_app
-    → (is_simple_and_free a ≡ true → fault_of a words ≡ []) → (is_simple a ≡ true → found ≡ subcommand_of a words) → found ≡ split_of words
+    → (is_simple_and_free a ≡ true → fault_of a words ≡ []) → (is_simple a ≡ true → found ≡ subcommand_of a words)
+    → found ≡ split_of words
 unfolding split_of
 split_found a words found is faults rows =
-    let none : fault_of golf_app words ≡ [] = ap (λ b. fault_of b words) (sym is) ∙ faults (ap is_simple_and_free is ∙ simple_and_free) in
-    rows (ap is_simple is ∙ simple) ∙ ap (λ b. subcommand_of b words) is ∙ ap (λ ks. unless_fault ks (subcommand_of golf_app words)) (sym none)
+    let none : fault_of golf_app words ≡ [] = ap (λ b. fault_of b words) (sym is)
+    ∙ faults (ap is_simple_and_free is ∙ simple_and_free) in
+    rows (ap is_simple is ∙ simple) ∙ ap (λ b. subcommand_of b words) is
+    ∙ ap (λ ks. unless_fault ks (subcommand_of golf_app words)) (sym none)
 
 refused : (k : ErrorKind) (ks : Kinds) (found : Option (Text × List Row)) → IsAmong k ks → None ≡ unless_fault ks found
 refused k [] found among = absurd among
 refused k (x ∷ xs) found among = refl
 
 -- a refusal other than out of memory
-pub split_refused : (a : App) (words : List Text) (k : ErrorKind) → a ≡ golf_app → (is_simple_and_free a ≡ true → IsAmong k (fault_of a words)) → None ≡ split_of words
+pub split_refused : (a : App) (words : List Text) (k : ErrorKind) → a ≡ golf_app
+    → (is_simple_and_free a ≡ true → IsAmong k (fault_of a words)) → None ≡ split_of words
 unfolding split_of
 split_refused a words k is faults =
     refused k (fault_of golf_app words) (subcommand_of golf_app words)

@@ -1,20 +1,24 @@
 -- What the walk of `clap` over the words of a run line comes to.
 -- For: `parse`, src/reading.rt; `is_used`, `option_in`, specs/Words.antt
 -- By: computing the rule of each option; cases of the word; induction over the list of rows
-use Rattle.std.proofs.Common.{◌≡◌, ◌∙◌, ◌&&◌, ◌==◌, ◌++◌, inl, inr, Bool, cond, true, false, refl, sym, ap, subst, List, [], ◌∷◌, map, Option, Some, None, option_map, option_and_then, is_some, bytes_eq, codes, true≢false, append-nil}
+use Rattle.std.proofs.Common.{◌≡◌, ◌∙◌, ◌&&◌, ◌==◌, ◌++◌, inl, inr, Bool, cond, true, false, refl, sym, ap, subst, List}
+use Rattle.std.proofs.Common.{[], ◌∷◌, map, Option, Some, None, option_map, option_and_then, is_some, bytes_eq, codes}
+use Rattle.std.proofs.Common.{true≢false, append-nil}
 use Rattle.std.proofs.lemmas.Bool.{or_cases, or_parts}
 use Rattle.std.proofs.lemmas.List.{map-append}
 use Rattle.std.proofs.lemmas.Slice.Eq.{bytes_eq-Decides}
 use Rattle.clap.proofs.WalkLemmas.{list_any-map}
 use Rattle.clap.specs.Lexer.{long_of, long_of_rest, short_of, short_of_rest, strip_byte}
 use Rattle.clap.specs.Kinds.{Kinds, or_else}
-use Rattle.clap.specs.Walk.{Row, Rule, arg_by_id, arg_by_long, at_row, has_row, more_values, most_values, takes_values, used, with_values, without}
+use Rattle.clap.specs.Walk.{Row, Rule, arg_by_id, arg_by_long, at_row, has_row, more_values, most_values, takes_values}
+use Rattle.clap.specs.Walk.{used, with_values, without}
 use Rattle.clap.specs.declared.parser.matches.ValueSource.TheVariants as value_source
 use Rattle.clap.specs.declared.builder.value_parser.Reading.TheVariants.{AsWritten}
 use Rattle.clap.specs.Simple.{Shape, built_leaf, inherited}
 use Rattle.clap.specs.Faults.{repeat_fault, use_fault}
 use Rattle.golf_command_words.specs.Values.{Text}
-use Rattle.golf_command_words.specs.Words.{Use, begins_with_hyphen, is_used, name_behind, option_in, takes_value, with_use, is_flag}
+use Rattle.golf_command_words.specs.Words.{Use, begins_with_hyphen, is_used, name_behind, option_in, takes_value}
+use Rattle.golf_command_words.specs.Words.{with_use, is_flag}
 use Rattle.golf_command_words.specs.Splitting.{program_app, run_app, unless_fault}
 use Rattle.golf_command_words.proofs.Outcomes.{fails}
 
@@ -38,36 +42,50 @@ value_of None = codes "true"
 value_of (Some text) = text
 
 abbrev pub row : Use → Row
-row u = record { id = u.0; values = value_of u.1 ∷ []; count = None; source = Some value_source.CommandLine; reading = AsWritten }
+row u = record {
+  id = u.0;
+  values = value_of u.1 ∷ [];
+  count = None;
+  source = Some value_source.CommandLine;
+  reading = AsWritten;
+}
 
 pub has_row-used : (us : List Use) (name : Text) → has_row name (map row us) ≡ is_used us name
 has_row-used us name = sym (list_any-map (λ (r : Row). bytes_eq r.id name) row us)
 
-pub at_no_row : (id : Text) (change : Row → List Row) (missing rows : List Row) → has_row id rows ≡ false → at_row id change missing rows ≡ rows ++ missing
+pub at_no_row : (id : Text) (change : Row → List Row) (missing rows : List Row) → has_row id rows ≡ false
+    → at_row id change missing rows ≡ rows ++ missing
 at_no_row id change missing [] e = refl
 at_no_row id change missing (r ∷ rs) e =
     let parts = or_parts (bytes_eq r.id id) (has_row id rs) e in
-    ap (λ b. cond b (change r ++ rs) (r ∷ at_row id change missing rs)) parts.0 ∙ ap (λ rows. r ∷ rows) (at_no_row id change missing rs parts.1)
+    ap (λ b. cond b (change r ++ rs) (r ∷ at_row id change missing rs)) parts.0
+    ∙ ap (λ rows. r ∷ rows) (at_no_row id change missing rs parts.1)
 
 -- the rows with one use more
 abbrev pub used_rows : Text → Option Text → List Row → List Row
-used_rows name value rows = with_values name AsWritten value_source.CommandLine (value_of value ∷ []) (without name rows)
+used_rows name value rows = with_values name AsWritten value_source.CommandLine (value_of value ∷ [])
+    (without name rows)
 
-pub new_use : (us : List Use) (name : Text) (value : Option Text) → is_used us name ≡ false → used_rows name value (map row us) ≡ map row (us ++ (name, value) ∷ [])
+pub new_use : (us : List Use) (name : Text) (value : Option Text) → is_used us name ≡ false
+    → used_rows name value (map row us) ≡ map row (us ++ (name, value) ∷ [])
 new_use us name value e =
     let none : has_row name (map row us) ≡ false = has_row-used us name ∙ e in
-    let kept : without name (map row us) ≡ map row us = at_no_row name (λ _. []) [] (map row us) none ∙ append-nil (map row us) in
+    let kept : without name (map row us) ≡ map row us = at_no_row name (λ _. []) [] (map row us) none
+    ∙ append-nil (map row us) in
     ap (λ rows. with_values name AsWritten value_source.CommandLine (value_of value ∷ []) rows) kept
-    ∙ at_no_row name (more_values value_source.CommandLine (value_of value ∷ [])) (row (name, value) ∷ []) (map row us) none
+    ∙ at_no_row name (more_values value_source.CommandLine (value_of value ∷ [])) (row (name, value) ∷ [])
+    (map row us) none
     ∙ sym (map-append row us ((name, value) ∷ []))
 
 -- a use once more is at fault, and a new one adds its row
 pub use_is : (us : List Use) (name : Text) (value : Option Text)
-    → unless_fault (repeat_fault false name (map row us)) (Some (used_rows name value (map row us))) ≡ option_map (map row) (with_use us name value)
+    → unless_fault (repeat_fault false name (map row us)) (Some (used_rows name value (map row us))) ≡ option_map
+    (map row) (with_use us name value)
 use_is us name value = go (is_used us name) refl
   where
     go : (b : Bool) → is_used us name ≡ b
-        → unless_fault (repeat_fault false name (map row us)) (Some (used_rows name value (map row us))) ≡ option_map (map row) (with_use us name value)
+        → unless_fault (repeat_fault false name (map row us)) (Some (used_rows name value (map row us))) ≡ option_map
+        (map row) (with_use us name value)
     go true e = rw (has_row-used us name, e) refl
     go false e = rw (has_row-used us name, e) (ap Some (new_use us name value e))
 
@@ -87,19 +105,79 @@ pub record IsValued (name : Text) : Type 0 where
   pub told : takes_value name ≡ true
 
 valued_schedule : IsValued (codes "schedule")
-valued_schedule = record { rule = _; found = refl; kept = refl; id = refl; takes = refl; most = refl; fault = λ v rows. or_else-nil (repeat_fault false (codes "schedule") rows); gives = λ v rows. refl; none = λ rows. refl; told = refl }
+valued_schedule = record {
+  rule = _;
+  found = refl;
+  kept = refl;
+  id = refl;
+  takes = refl;
+  most = refl;
+  fault = λ v rows. or_else-nil (repeat_fault false (codes "schedule") rows);
+  gives = λ v rows. refl;
+  none =
+      λ rows. refl;
+  told = refl;
+}
 
 valued_turns : IsValued (codes "turns")
-valued_turns = record { rule = _; found = refl; kept = refl; id = refl; takes = refl; most = refl; fault = λ v rows. or_else-nil (repeat_fault false (codes "turns") rows); gives = λ v rows. refl; none = λ rows. refl; told = refl }
+valued_turns = record {
+  rule = _;
+  found = refl;
+  kept = refl;
+  id = refl;
+  takes = refl;
+  most = refl;
+  fault = λ v rows. or_else-nil (repeat_fault false (codes "turns") rows);
+  gives = λ v rows. refl;
+  none =
+      λ rows. refl;
+  told = refl;
+}
 
 valued_every : IsValued (codes "every")
-valued_every = record { rule = _; found = refl; kept = refl; id = refl; takes = refl; most = refl; fault = λ v rows. or_else-nil (repeat_fault false (codes "every") rows); gives = λ v rows. refl; none = λ rows. refl; told = refl }
+valued_every = record {
+  rule = _;
+  found = refl;
+  kept = refl;
+  id = refl;
+  takes = refl;
+  most = refl;
+  fault = λ v rows. or_else-nil (repeat_fault false (codes "every") rows);
+  gives = λ v rows. refl;
+  none =
+      λ rows. refl;
+  told = refl;
+}
 
 valued_markers : IsValued (codes "markers")
-valued_markers = record { rule = _; found = refl; kept = refl; id = refl; takes = refl; most = refl; fault = λ v rows. or_else-nil (repeat_fault false (codes "markers") rows); gives = λ v rows. refl; none = λ rows. refl; told = refl }
+valued_markers = record {
+  rule = _;
+  found = refl;
+  kept = refl;
+  id = refl;
+  takes = refl;
+  most = refl;
+  fault = λ v rows. or_else-nil (repeat_fault false (codes "markers") rows);
+  gives = λ v rows. refl;
+  none =
+      λ rows. refl;
+  told = refl;
+}
 
 valued_threads : IsValued (codes "threads")
-valued_threads = record { rule = _; found = refl; kept = refl; id = refl; takes = refl; most = refl; fault = λ v rows. or_else-nil (repeat_fault false (codes "threads") rows); gives = λ v rows. refl; none = λ rows. refl; told = refl }
+valued_threads = record {
+  rule = _;
+  found = refl;
+  kept = refl;
+  id = refl;
+  takes = refl;
+  most = refl;
+  fault = λ v rows. or_else-nil (repeat_fault false (codes "threads") rows);
+  gives = λ v rows. refl;
+  none =
+      λ rows. refl;
+  told = refl;
+}
 
 pub valued : (name : Text) → takes_value name ≡ true → IsValued name
 valued name e = elim (or_cases (bytes_eq (codes "schedule") name) _ e) [
@@ -127,10 +205,28 @@ pub record IsFlag (name : Text) : Type 0 where
   pub told : is_flag name ≡ true
 
 flag_recover : IsFlag (codes "recover")
-flag_recover = record { rule = _; found = refl; takes = refl; fault = λ rows. or_else-nil (repeat_fault false (codes "recover") rows); gives = λ rows. refl; untold = refl; told = refl }
+flag_recover = record {
+  rule = _;
+  found = refl;
+  takes = refl;
+  fault = λ rows. or_else-nil (repeat_fault false (codes "recover") rows);
+  gives = λ rows. refl;
+  untold = refl;
+  told =
+      refl;
+}
 
 flag_why : IsFlag (codes "why")
-flag_why = record { rule = _; found = refl; takes = refl; fault = λ rows. or_else-nil (repeat_fault false (codes "why") rows); gives = λ rows. refl; untold = refl; told = refl }
+flag_why = record {
+  rule = _;
+  found = refl;
+  takes = refl;
+  fault = λ rows. or_else-nil (repeat_fault false (codes "why") rows);
+  gives = λ rows. refl;
+  untold = refl;
+  told =
+      refl;
+}
 
 pub flagged : (name : Text) → is_flag name ≡ true → IsFlag name
 flagged name e = elim (or_cases (bytes_eq (codes "recover") name) _ e) [
@@ -159,7 +255,8 @@ option_in-long (a ∷ []) e = go (a == 45)
     go false = refl
 option_in-long (a ∷ b ∷ []) e = go (a == 45) e
   where
-    behind : (q : Bool) → (q && true) ≡ false → option_and_then name_behind (cond q (Some []) None) ≡ option_and_then long_of_rest (cond q (Some []) None)
+    behind : (q : Bool) → (q && true) ≡ false
+        → option_and_then name_behind (cond q (Some []) None) ≡ option_and_then long_of_rest (cond q (Some []) None)
     behind true h = absurd (true≢false h)
     behind false h = refl
 
@@ -170,7 +267,8 @@ option_in-long (a ∷ b ∷ []) e = go (a == 45) e
     go false h = refl
 option_in-long (a ∷ b ∷ x ∷ xs) e = go (a == 45)
   where
-    behind : (q : Bool) → option_and_then name_behind (cond q (Some (x ∷ xs)) None) ≡ option_and_then long_of_rest (cond q (Some (x ∷ xs)) None)
+    behind : (q : Bool) → option_and_then name_behind (cond q (Some (x ∷ xs)) None) ≡ option_and_then long_of_rest
+        (cond q (Some (x ∷ xs)) None)
     behind true = refl
     behind false = refl
 
@@ -184,12 +282,14 @@ pub long_hyphen : (word : Text) (p : Text × Option Text) → long_of word ≡ S
 long_hyphen [] p e = absurd (true≢false (sym (ap is_some e)))
 long_hyphen (a ∷ []) p e = go (a == 45) e
   where
-    go : (b : Bool) → option_and_then long_of_rest (option_and_then (strip_byte 45) (cond b (Some []) None)) ≡ Some p → false ≡ true
+    go : (b : Bool) → option_and_then long_of_rest (option_and_then (strip_byte 45) (cond b (Some []) None)) ≡ Some p
+        → false ≡ true
     go true h = ap is_some h
     go false h = ap is_some h
 long_hyphen (a ∷ x ∷ xs) p e = go (a == 45) e
   where
-    go : (b : Bool) → option_and_then long_of_rest (option_and_then (strip_byte 45) (cond b (Some (x ∷ xs)) None)) ≡ Some p → b ≡ true
+    go : (b : Bool) → option_and_then long_of_rest (option_and_then (strip_byte 45) (cond b (Some (x ∷ xs)) None))
+        ≡ Some p → b ≡ true
     go true h = refl
     go false h = ap is_some h
 
@@ -206,7 +306,8 @@ short_hyphen (a ∷ x ∷ xs) flags e = go (a == 45) e
     go true h = refl
     go false h = ap is_some h
 
-pub plain_hyphen : (word : Text) → bytes_eq word (45 ∷ 45 ∷ []) ≡ false → long_of word ≡ None → short_of word ≡ None → begins_with_hyphen word ≡ false
+pub plain_hyphen : (word : Text) → bytes_eq word (45 ∷ 45 ∷ []) ≡ false → long_of word ≡ None → short_of word ≡ None
+    → begins_with_hyphen word ≡ false
 plain_hyphen [] d l s = refl
 plain_hyphen (a ∷ []) d l s = refl
 plain_hyphen (a ∷ x ∷ []) d l s = go (a == 45) d s
@@ -215,16 +316,19 @@ plain_hyphen (a ∷ x ∷ []) d l s = go (a == 45) d s
     behind true h k = h
     behind false h k = ap is_some k
 
-    go : (p : Bool) → (p && ((x == 45) && true)) ≡ false → option_and_then short_of_rest (cond p (Some (x ∷ [])) None) ≡ None → p ≡ false
+    go : (p : Bool) → (p && ((x == 45) && true)) ≡ false
+        → option_and_then short_of_rest (cond p (Some (x ∷ [])) None) ≡ None → p ≡ false
     go true h k = behind (x == 45) h k
     go false h k = refl
 plain_hyphen (a ∷ x ∷ y ∷ ys) d l s = go (a == 45) l s
   where
-    behind : (q : Bool) → option_and_then long_of_rest (cond q (Some (y ∷ ys)) None) ≡ None → cond q None (Some (x ∷ y ∷ ys)) ≡ None → true ≡ false
+    behind : (q : Bool) → option_and_then long_of_rest (cond q (Some (y ∷ ys)) None) ≡ None
+        → cond q None (Some (x ∷ y ∷ ys)) ≡ None → true ≡ false
     behind true h k = ap is_some h
     behind false h k = ap is_some k
 
-    go : (p : Bool) → option_and_then long_of_rest (option_and_then (strip_byte 45) (cond p (Some (x ∷ y ∷ ys)) None)) ≡ None
+    go : (p : Bool) → option_and_then long_of_rest (option_and_then (strip_byte 45) (cond p (Some (x ∷ y ∷ ys)) None))
+        ≡ None
         → option_and_then short_of_rest (cond p (Some (x ∷ y ∷ ys)) None) ≡ None → p ≡ false
     go true h k = behind (x == 45) h k
     go false h k = refl

@@ -1,7 +1,9 @@
 -- What the rows of a run line say of its settings.
 -- For: `parse`, src/reading.rt; `run_of`, specs/Words.antt
 -- By: induction over the list of uses and over the list of rows
-use Rattle.std.proofs.Common.{◌≡◌, ◌∙◌, ◌||◌, ◌++◌, ℕ, Bool, cond, true, false, refl, sym, ap, ap₂, List, [], ◌∷◌, map, drop, Option, Some, None, option_map, option_and_then, fold, is_some, find, bytes_eq, slice_get, codes, true≢false}
+use Rattle.std.proofs.Common.{◌≡◌, ◌∙◌, ◌||◌, ◌++◌, ℕ, Bool, cond, true, false, refl, sym, ap, ap₂, List, [], ◌∷◌, map}
+use Rattle.std.proofs.Common.{drop, Option, Some, None, option_map, option_and_then, fold, is_some, find, bytes_eq}
+use Rattle.std.proofs.Common.{slice_get, codes, true≢false}
 use Rattle.std.specs.List.{AllByRecursion}
 use Rattle.std.specs.Option.{option_or}
 use Rattle.std.proofs.lemmas.Bool.{or_parts}
@@ -12,7 +14,9 @@ use Rattle.clap.specs.declared.builder.value_parser.Reading.TheVariants.{AsWritt
 use Rattle.golf_run_schedules.specs.Options.{most_turns}
 use Rattle.golf_run_schedules.specs.declared.schedule.Schedule.{Schedule}
 use Rattle.golf_command_words.specs.Values.{Text, number_within, schedule_of}
-use Rattle.golf_command_words.specs.Words.{Use, default_turns, every_in, has_others, is_used, markers_in, run_by_options, run_by_threads, run_of, schedule_in, setting, takes_value, threads_by, turns_in, value_in}
+use Rattle.golf_command_words.specs.Words.{Use, default_turns, every_in, has_others, is_used, markers_in}
+use Rattle.golf_command_words.specs.Words.{run_by_options, run_by_threads, run_of, schedule_in, setting, takes_value}
+use Rattle.golf_command_words.specs.Words.{threads_by, turns_in, value_in}
 use Rattle.golf_command_words.specs.Splitting.{every_or_none, is_true, options_by, others_in, run_by, with_threads}
 use Rattle.golf_command_words.specs.declared.line.CommandLine.{CommandLine}
 use Rattle.golf_command_words.proofs.Runs.{at_no_row, has_row-used, row, rules, same_text, value_of}
@@ -22,7 +26,13 @@ abbrev pub IsTold : Use → Type 0
 IsTold u = is_some u.1 ≡ takes_value u.0
 
 abbrev by_default : Text → Row
-by_default flag = record { id = flag; values = codes "false" ∷ []; count = None; source = Some DefaultValue; reading = AsWritten }
+by_default flag = record {
+  id = flag;
+  values = codes "false" ∷ [];
+  count = None;
+  source = Some DefaultValue;
+  reading = AsWritten;
+}
 
 -- an option without a value has its default if it was not used
 abbrev with_flag : Text → List Row → List Row
@@ -53,22 +63,26 @@ untold_value : (value : Option Text) → is_some value ≡ false → bytes_eq (v
 untold_value None e = refl
 untold_value (Some text) e = absurd (true≢false e)
 
-found_value : (us : List Use) (name : Text) → AllByRecursion IsTold us → takes_value name ≡ true → first_of name (map row us) ≡ value_in us name
+found_value : (us : List Use) (name : Text) → AllByRecursion IsTold us → takes_value name ≡ true
+    → first_of name (map row us) ≡ value_in us name
 found_value [] name told takes = refl
 found_value (u ∷ us) name told takes = go (bytes_eq u.0 name) refl (found_value us name told.1 takes)
   where
     go : (b : Bool) → bytes_eq u.0 name ≡ b → first_of name (map row us) ≡ value_in us name
-        → option_and_then (λ (r : Row). slice_get r.values 0) (cond b (Some (row u)) (find (λ (r : Row). bytes_eq r.id name) (map row us)))
+        → option_and_then (λ (r : Row). slice_get r.values 0)
+        (cond b (Some (row u)) (find (λ (r : Row). bytes_eq r.id name) (map row us)))
         ≡ option_and_then (λ (v : Use). v.1) (cond b (Some u) (find (λ (v : Use). bytes_eq v.0 name) us))
     go true e more = told_value u.1 (told.0 ∙ ap takes_value (same_text u.0 name e) ∙ takes)
     go false e more = more
 
-found_flag : (us : List Use) (flag : Text) → takes_value flag ≡ false → AllByRecursion IsTold us → is_true (first_of flag (map row us)) ≡ is_used us flag
+found_flag : (us : List Use) (flag : Text) → takes_value flag ≡ false → AllByRecursion IsTold us
+    → is_true (first_of flag (map row us)) ≡ is_used us flag
 found_flag [] flag takes told = refl
 found_flag (u ∷ us) flag takes told = go (bytes_eq u.0 flag) refl (found_flag us flag takes told.1)
   where
     go : (b : Bool) → bytes_eq u.0 flag ≡ b → is_true (first_of flag (map row us)) ≡ is_used us flag
-        → is_true (option_and_then (λ (r : Row). slice_get r.values 0) (cond b (Some (row u)) (find (λ (r : Row). bytes_eq r.id flag) (map row us))))
+        → is_true (option_and_then (λ (r : Row). slice_get r.values 0)
+        (cond b (Some (row u)) (find (λ (r : Row). bytes_eq r.id flag) (map row us))))
         ≡ (b || is_used us flag)
     go true e more = untold_value u.1 (told.0 ∙ ap takes_value (same_text u.0 flag e) ∙ takes)
     go false e more = more
@@ -88,34 +102,46 @@ added : (flag : Text) (rows : List Row) → has_row flag rows ≡ false
 added flag rows e = at_no_row flag (more_values DefaultValue (codes "false" ∷ [])) (by_default flag ∷ []) rows e
 
 -- the default of an option is no row of another one
-other_first : (flag id : Text) (rows : List Row) → bytes_eq flag id ≡ false → first_of id (with_flag flag rows) ≡ first_of id rows
+other_first : (flag id : Text) (rows : List Row) → bytes_eq flag id ≡ false
+    → first_of id (with_flag flag rows) ≡ first_of id rows
 other_first flag id rows other = go (has_row flag rows) refl
   where
     go : (b : Bool) → has_row flag rows ≡ b
-        → first_of id (cond b rows (with_values flag AsWritten DefaultValue (codes "false" ∷ []) rows)) ≡ first_of id rows
+        → first_of id (cond b rows (with_values flag AsWritten DefaultValue (codes "false" ∷ []) rows))
+        ≡ first_of id rows
     go true e = refl
     go false e =
-        let last : option_or (find (λ (r : Row). bytes_eq r.id id) rows) (find (λ (r : Row). bytes_eq r.id id) (by_default flag ∷ [])) ≡ find (λ (r : Row). bytes_eq r.id id) rows
-        = ap (λ b. option_or (find (λ (r : Row). bytes_eq r.id id) rows) (cond b (Some (by_default flag)) None)) other ∙ or_none (find (λ (r : Row). bytes_eq r.id id) rows) in
+        let last : option_or (find (λ (r : Row). bytes_eq r.id id) rows)
+        (find (λ (r : Row). bytes_eq r.id id) (by_default flag ∷ [])) ≡ find (λ (r : Row). bytes_eq r.id id) rows
+        = ap (λ b. option_or (find (λ (r : Row). bytes_eq r.id id) rows) (cond b (Some (by_default flag)) None)) other
+        ∙ or_none (find (λ (r : Row). bytes_eq r.id id) rows) in
         ap (first_of id) (added flag rows e)
-        ∙ ap (option_and_then (λ (r : Row). slice_get r.values 0)) (find-append (λ (r : Row). bytes_eq r.id id) rows (by_default flag ∷ []) ∙ last)
+        ∙ ap (option_and_then (λ (r : Row). slice_get r.values 0))
+        (find-append (λ (r : Row). bytes_eq r.id id) rows (by_default flag ∷ []) ∙ last)
 
-has_last : (id : Text) (rows : List Row) (last : Row) → bytes_eq last.id id ≡ false → has_row id (rows ++ last ∷ []) ≡ has_row id rows
+has_last : (id : Text) (rows : List Row) (last : Row) → bytes_eq last.id id ≡ false
+    → has_row id (rows ++ last ∷ []) ≡ has_row id rows
 has_last id [] last e = ap (λ b. b || false) e
 has_last id (r ∷ rs) last e = ap (λ b. bytes_eq r.id id || b) (has_last id rs last e)
 
-other_has : (flag id : Text) (rows : List Row) → bytes_eq flag id ≡ false → has_row id (with_flag flag rows) ≡ has_row id rows
+other_has : (flag id : Text) (rows : List Row) → bytes_eq flag id ≡ false
+    → has_row id (with_flag flag rows) ≡ has_row id rows
 other_has flag id rows other = go (has_row flag rows) refl
   where
-    go : (b : Bool) → has_row flag rows ≡ b → has_row id (cond b rows (with_values flag AsWritten DefaultValue (codes "false" ∷ []) rows)) ≡ has_row id rows
+    go : (b : Bool) → has_row flag rows ≡ b
+        → has_row id (cond b rows (with_values flag AsWritten DefaultValue (codes "false" ∷ []) rows)) ≡ has_row id rows
     go true e = refl
     go false e = ap (has_row id) (added flag rows e) ∙ has_last id rows (by_default flag) other
 
 -- what is found for an option without a value: whether it was used
-flag_first : (flag : Text) (rows : List Row) (used : Bool) → bytes_eq flag flag ≡ true → has_row flag rows ≡ used → is_true (first_of flag rows) ≡ used → is_true (first_of flag (with_flag flag rows)) ≡ used
-flag_first flag rows true self has found = ap (λ b. is_true (first_of flag (cond b rows (with_values flag AsWritten DefaultValue (codes "false" ∷ []) rows)))) has ∙ found
+flag_first : (flag : Text) (rows : List Row) (used : Bool) → bytes_eq flag flag ≡ true → has_row flag rows ≡ used
+    → is_true (first_of flag rows) ≡ used → is_true (first_of flag (with_flag flag rows)) ≡ used
+flag_first flag rows true self has found =
+    ap (λ b. is_true (first_of flag (cond b rows (with_values flag AsWritten DefaultValue (codes "false" ∷ []) rows))))
+    has ∙ found
 flag_first flag rows false self has found =
-    ap (λ b. is_true (first_of flag (cond b rows (with_values flag AsWritten DefaultValue (codes "false" ∷ []) rows)))) has
+    ap (λ b. is_true (first_of flag (cond b rows (with_values flag AsWritten DefaultValue (codes "false" ∷ []) rows))))
+    has
     ∙ ap (λ rs. is_true (first_of flag rs)) (added flag rows has)
     ∙ ap (λ o. is_true (option_and_then (λ (r : Row). slice_get r.values 0) o))
     (find-append (λ (r : Row). bytes_eq r.id flag) rows (by_default flag ∷ [])
@@ -128,12 +154,39 @@ by_values schedule turns every markers recover why =
     option_and_then (λ turns_read.
     option_and_then (λ every_read.
     option_and_then (λ markers_read.
-    option_map (λ schedule_read. CommandLine.Run (record { schedule = schedule_read; turns = turns_read; every = every_read; markers = markers_read; recover = recover; why = why }))
-    (setting schedule Schedule.Rotate schedule_of)) (setting markers 1 (number_within 1 16))) (every_or_none every)) (setting turns default_turns (number_within 1 most_turns))
+    option_map (λ schedule_read. CommandLine.Run
+    (record {
+      schedule = schedule_read;
+      turns = turns_read;
+      every = every_read;
+      markers = markers_read;
+      recover = recover;
+      why = why;
+    }))
+    (setting schedule Schedule.Rotate schedule_of)) (setting markers 1 (number_within 1 16))) (every_or_none every))
+    (setting turns default_turns (number_within 1 most_turns))
 
 in_any_order : (s : Option Schedule) (t : Option ℕ) (e : Option (Option ℕ)) (m : Option ℕ) (recover why : Bool)
-    → option_and_then (λ turns. option_and_then (λ every. option_and_then (λ markers. option_map (λ schedule. CommandLine.Run (record { schedule = schedule; turns = turns; every = every; markers = markers; recover = recover; why = why })) s) m) e) t
-    ≡ option_and_then (λ schedule. option_and_then (λ turns. option_and_then (λ every. option_map (λ markers. CommandLine.Run (record { schedule = schedule; turns = turns; every = every; markers = markers; recover = recover; why = why })) m) e) t) s
+    → option_and_then (λ turns. option_and_then
+    (λ every. option_and_then (λ markers. option_map
+    (λ schedule. CommandLine.Run (record {
+      schedule = schedule;
+      turns = turns;
+      every = every;
+      markers = markers;
+      recover = recover;
+      why = why;
+    })) s) m) e) t
+    ≡ option_and_then (λ schedule. option_and_then
+    (λ turns. option_and_then (λ every. option_map
+    (λ markers. CommandLine.Run (record {
+      schedule = schedule;
+      turns = turns;
+      every = every;
+      markers = markers;
+      recover = recover;
+      why = why;
+    })) m) e) t) s
 in_any_order (Some s) (Some t) (Some e) (Some m) recover why = refl
 in_any_order None None e m recover why = refl
 in_any_order None (Some t) None m recover why = refl
@@ -148,38 +201,56 @@ module _ (us : List Use) (told : AllByRecursion IsTold us) where
   abbrev rows_of_uses : List Row
   rows_of_uses = with_flags (map row us)
 
-  value : (name : Text) → takes_value name ≡ true → bytes_eq (codes "recover") name ≡ false → bytes_eq (codes "why") name ≡ false → first_of name rows_of_uses ≡ value_in us name
+  value : (name : Text) → takes_value name ≡ true → bytes_eq (codes "recover") name ≡ false
+      → bytes_eq (codes "why") name ≡ false → first_of name rows_of_uses ≡ value_in us name
   value name takes other another =
-      other_first (codes "why") name (with_flag (codes "recover") (map row us)) another ∙ other_first (codes "recover") name (map row us) other ∙ found_value us name told takes
+      other_first (codes "why") name (with_flag (codes "recover") (map row us)) another
+      ∙ other_first (codes "recover") name (map row us) other ∙ found_value us name told takes
 
   recover_is : is_true (first_of (codes "recover") rows_of_uses) ≡ is_used us (codes "recover")
   recover_is =
       ap is_true (other_first (codes "why") (codes "recover") (with_flag (codes "recover") (map row us)) refl)
-      ∙ flag_first (codes "recover") (map row us) (is_used us (codes "recover")) refl (has_row-used us (codes "recover")) (found_flag us (codes "recover") refl told)
+      ∙ flag_first (codes "recover") (map row us) (is_used us (codes "recover")) refl
+      (has_row-used us (codes "recover")) (found_flag us (codes "recover") refl told)
 
   why_is : is_true (first_of (codes "why") rows_of_uses) ≡ is_used us (codes "why")
   why_is =
       flag_first (codes "why") (with_flag (codes "recover") (map row us)) (is_used us (codes "why")) refl
       (other_has (codes "recover") (codes "why") (map row us) refl ∙ has_row-used us (codes "why"))
-      (ap is_true (other_first (codes "recover") (codes "why") (map row us) refl) ∙ found_flag us (codes "why") refl told)
+      (ap is_true (other_first (codes "recover") (codes "why") (map row us) refl)
+      ∙ found_flag us (codes "why") refl told)
 
   -- what is made of the rows is made of the uses
   by_uses : {X : Type 0} (f : Option Text → Option Text → Option Text → Option Text → Bool → Bool → X)
-      → f (first_of (codes "schedule") rows_of_uses) (first_of (codes "turns") rows_of_uses) (first_of (codes "every") rows_of_uses) (first_of (codes "markers") rows_of_uses) (is_true (first_of (codes "recover") rows_of_uses)) (is_true (first_of (codes "why") rows_of_uses))
-      ≡ f (value_in us (codes "schedule")) (value_in us (codes "turns")) (value_in us (codes "every")) (value_in us (codes "markers")) (is_used us (codes "recover")) (is_used us (codes "why"))
+      → f (first_of (codes "schedule") rows_of_uses) (first_of (codes "turns") rows_of_uses)
+      (first_of (codes "every") rows_of_uses) (first_of (codes "markers") rows_of_uses)
+      (is_true (first_of (codes "recover") rows_of_uses)) (is_true (first_of (codes "why") rows_of_uses))
+      ≡ f (value_in us (codes "schedule")) (value_in us (codes "turns")) (value_in us (codes "every"))
+      (value_in us (codes "markers")) (is_used us (codes "recover")) (is_used us (codes "why"))
   by_uses f =
       let rows = rows_of_uses in
-      ap (λ o. f o (first_of (codes "turns") rows) (first_of (codes "every") rows) (first_of (codes "markers") rows) (is_true (first_of (codes "recover") rows)) (is_true (first_of (codes "why") rows))) (value (codes "schedule") refl refl refl)
-      ∙ ap (λ o. f (value_in us (codes "schedule")) o (first_of (codes "every") rows) (first_of (codes "markers") rows) (is_true (first_of (codes "recover") rows)) (is_true (first_of (codes "why") rows))) (value (codes "turns") refl refl refl)
-      ∙ ap (λ o. f (value_in us (codes "schedule")) (value_in us (codes "turns")) o (first_of (codes "markers") rows) (is_true (first_of (codes "recover") rows)) (is_true (first_of (codes "why") rows))) (value (codes "every") refl refl refl)
-      ∙ ap (λ o. f (value_in us (codes "schedule")) (value_in us (codes "turns")) (value_in us (codes "every")) o (is_true (first_of (codes "recover") rows)) (is_true (first_of (codes "why") rows))) (value (codes "markers") refl refl refl)
-      ∙ ap₂ (λ b c. f (value_in us (codes "schedule")) (value_in us (codes "turns")) (value_in us (codes "every")) (value_in us (codes "markers")) b c) recover_is why_is
+      ap (λ o. f o (first_of (codes "turns") rows) (first_of (codes "every") rows) (first_of (codes "markers") rows)
+      (is_true (first_of (codes "recover") rows)) (is_true (first_of (codes "why") rows)))
+      (value (codes "schedule") refl refl refl)
+      ∙ ap (λ o. f (value_in us (codes "schedule")) o (first_of (codes "every") rows) (first_of (codes "markers") rows)
+      (is_true (first_of (codes "recover") rows)) (is_true (first_of (codes "why") rows)))
+      (value (codes "turns") refl refl refl)
+      ∙ ap (λ o. f (value_in us (codes "schedule")) (value_in us (codes "turns")) o (first_of (codes "markers") rows)
+      (is_true (first_of (codes "recover") rows)) (is_true (first_of (codes "why") rows)))
+      (value (codes "every") refl refl refl)
+      ∙ ap (λ o. f (value_in us (codes "schedule")) (value_in us (codes "turns")) (value_in us (codes "every")) o
+      (is_true (first_of (codes "recover") rows)) (is_true (first_of (codes "why") rows)))
+      (value (codes "markers") refl refl refl)
+      ∙ ap₂ (λ b c. f (value_in us (codes "schedule")) (value_in us (codes "turns")) (value_in us (codes "every"))
+      (value_in us (codes "markers")) b c) recover_is why_is
 
   options_are : options_by rows_of_uses ≡ run_by_options us
-  options_are = by_uses by_values ∙ in_any_order (schedule_in us) (turns_in us) (every_in us) (markers_in us) (is_used us (codes "recover")) (is_used us (codes "why"))
+  options_are = by_uses by_values ∙ in_any_order (schedule_in us) (turns_in us) (every_in us) (markers_in us)
+      (is_used us (codes "recover")) (is_used us (codes "why"))
 
   abbrev any_other : Option Text → Option Text → Option Text → Option Text → Bool → Bool → Bool
-  any_other schedule turns every markers recover why = is_some schedule || (is_some turns || (is_some every || (is_some markers || (recover || why))))
+  any_other schedule turns every markers recover why = is_some schedule
+      || (is_some turns || (is_some every || (is_some markers || (recover || why))))
 
   others_are : others_in rows_of_uses ≡ has_others us
   others_are = by_uses any_other

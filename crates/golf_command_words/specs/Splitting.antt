@@ -1,5 +1,6 @@
 -- What the words come to once they are split: the program's commands, as `clap` sees them.
-use Rattle.std.specs.Prelude.{ℕ, ◌||◌, Bool, true, false, if◌then◌else◌, List, [], ◌∷◌, Option, Some, None, is_some, option_and_then, option_map, codes, bytes_eq}
+use Rattle.std.specs.Prelude.{ℕ, ◌||◌, Bool, true, false, if◌then◌else◌, List, [], ◌∷◌, Option, Some, None, is_some}
+use Rattle.std.specs.Prelude.{option_and_then, option_map, codes, bytes_eq}
 use Rattle.clap.specs.Walk.{Row, Rule, first_of}
 use Rattle.clap.specs.Kinds.{Kinds}
 use Rattle.clap.specs.Simple.{App, new_app, new_rule, on_top, subcommand_of, with_rule, with_subcommand}
@@ -25,7 +26,8 @@ positional name = record (new_rule name) { action = Some Set }
 abbrev pub run_app : App
 run_app =
     with_rule (with_rule (with_rule (with_rule (with_rule (with_rule (with_rule (new_app (codes "run"))
-    (valued (codes "schedule"))) (valued (codes "turns"))) (valued (codes "every"))) (valued (codes "markers"))) (valued (codes "threads"))) (flag (codes "recover"))) (flag (codes "why"))
+    (valued (codes "schedule"))) (valued (codes "turns"))) (valued (codes "every"))) (valued (codes "markers")))
+    (valued (codes "threads"))) (flag (codes "recover"))) (flag (codes "why"))
 
 abbrev pub generate_app : App
 generate_app = with_rule (new_app (codes "generate")) (positional (codes "number"))
@@ -42,7 +44,8 @@ program_app = on_top (λ s. record s { disable_help_subcommand = true; disable_v
 abbrev pub golf_app : App
 golf_app = with_subcommand (with_subcommand (with_subcommand program_app run_app.top) generate_app.top) meaning_app.top
 
--- the subcommand that the words name, with what was found for its arguments; none exactly if `clap` names a fault, or no subcommand
+-- the subcommand that the words name, with what was found for its arguments; none exactly if `clap` names a fault, or
+-- no subcommand
 abbrev pub unless_fault : {X : Type 0} → Kinds → Option X → Option X
 unless_fault [] found = found
 unless_fault (k ∷ ks) found = None
@@ -64,7 +67,15 @@ options_by rows =
     option_and_then (λ turns.
     option_and_then (λ every.
     option_and_then (λ markers.
-    option_map (λ schedule. CommandLine.Run (record { schedule = schedule; turns = turns; every = every; markers = markers; recover = is_true (first_of (codes "recover") rows); why = is_true (first_of (codes "why") rows) }))
+    option_map (λ schedule. CommandLine.Run
+    (record {
+      schedule = schedule;
+      turns = turns;
+      every = every;
+      markers = markers;
+      recover = is_true (first_of (codes "recover") rows);
+      why = is_true (first_of (codes "why") rows);
+    }))
     (setting (first_of (codes "schedule") rows) Schedule.Rotate schedule_of))
     (setting (first_of (codes "markers") rows) 1 (number_within 1 16)))
     (every_or_none (first_of (codes "every") rows)))
@@ -72,7 +83,11 @@ options_by rows =
 
 abbrev pub others_in : List Row → Bool
 others_in rows =
-    is_some (first_of (codes "schedule") rows) || (is_some (first_of (codes "turns") rows) || (is_some (first_of (codes "every") rows) || (is_some (first_of (codes "markers") rows) || (is_true (first_of (codes "recover") rows) || is_true (first_of (codes "why") rows)))))
+    is_some (first_of (codes "schedule") rows)
+    || (is_some (first_of (codes "turns") rows)
+    || (is_some (first_of (codes "every") rows)
+    || (is_some (first_of (codes "markers") rows)
+    || (is_true (first_of (codes "recover") rows) || is_true (first_of (codes "why") rows)))))
 
 abbrev pub with_threads : Option Text → List Row → Option CommandLine
 with_threads None rows = options_by rows
@@ -83,7 +98,8 @@ run_by rows = with_threads (first_of (codes "threads") rows) rows
 
 abbrev pub generate_by : List Row → Option CommandLine
 generate_by rows =
-    option_and_then (λ text. option_map (λ n. CommandLine.Generate n) (number_within 1 most_parts text)) (first_of (codes "number") rows)
+    option_and_then (λ text. option_map (λ n. CommandLine.Generate n) (number_within 1 most_parts text))
+    (first_of (codes "number") rows)
 
 abbrev pub line_by : Option (Text × List Row) → Option CommandLine
 line_by None = None

@@ -1,5 +1,7 @@
 -- The values of options: numbers and schedules (profile).
-use Rattle.std.specs.Prelude.{◌≡◌, ◌++◌, ℕ, zero, suc, ◌+◌, ◌-◌, ◌*◌, ◌^◌, ◌&&◌, ◌==◌, Bool, true, false, if◌then◌else◌, List, [], ◌∷◌, length, Option, Some, None, option_and_then, option_map, nat_lt, nat_le, codes, bytes_eq}
+use Rattle.std.specs.Prelude.{◌≡◌, ◌++◌, ℕ, zero, suc, ◌+◌, ◌-◌, ◌*◌, ◌^◌, ◌&&◌, ◌==◌, Bool, true, false, if◌then◌else◌}
+use Rattle.std.specs.Prelude.{List, [], ◌∷◌, length, Option, Some, None, option_and_then, option_map, nat_lt, nat_le}
+use Rattle.std.specs.Prelude.{codes, bytes_eq}
 use Rattle.std.specs.List.{position_or_len, before_first, after_first}
 use Rattle.golf_run_schedules.specs.declared.schedule.Schedule.{Schedule}
 
@@ -54,7 +56,8 @@ abbrev pub schedule_with : Option (Text × Text) → Text → Option Schedule
 schedule_with None text = if bytes_eq (codes "rotate") text then Some Schedule.Rotate else None
 schedule_with (Some parts) text =
     if bytes_eq (codes "seed") parts.0 then option_map (λ n. Schedule.Seed n) (number_of parts.1)
-    else (if bytes_eq (codes "choices") parts.0 then option_map (λ ns. Schedule.Choices ns) (numbers_of most_choices parts.1)
+    else (if bytes_eq (codes "choices") parts.0 then option_map (λ ns. Schedule.Choices ns)
+    (numbers_of most_choices parts.1)
     else None)
 
 -- `rotate`, `seed:N` or `choices:N,N,..`

@@ -1,5 +1,6 @@
 -- The words after the program's name, and the line that they stand for (profile).
-use Rattle.std.specs.Prelude.{ℕ, ◌≤◌, ◌++◌, ◌&&◌, ◌||◌, ◌==◌, Bool, true, false, if◌then◌else◌, List, [], ◌∷◌, find, Option, Some, None, is_some, option_and_then, option_map, codes, bytes_eq}
+use Rattle.std.specs.Prelude.{ℕ, ◌≤◌, ◌++◌, ◌&&◌, ◌||◌, ◌==◌, Bool, true, false, if◌then◌else◌, List, [], ◌∷◌, find}
+use Rattle.std.specs.Prelude.{Option, Some, None, is_some, option_and_then, option_map, codes, bytes_eq}
 use Rattle.std.specs.List.{list_any, before_first, after_first}
 use Rattle.golf_command_words.specs.Values.{Text, number_within, schedule_of}
 use Rattle.golf_command_sample.specs.File.{most_parts}
@@ -15,7 +16,8 @@ Use = Text × Option Text
 
 abbrev pub takes_value : Text → Bool
 takes_value name =
-    bytes_eq (codes "schedule") name || (bytes_eq (codes "turns") name || (bytes_eq (codes "every") name || (bytes_eq (codes "markers") name || bytes_eq (codes "threads") name)))
+    bytes_eq (codes "schedule") name || (bytes_eq (codes "turns") name
+    || (bytes_eq (codes "every") name || (bytes_eq (codes "markers") name || bytes_eq (codes "threads") name)))
 
 -- an option without a value
 abbrev pub is_flag : Text → Bool
@@ -38,7 +40,10 @@ second_is_hyphen a b rest = if a == 45 && b == 45 then Some rest else None
 
 -- `--name`, or `--name=value`
 abbrev pub name_behind : Text → Option (Text × Option Text)
-name_behind rest = Some (before_first (λ x. x == 61) rest, if list_any (λ x. x == 61) rest then Some (after_first (λ x. x == 61) rest) else None)
+name_behind rest = Some (
+  before_first (λ x. x == 61) rest,
+  if list_any (λ x. x == 61) rest then Some (after_first (λ x. x == 61) rest) else None,
+)
 
 abbrev pub option_in : Text → Option (Text × Option Text)
 option_in (a ∷ b ∷ rest) = option_and_then name_behind (second_is_hyphen a b rest)
@@ -102,7 +107,15 @@ run_by_options us =
     option_and_then (λ schedule.
     option_and_then (λ turns.
     option_and_then (λ every.
-    option_map (λ markers. CommandLine.Run (record { schedule = schedule; turns = turns; every = every; markers = markers; recover = is_used us (codes "recover"); why = is_used us (codes "why") }))
+    option_map (λ markers. CommandLine.Run
+    (record {
+      schedule = schedule;
+      turns = turns;
+      every = every;
+      markers = markers;
+      recover = is_used us (codes "recover");
+      why = is_used us (codes "why");
+    }))
     (markers_in us)) (every_in us)) (turns_in us)) (schedule_in us)
 
 -- ---- a run by threads
@@ -110,7 +123,10 @@ run_by_options us =
 -- an option other than `--threads` is used
 abbrev pub has_others : List Use → Bool
 has_others us =
-    is_some (value_in us (codes "schedule")) || (is_some (value_in us (codes "turns")) || (is_some (value_in us (codes "every")) || (is_some (value_in us (codes "markers")) || (is_used us (codes "recover") || is_used us (codes "why")))))
+    is_some (value_in us (codes "schedule"))
+    || (is_some (value_in us (codes "turns"))
+    || (is_some (value_in us (codes "every"))
+    || (is_some (value_in us (codes "markers")) || (is_used us (codes "recover") || is_used us (codes "why")))))
 
 -- so many threads, and no other option
 abbrev pub threads_by : Bool → Text → Option CommandLine
@@ -129,11 +145,13 @@ run_of us = run_by_threads (value_in us (codes "threads")) us
 -- N, with one `--` right before or after it
 abbrev pub number_word : List Text → Option Text
 number_word (a ∷ []) = Some a
-number_word (a ∷ b ∷ []) = if bytes_eq a (codes "--") then Some b else (if bytes_eq b (codes "--") then Some a else None)
+number_word (a ∷ b ∷ []) = if bytes_eq a (codes "--") then Some b else
+    (if bytes_eq b (codes "--") then Some a else None)
 number_word _ = None
 
 abbrev pub generate_of : List Text → Option CommandLine
-generate_of words = option_and_then (λ n. option_map (λ number. CommandLine.Generate number) (number_within 1 most_parts n)) (number_word words)
+generate_of words = option_and_then (λ n. option_map (λ number. CommandLine.Generate number)
+    (number_within 1 most_parts n)) (number_word words)
 
 -- nothing, or one `--`
 abbrev pub meaning_of : List Text → Option CommandLine

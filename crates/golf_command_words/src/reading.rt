@@ -3,9 +3,10 @@
 ghost use Rattle.std.specs.Prelude.{◌≡◌, IfOk, IfSome, map, option_map, string_bytes};
 ghost use Rattle.clap.specs.Words.{found_of, rows_of};
 ghost use Rattle.clap.specs.Walk.{first_of};
-ghost use Rattle.golf_command_words.specs.Values.{number_within as number_between, schedule_of};
+ghost use Rattle.golf_command_words.specs.Values.{number_within as number_within_of, schedule_of};
 ghost use Rattle.golf_command_words.specs.Words.{line_of, setting, threads_by, IsWithin};
-ghost use Rattle.golf_command_words.specs.Splitting.{every_or_none, generate_by, is_true as is_text_true, line_by, options_by, others_in, run_by, split_of};
+ghost use Rattle.golf_command_words.specs.Splitting.{every_or_none, generate_by, is_true as is_true_of, line_by};
+ghost use Rattle.golf_command_words.specs.Splitting.{options_by, others_in, run_by, split_of};
 
 use crate::line::CommandLine;
 use crate::splitting::split;
@@ -27,7 +28,7 @@ fn value<'a>(matches: &ArgMatches<'a>, name: &str) -> Option<&'a str>
 }
 
 fn is_true(value: Option<&str>) -> bool
-    ensures { result ≡ is_text_true (option_map (λ text. text.now) value.entry) }
+    ensures { result ≡ is_true_of (option_map (λ text. text.now) value.entry) }
 {
     match value {
         Some(text) => text == "true",
@@ -37,7 +38,7 @@ fn is_true(value: Option<&str>) -> bool
 
 // The value of an option that is a number from 1 to `most`, or `default` without it.
 fn number_or(value: Option<&str>, default: u32, most: u32) -> Option<u32>
-    ensures { result ≡ setting (option_map (λ text. text.now) value.entry) default (number_between 1 most) }
+    ensures { result ≡ setting (option_map (λ text. text.now) value.entry) default (number_within_of 1 most) }
 {
     match value {
         Some(text) => number_within(1, most, text),

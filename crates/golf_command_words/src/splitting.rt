@@ -4,7 +4,9 @@ ghost use Rattle.std.specs.Prelude.{◌≡◌, IfOk, false, map, option_and_then
 ghost use Rattle.clap.specs.declared.builder.Command.TheViews.{out-Command};
 ghost use Rattle.clap.specs.Walk.{rule_of};
 ghost use Rattle.clap.specs.Simple.{app_of, subcommand_rows_of, with_rule};
-ghost use Rattle.golf_command_words.specs.Splitting.{flag as flag_rule, generate_app, golf_app, meaning_app, nameless_app, positional as positional_rule, program_app, run_app, split_of, valued};
+ghost use Rattle.golf_command_words.specs.Splitting.{flag as flag_of, generate_app, golf_app, meaning_app};
+ghost use Rattle.golf_command_words.specs.Splitting.{nameless_app, positional as positional_of, program_app, run_app};
+ghost use Rattle.golf_command_words.specs.Splitting.{split_of, valued};
 
 use clap::error::ErrorKind;
 use clap::{Arg, ArgAction, ArgMatches, Command};
@@ -21,14 +23,14 @@ fn option<'a>(alloc: Global, name: &'a str) -> Arg<'a>
 
 // An option without one.
 fn flag<'a>(alloc: Global, name: &'a str) -> Arg<'a>
-    ensures rule { rule_of result ≡ flag_rule name.now }
+    ensures rule { rule_of result ≡ flag_of name.now }
     ensures local { result.global ≡ false }
 {
     Arg::new(alloc, name).long(name).action(ArgAction::SetTrue)
 }
 
 fn positional<'a>(alloc: Global, name: &'a str) -> Arg<'a>
-    ensures rule { rule_of result ≡ positional_rule name.now }
+    ensures rule { rule_of result ≡ positional_of name.now }
     ensures local { result.global ≡ false }
 {
     Arg::new(alloc, name).action(ArgAction::Set)

@@ -1,7 +1,8 @@
 //! The values of options.
 
 ghost use Rattle.std.specs.Prelude.{◌≡◌, ◌∷◌, [], option_map, IfOk};
-ghost use Rattle.golf_command_words.specs.Values.{cut, digits_after as digits_behind, Gains, number_of, most_choices, number_within as number_between, numbers_of, schedule_of};
+ghost use Rattle.golf_command_words.specs.Values.{cut, digits_after as digits_after_of, Gains, number_of, most_choices};
+ghost use Rattle.golf_command_words.specs.Values.{number_within as number_within_of, numbers_of, schedule_of};
 
 use golf_base::{List, Memory};
 use golf_run_schedules::Schedule;
@@ -12,7 +13,7 @@ const MOST_CHOICES: u32 = 4_096;
 
 // The number that digits write after those of `number`.
 fn digits_after(number: u64, text: &[u8]) -> Option<u64>
-    ensures { result ≡ digits_behind number text.now }
+    ensures { result ≡ digits_after_of number text.now }
 {
     let Some((digit, rest)) = text.split_first() else {
         return Some(number);
@@ -37,7 +38,7 @@ fn number(text: &str) -> Option<u64>
 
 /// A number from `least` to `most`.
 pub(crate) fn number_within(least: u32, most: u32, text: &str) -> Option<u32>
-    ensures { result ≡ number_between least most text.now }
+    ensures { result ≡ number_within_of least most text.now }
 {
     let number = number(text)?;
     if u64::from(least) <= number && number <= u64::from(most) {

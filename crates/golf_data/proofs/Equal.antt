@@ -1,7 +1,8 @@
 -- What derived equality says.
 -- For: `is`, `have_same_choice`, `same_lines`, src/equality.rt
 -- By: cases of the two values that are compared; no induction
-use Rattle.std.proofs.Common.{◌≡◌, ℕ, Bool, true, false, ◌&&◌, suc, ◌+◌, ◌<◌, ◌≤◌, List, [], ◌∷◌, length, drop, get_or, drop-cons, refl, sym, ap, subst, ◌∙◌, nat_eq, arith, rules}
+use Rattle.std.proofs.Common.{◌≡◌, ℕ, Bool, true, false, ◌&&◌, suc, ◌+◌, ◌<◌, ◌≤◌, List, [], ◌∷◌, length, drop, get_or}
+use Rattle.std.proofs.Common.{drop-cons, refl, sym, ap, subst, ◌∙◌, nat_eq, arith, rules}
 use Rattle.std.specs.Prelude.{Option, Some, None}
 use Rattle.std.proofs.Math.ListN.{drop_of_length-le}
 use Rattle.std.specs.Bool.{Decides}
@@ -22,7 +23,8 @@ use Rattle.golf_data.specs.contracts.value.ValuePartialEq.TheImpl as values
 use Rattle.golf_data.specs.contracts.equality.PayloadPartialEq.TheImpl as payloads
 
 -- what holds of each value and itself holds of equal ones
-both-ways : {A : Type 0} (E : A → A → Bool) → ((x y : A) → E x y ≡ true → x ≡ y) → ((x : A) → E x x ≡ true) → (x y : A) → Decides (E x y) (x ≡ y)
+both-ways : {A : Type 0} (E : A → A → Bool) → ((x y : A) → E x y ≡ true → x ≡ y) → ((x : A) → E x x ≡ true) → (x y : A)
+    → Decides (E x y) (x ≡ y)
 both-ways E told own x y = (told x y, λ e. subst (λ z. E x z ≡ true) e (own x))
 
 numbers-own : (n : ℕ) → nat_eq n n ≡ true
@@ -104,7 +106,8 @@ module _ (xs ys : List SelectCase) (x y : Option ℕ) where
   cases-decide : Decides (pointwise cases.eq-value.it xs ys) (xs ≡ ys)
   cases-decide = pointwise_decides (both-ways cases.eq-value.it case-told case-own) xs ys
 
-  pub same-cases : (a b : Bool) → a ≡ pointwise cases.eq-value.it xs ys → a ≡ true → b ≡ option_eq nat_eq x y → Decides b (one ≡ other)
+  pub same-cases : (a b : Bool) → a ≡ pointwise cases.eq-value.it xs ys → a ≡ true → b ≡ option_eq nat_eq x y
+      → Decides b (one ≡ other)
   same-cases a b p t q =
       let e = cases-decide.0 (sym p ∙ t) in
       let d = both-ways (option_eq nat_eq) default-told default-own x y in
@@ -124,14 +127,18 @@ pub record ReadTheSame {A : Type 0} (equal : A → A → Bool) (x y : A) : Type 
   pub same : answer ≡ true
 
 told-same : {A : Type 0} (equal : A → A → Bool) (x y : A) → ReadTheSame equal x y → equal x y ≡ true
-told-same equal x y r = ap (λ z. equal z y) (sym r.left_is) ∙ ap (equal r.left) (sym r.right_is) ∙ sym r.compared ∙ r.same
+told-same equal x y r = ap (λ z. equal z y) (sym r.left_is) ∙ ap (equal r.left) (sym r.right_is) ∙ sym r.compared
+    ∙ r.same
 
 -- if names and payloads are the same
-pub same-but-choice : (i j : Instr) (same_choice : Bool) → ReadTheSame (sameb name.the_type) (kind_of i) (kind_of j) → ReadTheSame payloads.eq-value.it (payload_of i) (payload_of j)
+pub same-but-choice : (i j : Instr) (same_choice : Bool) → ReadTheSame (sameb name.the_type) (kind_of i) (kind_of j)
+    → ReadTheSame payloads.eq-value.it (payload_of i) (payload_of j)
     → Decides same_choice (choice_of i ≡ choice_of j) → Decides same_choice (i ≡ j)
 same-but-choice i j b kinds loads d =
-    let k : kind_of i ≡ kind_of j = same_true name.the_type (search rules) (kind_of i) (kind_of j) (told-same (sameb name.the_type) (kind_of i) (kind_of j) kinds) in
-    let p = (payload-decides (payload_of i) (payload_of j)).0 (told-same payloads.eq-value.it (payload_of i) (payload_of j) loads) in
+    let k : kind_of i ≡ kind_of j = same_true name.the_type (search rules) (kind_of i) (kind_of j)
+    (told-same (sameb name.the_type) (kind_of i) (kind_of j) kinds) in
+    let p = (payload-decides (payload_of i) (payload_of j)).0
+    (told-same payloads.eq-value.it (payload_of i) (payload_of j) loads) in
     (λ h. same-parts i j k p (d.0 h), λ g. d.1 (ap choice_of g))
 
 -- what was read of two lists at one place is equal
@@ -145,15 +152,18 @@ pub record EqualAt {A : Type 0} (xs ys : List A) (n : ℕ) : Type 0 where
   pub equal : left ≡ right
 
 -- two lists that have the same items at the first places, and one place more
-pub same-so-far : {A : Type 0} (xs ys : List A) (n : ℕ) → EqualAt xs ys n → (drop n xs ≡ drop n ys → xs ≡ ys) → drop (n + 1) xs ≡ drop (n + 1) ys → xs ≡ ys
+pub same-so-far : {A : Type 0} (xs ys : List A) (n : ℕ) → EqualAt xs ys n → (drop n xs ≡ drop n ys → xs ≡ ys)
+    → drop (n + 1) xs ≡ drop (n + 1) ys → xs ≡ ys
 same-so-far {A} xs ys n here before rest =
     let x : A = here.left in
     let y : A = here.right in
     let next : n + 1 ≡ suc n = omega arith in
     let after : drop (suc n) xs ≡ drop (suc n) ys = ap (λ k. drop k xs) (sym next) ∙ rest ∙ ap (λ k. drop k ys) next in
     before
-    (drop-cons xs n x here.within_left ∙ ap (λ (z : A). z ∷ drop (suc n) xs) (sym here.left_is ∙ here.equal ∙ here.right_is)
+    (drop-cons xs n x here.within_left ∙ ap (λ (z : A). z ∷ drop (suc n) xs)
+    (sym here.left_is ∙ here.equal ∙ here.right_is)
     ∙ ap (λ (zs : List A). get_or ys n y ∷ zs) after ∙ sym (drop-cons ys n y here.within_right))
 
-pub same-to-end : {A : Type 0} (xs ys : List A) (n : ℕ) → length xs ≡ length ys → length xs ≤ n → (drop n xs ≡ drop n ys → xs ≡ ys) → xs ≡ ys
+pub same-to-end : {A : Type 0} (xs ys : List A) (n : ℕ) → length xs ≡ length ys → length xs ≤ n
+    → (drop n xs ≡ drop n ys → xs ≡ ys) → xs ≡ ys
 same-to-end xs ys n e l before = before (drop_of_length-le xs l ∙ sym (drop_of_length-le ys (subst (λ k. k ≤ n) e l)))

@@ -5,7 +5,8 @@ use Rattle.golf_data.specs.Masks.{has_bit}
 
 -- each slot whose bit is 1 holds 0
 abbrev pub AreZeros : ℕ → List Value → Type 0
-AreZeros zeros vs = (i : ℕ) (v : Value) → i < 64 → has_bit zeros i ≡ true → slice_get vs i ≡ Some v → v ≡ Value.Int (pos 0)
+AreZeros zeros vs = (i : ℕ) (v : Value) → i < 64 → has_bit zeros i ≡ true → slice_get vs i ≡ Some v
+    → v ≡ Value.Int (pos 0)
 
 -- each slot holds 0, if this is known
 abbrev pub AreAllZero : Bool → List Value → Type 0

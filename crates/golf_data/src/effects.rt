@@ -1,7 +1,7 @@
 //! What instructions do to the operands of their frames, and whether they go on: the table.
 
 ghost use Rattle.std.specs.Prelude.{◌≡◌, true, false};
-ghost use Rattle.golf_data.specs.Effects.{taken, left, goes_on, case_left as left_by_case, case_taken as taken_by_case};
+ghost use Rattle.golf_data.specs.Effects.{taken, left, goes_on, case_left as case_left_of, case_taken as case_taken_of};
 
 use crate::code::{CaseKind, Instr};
 
@@ -83,7 +83,7 @@ pub fn effect_of(gives: &[bool], instr: &Instr) -> Effect
 
 /// How many operands a case of a `select` leaves at its target.
 pub fn case_left(kind: CaseKind) -> u32
-    ensures { result ≡ left_by_case kind }
+    ensures { result ≡ case_left_of kind }
 {
     match kind {
         CaseKind::Send => 0,
@@ -94,7 +94,7 @@ pub fn case_left(kind: CaseKind) -> u32
 
 /// How many operands a case of a `select` takes.
 pub fn case_taken(kind: CaseKind) -> u32
-    ensures { result ≡ taken_by_case kind }
+    ensures { result ≡ case_taken_of kind }
 {
     match kind {
         CaseKind::Send => 2,

@@ -1,7 +1,7 @@
 //! When two instructions, two lines and two bodies are the same.
 
 ghost use Rattle.std.specs.Prelude.{◌≡◌, ◌↔◌, IsTrue};
-ghost use Rattle.golf_data.specs.Parts.{kind_of as kind_is, payload_of as payload_is, choice_of};
+ghost use Rattle.golf_data.specs.Parts.{kind_of as kind_of_of, payload_of as payload_of_of, choice_of};
 
 use crate::code::{CodeLine, Instr};
 use crate::value::Value;
@@ -85,7 +85,7 @@ enum Payload {
 
 // The name of an instruction.
 fn kind_of(instr: &Instr) -> Kind
-    ensures { result ≡ kind_is instr.now }
+    ensures { result ≡ kind_of_of instr.now }
 {
     match instr {
         Instr::Int(_) => Kind::Int,
@@ -156,7 +156,7 @@ fn kind_of(instr: &Instr) -> Kind
 
 // What stands beside the name.
 fn payload_of(instr: &Instr) -> Payload
-    ensures { result ≡ payload_is instr.now }
+    ensures { result ≡ payload_of_of instr.now }
 {
     match instr {
         Instr::Int(number) => Payload::Constant(Value::Int(*number)),

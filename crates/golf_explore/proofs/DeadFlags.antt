@@ -1,7 +1,8 @@
 -- A state has no dead goroutine exactly when the marking has set the flag of each blocked one.
 -- For: `has_unset` and `has_dead`, src/dying.rt
 -- By: induction over the flags
-use Rattle.std.proofs.Common.{◌≡◌, ℕ, zero, suc, Bool, true, false, List, [], ◌∷◌, map, length, take, Some, slice_get, inl, inr, refl, sym, ap, ◌∙◌, arith}
+use Rattle.std.proofs.Common.{◌≡◌, ℕ, zero, suc, Bool, true, false, List, [], ◌∷◌, map, length, take, Some, slice_get}
+use Rattle.std.proofs.Common.{inl, inr, refl, sym, ap, ◌∙◌, arith}
 use Rattle.golf_base.specs.declared.ids.GoroutineId.{GoroutineId}
 use Rattle.golf_theory.specs.Membership.{In}
 use Rattle.golf_heap.specs.Objects.{left_out}
@@ -23,7 +24,8 @@ get-unset [] i h = cc
 get-unset (b ∷ flags) zero h = inl cc
 get-unset (b ∷ flags) (suc i) h = inr (get-unset flags i h)
 
-pub none-so-far : (flags : List Bool) (i : ℕ) → slice_get flags i ≡ Some true → (In false (take i flags) → ⊥) → In false (take (suc i) flags) → ⊥
+pub none-so-far : (flags : List Bool) (i : ℕ) → slice_get flags i ≡ Some true → (In false (take i flags) → ⊥)
+    → In false (take (suc i) flags) → ⊥
 none-so-far [] i h none k = cc
 none-so-far (b ∷ flags) zero h none (inl e) = cc
 none-so-far (b ∷ flags) zero h none (inr k) = k
@@ -38,7 +40,8 @@ none-out (b ∷ flags) [] h = refl
 none-out (true ∷ flags) (g ∷ gs) h = none-out flags gs (λ i. h (inr i))
 none-out (false ∷ flags) (g ∷ gs) h = absurd (h (inl refl))
 
-some-out : (flags : List Bool) (gs : List GoroutineId) → length flags ≡ length gs → In false flags → numbers (left_out flags gs) ≡ [] → ⊥
+some-out : (flags : List Bool) (gs : List GoroutineId) → length flags ≡ length gs → In false flags
+    → numbers (left_out flags gs) ≡ [] → ⊥
 some-out [] gs l i e = i
 some-out (b ∷ flags) [] l i e = cc
 some-out (true ∷ flags) (g ∷ gs) l (inl i) e = cc
@@ -57,4 +60,5 @@ module _ (s : State) (n : Numbered s) (w : IsWhole s) (m : Marked) (h : MarksLea
   all-live none = sym (dead-flags s n w m h) ∙ ap numbers (none-out m.awake sleeping none)
 
   pub one-dead : In false m.awake → dead s ≡ [] → ⊥
-  one-dead i e = some-out m.awake sleeping (h.awake_count ∙ sym (map-length (live_parts s).sleepers)) i (dead-flags s n w m h ∙ e)
+  one-dead i e = some-out m.awake sleeping (h.awake_count ∙ sym (map-length (live_parts s).sleepers)) i
+      (dead-flags s n w m h ∙ e)

@@ -1,7 +1,8 @@
 -- Lists of visits that grow at the end.
 -- For: `add`, `add_choices`, `add_places`, `expand`, src/expanding.rt; `AreVisits`, specs/Visiting.antt
 -- By: induction over the list of visits
-use Rattle.std.proofs.Common.{◌≡◌, ℕ, zero, suc, ◌<◌, ◌≤◌, List, [], ◌∷◌, ◌++◌, length, Option, Some, None, slice_get, ◌⊎◌, inl, inr, refl, sym, ap, ◌∙◌, subst, arith, append-nil, append_assoc}
+use Rattle.std.proofs.Common.{◌≡◌, ℕ, zero, suc, ◌<◌, ◌≤◌, List, [], ◌∷◌, ◌++◌, length, Option, Some, None, slice_get}
+use Rattle.std.proofs.Common.{◌⊎◌, inl, inr, refl, sym, ap, ◌∙◌, subst, arith, append-nil, append_assoc}
 use Rattle.golf_theory.specs.Membership.{In}
 use Rattle.golf_theory.proofs.Lists.{In-left, In-right, In-cases, In-slice_get}
 use Rattle.golf_data.specs.declared.code.Code.{Code}
@@ -32,20 +33,24 @@ get-within [] i s h = cc
 get-within (x ∷ xs) zero s h = omega arith
 get-within (x ∷ xs) (suc i) s h = let l = get-within xs i s h in omega (arith, l)
 
-get-back : (xs ys : List State) (i : ℕ) (s : State) → i < length xs → slice_get (xs ++ ys) i ≡ Some s → slice_get xs i ≡ Some s
+get-back : (xs ys : List State) (i : ℕ) (s : State) → i < length xs → slice_get (xs ++ ys) i ≡ Some s
+    → slice_get xs i ≡ Some s
 get-back [] ys i s l h = absurd (omega (arith, l))
 get-back (x ∷ xs) ys zero s l h = h
 get-back (x ∷ xs) ys (suc i) s l h = get-back xs ys i s (omega (arith, l)) h
 
-pub get-states : (xs : List Visit) (i : ℕ) (v : Visit) → slice_get xs i ≡ Some v → slice_get (states xs) i ≡ Some (silent v.state)
+pub get-states : (xs : List Visit) (i : ℕ) (v : Visit) → slice_get xs i ≡ Some v
+    → slice_get (states xs) i ≡ Some (silent v.state)
 get-states [] i v h = cc
-get-states (x ∷ xs) zero v h = ap (λ (o : Option Visit). elim o as (λ _. Option State) [ None ↦ None | Some w ↦ Some (silent w.state) ]) h
+get-states (x ∷ xs) zero v h = ap (λ (o : Option Visit).
+    elim o as (λ _. Option State) [ None ↦ None | Some w ↦ Some (silent w.state) ]) h
 get-states (x ∷ xs) (suc i) v h = get-states xs i v h
 
 pub get-In : (xs : List Visit) (i : ℕ) (v : Visit) → slice_get xs i ≡ Some v → In (silent v.state) (states xs)
 get-In xs i v h = In-slice_get (states xs) i (silent v.state) (get-states xs i v h)
 
-get-pushed : (xs : List Visit) (x : Visit) (i : ℕ) (v : Visit) → slice_get (xs ++ x ∷ []) i ≡ Some v → (slice_get xs i ≡ Some v) ⊎ ((i ≡ length xs) × (v ≡ x))
+get-pushed : (xs : List Visit) (x : Visit) (i : ℕ) (v : Visit) → slice_get (xs ++ x ∷ []) i ≡ Some v
+    → (slice_get xs i ≡ Some v) ⊎ ((i ≡ length xs) × (v ≡ x))
 get-pushed [] x zero v h = inr (refl, cc)
 get-pushed [] x (suc i) v h = cc
 get-pushed (y ∷ xs) x zero v h = inl h
@@ -74,15 +79,24 @@ module _ (old new : List Visit) (g : Grows old new) where
   grown-get i s h = ap (λ (xs : List State). slice_get xs i) grown ∙ get-left (states old) (states g.0) i s h
 
   -- the first places are as they were
-  pub grown-back : (i : ℕ) (s : State) → i < length old → slice_get (states new) i ≡ Some s → slice_get (states old) i ≡ Some s
-  grown-back i s l h = let e = states-length old in get-back (states old) (states g.0) i s (omega (arith, l, e)) (ap (λ (xs : List State). slice_get xs i) (sym grown) ∙ h)
+  pub grown-back : (i : ℕ) (s : State) → i < length old → slice_get (states new) i ≡ Some s
+      → slice_get (states old) i ≡ Some s
+  grown-back i s l h = let e = states-length old in get-back (states old) (states g.0) i s (omega (arith, l, e))
+      (ap (λ (xs : List State). slice_get xs i) (sym grown) ∙ h)
 
   pub grown-length : length old ≤ length new
   grown-length = subst (λ (vs : List Visit). length old ≤ length vs) (sym g.1) (length-more old g.0)
 
-  grown-from : (code : Code) (at : ℕ) (s : State) (came : Option Came) → IsFrom code old at s came → IsFrom code new at s came
+  grown-from : (code : Code) (at : ℕ) (s : State) (came : Option Came) → IsFrom code old at s came
+      → IsFrom code new at s came
   grown-from code at s None h = h
-  grown-from code at s (Some came) h = record { earlier = h.earlier; parent = h.parent; stands = grown-get came.parent h.parent h.stands; goes = h.goes; leads = h.leads }
+  grown-from code at s (Some came) h = record {
+    earlier = h.earlier;
+    parent = h.parent;
+    stands = grown-get came.parent h.parent h.stands;
+    goes = h.goes;
+    leads = h.leads;
+  }
 
 -- ---- one more visit
 
@@ -93,11 +107,14 @@ module _ (code : Code) (old new : List Visit) (s : State) (came : Option Came) (
   pub pushed-in : In (silent s) (states new)
   pushed-in =
       subst (λ (vs : List Visit). In (silent s) (states vs)) (sym p.1)
-      (subst (In (silent s)) (sym (states-append old (p.0 ∷ []))) (In-right (silent s) (states old) (states (p.0 ∷ [])) (inl (ap silent (sym p.2)))))
+      (subst (In (silent s)) (sym (states-append old (p.0 ∷ [])))
+      (In-right (silent s) (states old) (states (p.0 ∷ [])) (inl (ap silent (sym p.2)))))
 
   -- a new visit of the state after a turn of an earlier one, or of the opening state
   module _ (from : IsFrom code old (length old) (silent s) came) (well : IsWell (silent s)) where
-    from-new : (at : ℕ) (v : Visit) → (slice_get old at ≡ Some v) ⊎ ((at ≡ length old) × (v ≡ p.0)) → ((v : Visit) → slice_get old at ≡ Some v → IsFrom code old at (silent v.state) v.came) → IsFrom code old at (silent v.state) v.came
+    from-new : (at : ℕ) (v : Visit) → (slice_get old at ≡ Some v) ⊎ ((at ≡ length old) × (v ≡ p.0))
+        → ((v : Visit) → slice_get old at ≡ Some v → IsFrom code old at (silent v.state) v.came)
+        → IsFrom code old at (silent v.state) v.came
     from-new at v (inl h) were = were v h
     from-new at v (inr h) were =
         subst (λ k. IsFrom code old k (silent v.state) v.came) (sym h.0)
@@ -105,16 +122,18 @@ module _ (code : Code) (old new : List Visit) (s : State) (came : Option Came) (
         (subst (λ (t : State). IsFrom code old (length old) (silent t) p.0.came) (sym p.2)
         (subst (IsFrom code old (length old) (silent s)) (sym p.3) from)))
 
-    from-pushed : ((at : ℕ) (v : Visit) → slice_get old at ≡ Some v → IsFrom code old at (silent v.state) v.came) → (at : ℕ) (v : Visit) → slice_get new at ≡ Some v → IsFrom code new at (silent v.state) v.came
+    from-pushed : ((at : ℕ) (v : Visit) → slice_get old at ≡ Some v → IsFrom code old at (silent v.state) v.came)
+        → (at : ℕ) (v : Visit) → slice_get new at ≡ Some v → IsFrom code new at (silent v.state) v.came
     from-pushed were at v h =
         grown-from old new (pushed-grows old new s came p) code at (silent v.state) v.came
         (from-new at v (get-pushed old p.0 at v (sym (ap (λ (vs : List Visit). slice_get vs at) p.1) ∙ h)) (were at))
 
     well-pushed : ((t : State) → In t (states old) → IsWell t) → (t : State) → In t (states new) → IsWell t
-    well-pushed were t i = elim (In-cases t (states old) (states (p.0 ∷ [])) (subst (In t) (ap states p.1 ∙ states-append old (p.0 ∷ [])) i)) [
-      | inl h ↦ were t h
-      | inr h ↦ elim h [ inl e ↦ subst IsWell (sym (e ∙ ap silent p.2)) well | inr n ↦ absurd n ]
-    ]
+    well-pushed were t i = elim (In-cases t (states old) (states (p.0 ∷ []))
+        (subst (In t) (ap states p.1 ∙ states-append old (p.0 ∷ [])) i)) [
+          | inl h ↦ were t h
+          | inr h ↦ elim h [ inl e ↦ subst IsWell (sym (e ∙ ap silent p.2)) well | inr n ↦ absurd n ]
+        ]
 
     pub visits-pushed : AreVisits code old → AreVisits code new
     visits-pushed are = record {
@@ -124,7 +143,8 @@ module _ (code : Code) (old new : List Visit) (s : State) (came : Option Came) (
     }
 
 -- the list of the visit of the opening state
-pub visits-opened : (code : Code) (new : List Visit) (s : State) → s ≡ start code → HasPushed [] new s None → IsWell (start code) → AreVisits code new
+pub visits-opened : (code : Code) (new : List Visit) (s : State) → s ≡ start code → HasPushed [] new s None
+    → IsWell (start code) → AreVisits code new
 visits-opened code new s is p well =
     let from : silent s ≡ start code = ap silent is in
     let good : IsWell (silent s) = subst IsWell (sym from) well in
@@ -147,7 +167,9 @@ module _ (code : Code) (t : State) (number : ℕ) (s : State) (is : s ≡ after 
   quiet-well well goes = ((well goes).0, silent-dead s ∙ (well goes).1)
 
   -- it is visited now, from the visit at this place
-  pub added-new : (old new : List Visit) (at : ℕ) → AreVisits code old → slice_get (states old) at ≡ Some t → ending t ≡ None → IsWell s → HasPushed old new s (Some (record { parent = at; number = number })) → HasAdded code old new u
+  pub added-new : (old new : List Visit) (at : ℕ) → AreVisits code old → slice_get (states old) at ≡ Some t
+      → ending t ≡ None → IsWell s → HasPushed old new s (Some (record { parent = at; number = number }))
+      → HasAdded code old new u
   added-new old new at are h goes well p =
       let came : Option Came = Some (record { parent = at; number = number }) in
       let below = get-within (states old) at t h in

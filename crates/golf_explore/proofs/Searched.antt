@@ -1,14 +1,18 @@
 -- What holds of all visits once each is done.
--- For: `explore` and `opened`, src/exploring.rt; `has_panic` and `has_sleep`, src/endings.rt; `Tells`, specs/Telling.antt
+-- For: `explore` and `opened`, src/exploring.rt; `has_panic` and `has_sleep`, src/endings.rt; `Tells`,
+-- specs/Telling.antt
 -- By: the laws of closed lists, and induction over the list of visits
-use Rattle.std.proofs.Common.{◌≡◌, ℕ, zero, suc, ◌<◌, List, [], ◌∷◌, length, Bool, take, Some, slice_get, inl, inr, refl, sym, ap, ◌∙◌, arith}
+use Rattle.std.proofs.Common.{◌≡◌, ℕ, zero, suc, ◌<◌, List, [], ◌∷◌, length, Bool, take, Some, slice_get, inl, inr}
+use Rattle.std.proofs.Common.{refl, sym, ap, ◌∙◌, arith}
 use Rattle.golf_theory.specs.Membership.{In}
 use Rattle.golf_data.specs.declared.code.Code.{Code}
 use Rattle.golf_data.specs.declared.goroutine.Ending.{Ending}
 use Rattle.golf_model.specs.State.{State, ending, start}
 use Rattle.golf_model.specs.Living.{live_list}
 use Rattle.golf_explore_laws.specs.Closed.{IsClosed, NoneDead, NoneEnds}
-use Rattle.golf_explore_laws.proofs.MainLaws.{closed_lists_never_leak, closed_lists_never_report, closed_lists_report_nobody, closed_lists_never_panic, closed_lists_never_sleep}
+use Rattle.golf_explore_laws.proofs.MainLaws.{closed_lists_never_leak, closed_lists_never_report}
+use Rattle.golf_explore_laws.proofs.MainLaws.{closed_lists_report_nobody, closed_lists_never_panic}
+use Rattle.golf_explore_laws.proofs.MainLaws.{closed_lists_never_sleep}
 use Rattle.golf_explore.specs.declared.exploring.Explored.{Explored}
 use Rattle.golf_explore.specs.declared.exploring.Visited.{Visited}
 use Rattle.golf_explore.specs.declared.visits.Visit.{Visit}
@@ -21,7 +25,8 @@ In-get [] s h = absurd h
 In-get (x ∷ xs) s (inl e) = (0, omega arith, ap Some (sym e))
 In-get (x ∷ xs) s (inr h) = let r = In-get xs s h in let l = r.1 in (suc r.0, omega (arith, l), r.2)
 
-module _ (code : Code) (vs : List Visit) (count : ℕ) (are : AreVisits code vs) (done : AreDone code (states vs) count) (all : count ≡ length vs) where
+module _ (code : Code) (vs : List Visit) (count : ℕ) (are : AreVisits code vs) (done : AreDone code (states vs) count)
+    (all : count ≡ length vs) where
   closed : IsClosed code (states vs)
   closed = record {
     opening = are.opening;
@@ -52,9 +57,12 @@ opening-well code goes = (refl, refl)
 
 -- ---- endings, visit by visit
 
-pub none-more : (is_one : Ending → Bool) (vs : List Visit) (i : ℕ) (v : Visit) → slice_get vs i ≡ Some v → EndsNever is_one v.state → NoneEnds is_one (states (take i vs)) → NoneEnds is_one (states (take (suc i) vs))
+pub none-more : (is_one : Ending → Bool) (vs : List Visit) (i : ℕ) (v : Visit) → slice_get vs i ≡ Some v
+    → EndsNever is_one v.state → NoneEnds is_one (states (take i vs)) → NoneEnds is_one (states (take (suc i) vs))
 none-more is_one [] i v h n were s e j ends = cc
-none-more is_one (x ∷ vs) zero v h n were s e (inl is) ends = let same : x ≡ v = cc in n e (ap (λ (w : Visit). ending w.state) (sym same) ∙ sym (ap ending is) ∙ ends)
+none-more is_one (x ∷ vs) zero v h n were s e (inl is) ends = let same : x ≡ v =
+    cc in n e (ap (λ (w : Visit). ending w.state) (sym same) ∙ sym (ap ending is) ∙ ends)
 none-more is_one (x ∷ vs) zero v h n were s e (inr j) ends = absurd j
 none-more is_one (x ∷ vs) (suc i) v h n were s e (inl is) ends = were s e (inl is) ends
-none-more is_one (x ∷ vs) (suc i) v h n were s e (inr j) ends = none-more is_one vs i v h n (λ t f k. were t f (inr k)) s e j ends
+none-more is_one (x ∷ vs) (suc i) v h n were s e (inr j) ends =
+    none-more is_one vs i v h n (λ t f k. were t f (inr k)) s e j ends

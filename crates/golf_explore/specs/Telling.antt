@@ -5,7 +5,8 @@ use Rattle.golf_model.specs.State.{State, ending, start}
 use Rattle.golf_model.specs.Living.{dead}
 use Rattle.golf_model.specs.Running.{Event, run}
 use Rattle.golf_explore_laws.specs.Closed.{IsClosed, NoneEnds}
-use Rattle.golf_explore_laws.specs.Laws.{is_panic, is_asleep, NeverLeaks, NeverReports, ReportsNobody, NeverPanics, NeverAllAsleep}
+use Rattle.golf_explore_laws.specs.Laws.{is_panic, is_asleep, NeverLeaks, NeverReports, ReportsNobody, NeverPanics}
+use Rattle.golf_explore_laws.specs.Laws.{NeverAllAsleep}
 use Rattle.golf_explore.specs.declared.exploring.Explored.{Explored}
 use Rattle.golf_explore.specs.declared.exploring.Visited.{Visited}
 use Rattle.golf_explore.specs.declared.visits.Visit.{Visit}
@@ -25,10 +26,12 @@ pub record HasTold (visits : List Visit) (count : ℕ) (told : Visited) : Type 0
   pub panics : told.panics ≡ false → NoneEnds is_panic (states_of visits)
   pub sleeps : told.sleeps ≡ false → NoneEnds is_asleep (states_of visits)
 
--- all schedules: no run leaks; unless a flag says otherwise, none panics and none falls asleep. A leak: the run of these turns has no ending and a dead goroutine. The two others say nothing
+-- all schedules: no run leaks; unless a flag says otherwise, none panics and none falls asleep. A leak: the run of
+-- these turns has no ending and a dead goroutine. The two others say nothing
 abbrev pub Tells : Code → Explored → Type 0
 Tells code (Explored.AllVisited told) =
-    NeverLeaks code × NeverReports code × ReportsNobody code × HasClosed code told.states × (told.panics ≡ false → NeverPanics code) × (told.sleeps ≡ false → NeverAllAsleep code)
+    NeverLeaks code × NeverReports code × ReportsNobody code × HasClosed code told.states
+    × (told.panics ≡ false → NeverPanics code) × (told.sleeps ≡ false → NeverAllAsleep code)
 Tells code (Explored.Leak numbers) = (ending (run_of code numbers) ≡ None) × (dead (run_of code numbers) ≡ [] → ⊥)
 Tells code Explored.Finalisers = Unit {0}
 Tells code Explored.TooMany = Unit {0}

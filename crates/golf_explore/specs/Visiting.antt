@@ -1,5 +1,6 @@
 -- The visits of a search: which states they are of, and which turns lead to them. Output is not compared.
-use Rattle.std.specs.Prelude.{◌≡◌, ℕ, ◌+◌, ◌*◌, ◌<◌, Bool, false, List, [], ◌∷◌, ◌++◌, length, map, Option, Some, None, slice_get}
+use Rattle.std.specs.Prelude.{◌≡◌, ℕ, ◌+◌, ◌*◌, ◌<◌, Bool, false, List, [], ◌∷◌, ◌++◌, length, map, Option, Some, None}
+use Rattle.std.specs.Prelude.{slice_get}
 use Rattle.golf_theory.specs.Membership.{In}
 use Rattle.golf_data.specs.declared.code.Code.{Code}
 use Rattle.golf_data.specs.declared.goroutine.Ending.{Ending}
@@ -61,7 +62,8 @@ pub record AreVisits (code : Code) (visits : List Visit) : Type 0 where
 
 -- each visit has a lower place than those to which its turns led
 abbrev pub ParentsBelow : List Visit → Type 0
-ParentsBelow visits = (at : ℕ) (v : Visit) (came : Came) → slice_get visits at ≡ Some v → v.came ≡ Some came → came.parent < at
+ParentsBelow visits = (at : ℕ) (v : Visit) (came : Came) → slice_get visits at ≡ Some v → v.came ≡ Some came
+    → came.parent < at
 
 -- the turns of these numbers lead from the one state to the other
 abbrev pub LeadsTo : Code → State → List ℕ → State → Type 0
@@ -69,11 +71,13 @@ LeadsTo code s ns t = (after_all code s ns ≡ t) × GoesOn code s ns
 
 -- the turns of these numbers lead from one visit to another
 abbrev pub Joins : List Visit → ℕ → List ℕ → ℕ → Type 0
-Joins visits here ns at = (code : Code) → AreVisits code visits → (s t : State) → slice_get (states visits) here ≡ Some s → slice_get (states visits) at ≡ Some t → LeadsTo code s ns t
+Joins visits here ns at = (code : Code) → AreVisits code visits → (s t : State)
+    → slice_get (states visits) here ≡ Some s → slice_get (states visits) at ≡ Some t → LeadsTo code s ns t
 
 -- the turns of these numbers lead from the opening state to the visit
 abbrev pub IsPathTo : List Visit → ℕ → List ℕ → Type 0
-IsPathTo visits at ns = (code : Code) → AreVisits code visits → (t : State) → slice_get (states visits) at ≡ Some t → LeadsTo code (start code) ns t
+IsPathTo visits at ns = (code : Code) → AreVisits code visits → (t : State) → slice_get (states visits) at ≡ Some t
+    → LeadsTo code (start code) ns t
 
 -- the turns of these numbers lead from the opening state to the state of the visit, which has no ending
 pub record IsPathFor (code : Code) (visits : List Visit) (at : ℕ) (path : List ℕ) : Type 0 where
@@ -97,7 +101,8 @@ pub record HasAdded (code : Code) (old new : List Visit) (s : State) : Type 0 wh
   pub visits : AreVisits code new
   pub has : In s (states new)
 
--- the list has grown, and has the states after the turns of the goroutine at a place by the first so many choices, if so many goroutines can run
+-- the list has grown, and has the states after the turns of the goroutine at a place by the first so many choices, if
+-- so many goroutines can run
 pub record HasTurned (code : Code) (old new : List Visit) (s : State) (place count choices : ℕ) : Type 0 where
   pub grows : Grows old new
   pub visits : AreVisits code new
@@ -105,7 +110,8 @@ pub record HasTurned (code : Code) (old new : List Visit) (s : State) (place cou
 
 -- each turn of the state leads to a listed state
 abbrev pub IsDone : Code → List State → State → Type 0
-IsDone code visited s = ending s ≡ None → (place choice : ℕ) → IsTurn code s place choice → In (after_turn code s place choice) visited
+IsDone code visited s = ending s ≡ None → (place choice : ℕ) → IsTurn code s place choice
+    → In (after_turn code s place choice) visited
 
 -- so it is for each of the first so many states of the list
 abbrev pub AreDone : Code → List State → ℕ → Type 0
@@ -126,4 +132,5 @@ pub record HasVisited (code : Code) (old new : List Visit) (at : ℕ) : Type 0 w
 -- for each goroutine that can run, more than its last choice
 pub record HasChoices (code : Code) (s : State) (choices : List ℕ) : Type 0 where
   pub count : length choices ≡ length (runnable s)
-  pub each : (place n : ℕ) → slice_get choices place ≡ Some n → turn_last_choice code s (slice_get (runnable s) place) < n
+  pub each : (place n : ℕ) → slice_get choices place ≡ Some n
+      → turn_last_choice code s (slice_get (runnable s) place) < n

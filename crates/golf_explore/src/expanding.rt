@@ -1,10 +1,12 @@
 //! The turns of one visit.
 
-ghost use Rattle.std.specs.Prelude.{◌≡◌, ◌<◌, ◌≤◌, ◌+◌, ◌*◌, ◌∷◌, ◌++◌, [], length, IfOk, IfSome, Some, None, slice_get, ℕ};
+ghost use Rattle.std.specs.Prelude.{◌≡◌, ◌<◌, ◌≤◌, ◌+◌, ◌*◌, ◌∷◌, ◌++◌, [], length, IfOk, IfSome, Some, None};
+ghost use Rattle.std.specs.Prelude.{slice_get, ℕ};
 ghost use Rattle.golf_data.specs.Places.{HasPlaces};
 ghost use Rattle.golf_model.specs.State.{State, ending, start as start_of};
 ghost use Rattle.golf_model.specs.Presence.{IsWhole};
-ghost use Rattle.golf_explore.specs.Visiting.{states, after, after_all, GoesOn, IsWell, AreVisits, HasAdded, HasTurned, HasExpanded, HasVisited, HasChoices, IsPathFor};
+ghost use Rattle.golf_explore.specs.Visiting.{states, after, after_all, GoesOn, IsWell, AreVisits, HasAdded, HasTurned};
+ghost use Rattle.golf_explore.specs.Visiting.{HasExpanded, HasVisited, HasChoices, IsPathFor};
 ghost use Rattle.golf_explore.specs.Telling.{Unless};
 
 use crate::choices::choices;

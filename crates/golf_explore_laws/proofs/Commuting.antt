@@ -1,10 +1,11 @@
 -- What a goroutine that runs becomes, and a change that is not its own, can be exchanged.
 -- For: `local_changes_commute`, src/lib.rt; `IsOf`, specs/Local.antt
 -- By: cases of the change; induction over the map of goroutines
-use Rattle.std.proofs.Common.{◌≡◌, ℕ, ◌+◌, Bool, true, false, not, cond, List, [], ◌∷◌, Option, Some, None, refl, sym, ap, ◌∙◌, ◌==◌}
-use Rattle.std.proofs.lemmas.Bool.{eqb-true, ne_eqb}
+use Rattle.std.proofs.Common.{◌≡◌, ℕ, ◌+◌, Bool, true, false, not, cond, List, [], ◌∷◌, Option, Some, None, refl, sym}
+use Rattle.std.proofs.Common.{ap, ◌∙◌, ◌==◌}
+use Rattle.std.proofs.lemmas.Bool.{ne_eqb}
 use Rattle.golf_theory.specs.Maps.{find, put, add, map_values}
-use Rattle.golf_theory.proofs.MapFinds.{find-put_other}
+use Rattle.golf_theory.proofs.MapFinds.{find-put_other, put-swap}
 use Rattle.golf_theory.proofs.MapCuts.{only-put, map_values-put}
 use Rattle.golf_data.specs.declared.value.Object.{Object}
 use Rattle.golf_data.specs.declared.goroutine.Mode.{Mode}
@@ -20,16 +21,6 @@ use Rattle.golf_explore_laws.specs.Local.{LocalChangesCommute}
 -- ---- maps
 
 module _ {X : Type 0} where
-  put-apart : (g h : ℕ) (v w : X) (es : List (ℕ × X)) → (h ≡ g → ⊥) → put h w (put g v es) ≡ put g v (put h w es)
-  put-apart g h v w [] n = refl
-  put-apart g h v w (e ∷ es) n =
-      elim (g == e.0) as (λ b. g == e.0 ≡ b → (e.0, cond (h == e.0) w (cond b v e.1)) ∷ put h w (put g v es) ≡ ((e.0, cond b v (cond (h == e.0) w e.1)) ∷ put g v (put h w es))) [
-        | true ↦ λ t.
-            ap (λ b. (e.0, cond b w v) ∷ put h w (put g v es)) (ne_eqb h e.0 (λ u. n (u ∙ sym (eqb-true g e.0 t))))
-            ∙ ap (λ (r : List (ℕ × X)). (e.0, v) ∷ r) (put-apart g h v w es n)
-        | false ↦ λ t. ap (λ (r : List (ℕ × X)). (e.0, cond (h == e.0) w e.1) ∷ r) (put-apart g h v w es n)
-      ] refl
-
   add-put : (g n : ℕ) (v x : X) (es : List (ℕ × X)) → (g ≡ n → ⊥) → add n x (put g v es) ≡ put g v (add n x es)
   add-put g n v x [] d = ap (λ b. (n, cond b v x) ∷ []) (sym (ne_eqb g n d))
   add-put g n v x (e ∷ es) d = ap (λ (r : List (ℕ × X)). (e.0, cond (g == e.0) v e.1) ∷ r) (add-put g n v x es d)
@@ -50,14 +41,20 @@ woken-runs (Waking.ToReaders below) o r e =
 module _ (g : ℕ) (r : GoroutineView) where
   -- another goroutine becomes something
   other : (k : ℕ) (q : GoroutineView) (s : State) → (k ≡ g → ⊥) → become k q (become g r s) ≡ become g r (become k q s)
-  other k q s n = ap (λ (gs : List (ℕ × GoroutineView)). record s { goroutines = gs }) (put-apart g k r q s.goroutines n)
+  other k q s n = ap (λ (gs : List (ℕ × GoroutineView)). record s { goroutines = gs })
+      (put-swap k g q r s.goroutines n)
 
-  passed-at : (x : Object) (k m : ℕ) (q : GoroutineView) (s : State) → (k ≡ g → ⊥) → pass_on_at x k m q (become g r s) ≡ become g r (pass_on_at x k m q s)
-  passed-at (Object.Mutex false) k m q s n = ap (λ (t : State). apply (Change.Replace m (Object.Mutex true)) t) (other k (released q) s n)
-  passed-at (Object.Mutex true) k m q s n = ap (λ (t : State). record t { next_ticket = s.next_ticket + 1 }) (other k (record q { mode = moved m s.next_ticket q.mode }) s n)
+  passed-at : (x : Object) (k m : ℕ) (q : GoroutineView) (s : State) → (k ≡ g → ⊥)
+      → pass_on_at x k m q (become g r s) ≡ become g r (pass_on_at x k m q s)
+  passed-at (Object.Mutex false) k m q s n =
+      ap (λ (t : State). apply (Change.Replace m (Object.Mutex true)) t) (other k (released q) s n)
+  passed-at (Object.Mutex true) k m q s n =
+      ap (λ (t : State). record t { next_ticket = s.next_ticket + 1 })
+      (other k (record q { mode = moved m s.next_ticket q.mode }) s n)
   passed-at _ k m q s n = refl
 
-  passed : (o : Option GoroutineView) (x : Option Object) (k m : ℕ) (s : State) → (k ≡ g → ⊥) → pass_on k m o x (become g r s) ≡ become g r (pass_on k m o x s)
+  passed : (o : Option GoroutineView) (x : Option Object) (k m : ℕ) (s : State) → (k ≡ g → ⊥)
+      → pass_on k m o x (become g r s) ≡ become g r (pass_on k m o x s)
   passed None x k m s n = refl
   passed (Some q) None k m s n = refl
   passed (Some q) (Some x) k m s n = passed-at x k m q s n
@@ -65,13 +62,18 @@ module _ (g : ℕ) (r : GoroutineView) where
 pub local-changes-commute : LocalChangesCommute
 local-changes-commute (Change.Become k q) g r s runs n d = other g r k q s n
 local-changes-commute (Change.Block k kind line waits q) g r s runs n d =
-    ap (λ (t : State). record t { next_ticket = s.next_ticket + 1 }) (other g r k (record q { mode = Mode.Blocked kind line waits s.next_ticket }) s n)
+    ap (λ (t : State). record t { next_ticket = s.next_ticket + 1 })
+    (other g r k (record q { mode = Mode.Blocked kind line waits s.next_ticket }) s n)
 local-changes-commute (Change.Spawn q) g r s runs n d =
-    ap (λ (gs : List (ℕ × GoroutineView)). record s { goroutines = gs; next_goroutine = s.next_goroutine + 1 }) (add-put g s.next_goroutine r q s.goroutines d)
-local-changes-commute (Change.Leave k) g r s runs n d = ap (λ (gs : List (ℕ × GoroutineView)). record s { goroutines = gs }) (only-put (λ h. not (h == k)) g r s.goroutines)
+    ap (λ (gs : List (ℕ × GoroutineView)). record s { goroutines = gs; next_goroutine = s.next_goroutine + 1 })
+    (add-put g s.next_goroutine r q s.goroutines d)
+local-changes-commute (Change.Leave k) g r s runs n d =
+    ap (λ (gs : List (ℕ × GoroutineView)). record s { goroutines = gs }) (only-put (λ h. not (h == k)) g r s.goroutines)
 local-changes-commute (Change.WakeAll o how) g r s runs n d =
     ap (λ (gs : List (ℕ × GoroutineView)). record s { goroutines = gs })
-    (map_values-put (λ h. woken_by how o) g r s.goroutines ∙ ap (λ q. put g q (map_values (λ h. woken_by how o) s.goroutines)) (woken-runs how o r runs))
+    (map_values-put (λ h. woken_by how o) g r s.goroutines
+    ∙ ap (λ q. put g q (map_values (λ h. woken_by how o) s.goroutines)) (woken-runs how o r runs))
 local-changes-commute (Change.PassOn k m) g r s runs n d =
-    ap (λ q. pass_on k m q (find m s.objects) (become g r s)) (find-put_other g r s.goroutines k n) ∙ passed g r (find k s.goroutines) (find m s.objects) k m s n
+    ap (λ q. pass_on k m q (find m s.objects) (become g r s)) (find-put_other g r s.goroutines k n)
+    ∙ passed g r (find k s.goroutines) (find m s.objects) k m s n
 local-changes-commute _ g r s runs n d = refl

@@ -1,7 +1,10 @@
 -- The laws of all schedules, from the lemmas.
 -- For: the laws of src/lib.rt
 -- By: the lemmas of the other files; no induction
-use Rattle.golf_explore_laws.specs.Laws.{is_panic, is_asleep, TurnsByChoice, ClosedListsNeverLeak, ClosedListsNeverReport, ClosedListsReportNobody, ClosedListsNeverEnd, ClosedListsNeverPanic, ClosedListsNeverSleep, RankedListsEnd, RankedListsAlwaysEnd}
+use Rattle.golf_explore_laws.specs.Laws.{is_panic, is_asleep, TurnsByChoice, ClosedListsNeverLeak}
+use Rattle.golf_explore_laws.specs.Laws.{ClosedListsNeverReport, ClosedListsReportNobody, ClosedListsNeverEnd}
+use Rattle.golf_explore_laws.specs.Laws.{ClosedListsNeverPanic, ClosedListsNeverSleep, RankedListsEnd}
+use Rattle.golf_explore_laws.specs.Laws.{RankedListsAlwaysEnd}
 use Rattle.golf_explore_laws.proofs.Choices.{turn-by-choice}
 use Rattle.golf_explore_laws.proofs.Visiting.{never-leaks, never-reports, never-ends}
 use Rattle.golf_explore_laws.proofs.Reports.{reports-nobody}

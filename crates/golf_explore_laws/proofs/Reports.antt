@@ -10,18 +10,25 @@ use Rattle.golf_model.specs.State.{State}
 use Rattle.golf_model.specs.Living.{dead}
 use Rattle.golf_model.specs.Collecting.{sets_finalisers}
 use Rattle.golf_model.specs.Running.{Event, stops}
-use Rattle.golf_model.specs.Reporting.{numbers, without, entries, book_after, new_book, report, reports_from, real_reports}
+use Rattle.golf_model.specs.Reporting.{numbers, without, entries, book_after, new_book, report, reports_from}
+use Rattle.golf_model.specs.Reporting.{real_reports}
 use Rattle.golf_model_futures.proofs.RealRuns.{real-runs}
 use Rattle.golf_explore_laws.specs.Laws.{NeverReports}
 
-reported-none : (recover sets : Bool) (book : Book) (p : State) → dead p ≡ [] → (report recover sets book p).reported ≡ []
+reported-none : (recover sets : Bool) (book : Book) (p : State) → dead p ≡ []
+    → (report recover sets book p).reported ≡ []
 reported-none recover sets book p h = ap (λ gs. entries p (without gs (numbers book.reported))) h
 
-reports-none : (recover sets : Bool) (ps : List State) (book : Book) → ((p : State) → In p ps → dead p ≡ []) → (r : Report) → In r (reports_from recover sets book ps) → r.reported ≡ []
+reports-none : (recover sets : Bool) (ps : List State) (book : Book) → ((p : State) → In p ps → dead p ≡ [])
+    → (r : Report) → In r (reports_from recover sets book ps) → r.reported ≡ []
 reports-none recover sets [] book h r i = absurd i
-reports-none recover sets (p ∷ ps) book h r (inl e) = ap (λ (q : Report). q.reported) e ∙ reported-none recover sets book p (h p (inl refl))
-reports-none recover sets (p ∷ ps) book h r (inr i) = reports-none recover sets ps (book_after recover sets book p) (λ q j. h q (inr j)) r i
+reports-none recover sets (p ∷ ps) book h r (inl e) = ap (λ (q : Report). q.reported) e
+    ∙ reported-none recover sets book p (h p (inl refl))
+reports-none recover sets (p ∷ ps) book h r (inr i) =
+    reports-none recover sets ps (book_after recover sets book p) (λ q j. h q (inr j)) r i
 
-pub reports-nobody : (code : Code) → NeverReports code → (events : List Event) (recover : Bool) (r : Report) → In r (real_reports code events recover) → r.reported ≡ []
+pub reports-nobody : (code : Code) → NeverReports code → (events : List Event) (recover : Bool) (r : Report)
+    → In r (real_reports code events recover) → r.reported ≡ []
 reports-nobody code never events recover r i =
-    reports-none recover (sets_finalisers code) (stops code events) new_book (never events) r (subst (λ (rs : List Report). In r rs) ((real-runs code recover events).2) i)
+    reports-none recover (sets_finalisers code) (stops code events) new_book (never events) r
+    (subst (λ (rs : List Report). In r rs) ((real-runs code recover events).2) i)

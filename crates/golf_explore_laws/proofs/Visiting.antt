@@ -1,7 +1,8 @@
 -- Each state of each run is in a list of states that no turn leaves, output apart.
 -- For: the laws of closed lists, src/lib.rt; `IsClosed`, specs/Closed.antt
 -- By: induction over the list of events
-use Rattle.std.proofs.Common.{◌≡◌, ℕ, ◌%◌, Bool, true, false, not, List, [], ◌∷◌, ◌++◌, length, Option, Some, None, is_some, inl, inr, refl, sym, ap, ◌∙◌, subst, append-nil}
+use Rattle.std.proofs.Common.{◌≡◌, ℕ, ◌%◌, Bool, true, false, not, List, [], ◌∷◌, ◌++◌, length, Option, Some, None}
+use Rattle.std.proofs.Common.{is_some, inl, inr, refl, sym, ap, ◌∙◌, subst, append-nil}
 use Rattle.std.proofs.lemmas.Nat.{mod_below}
 use Rattle.golf_theory.specs.Maps.{only, keys_where}
 use Rattle.golf_theory.specs.Membership.{In, is_in}
@@ -14,7 +15,8 @@ use Rattle.golf_model.specs.Turn.{step, wants_collection}
 use Rattle.golf_model.specs.Reaching.{reach, sources}
 use Rattle.golf_model.specs.Living.{live_list, is_dead, dead}
 use Rattle.golf_model.specs.Collecting.{plain_collect, queued}
-use Rattle.golf_model.specs.Running.{Event, has_ended, collected_if, happens_in, happens, run, stop_if, stop_in, stops_by}
+use Rattle.golf_model.specs.Running.{Event, has_ended, collected_if, happens_in, happens, run, stop_if, stop_in}
+use Rattle.golf_model.specs.Running.{stops_by}
 use Rattle.golf_model_futures.specs.Printing.{prefixed}
 use Rattle.golf_model_futures.proofs.Printing.{step-prefixed}
 use Rattle.golf_model_order.proofs.Collecting.{collecting-goes}
@@ -28,14 +30,19 @@ pub none-from : (m : Option Ending) → is_some m ≡ false → m ≡ None
 none-from None h = refl
 none-from (Some e) h = cc
 
-module _ (code : Code) (P : State → Type 0) (kept-step : (s : State) (k : ℕ) → P s → ending s ≡ None → P (step code s k)) (kept-collect : (s : State) → P s → ending s ≡ None → P (plain_collect s)) where
-  collected-kept : (b : Bool) (s : State) (k : ℕ) → wants_collection code s k ≡ b → P s → ending s ≡ None → P (collected_if plain_collect code b (step code s k))
-  collected-kept true s k w p goes = kept-collect (step code s k) (kept-step s k p goes) (collecting-goes code s k goes w)
+module _ (code : Code) (P : State → Type 0)
+    (kept-step : (s : State) (k : ℕ) → P s → ending s ≡ None → P (step code s k))
+    (kept-collect : (s : State) → P s → ending s ≡ None → P (plain_collect s)) where
+  collected-kept : (b : Bool) (s : State) (k : ℕ) → wants_collection code s k ≡ b → P s → ending s ≡ None
+      → P (collected_if plain_collect code b (step code s k))
+  collected-kept true s k w p goes = kept-collect (step code s k) (kept-step s k p goes)
+      (collecting-goes code s k goes w)
   collected-kept false s k w p goes = kept-step s k p goes
 
   happens-kept : (b : Bool) (s : State) (e : Event) → has_ended s ≡ b → P s → P (happens_in plain_collect code b s e)
   happens-kept true s e h p = p
-  happens-kept false s (Event.Turn k) h p = collected-kept (wants_collection code s k) s k refl p (none-from (ending s) h)
+  happens-kept false s (Event.Turn k) h p =
+      collected-kept (wants_collection code s k) s k refl p (none-from (ending s) h)
   happens-kept false s Event.Collect h p = kept-collect s p (none-from (ending s) h)
 
   pub run-kept : (es : List Event) (s : State) → P s → P (run code s es)
@@ -46,14 +53,18 @@ module _ (code : Code) (P : State → Type 0) (kept-step : (s : State) (k : ℕ)
   abbrev AtStop : State → Type 0
   AtStop p = P p × (ending p ≡ None)
 
-  stop_if-kept : (b : Bool) (s p : State) (k : ℕ) → wants_collection code s k ≡ b → P s → ending s ≡ None → In p (stop_if plain_collect code b (step code s k)) → AtStop p
-  stop_if-kept true s p k w n goes (inl e) = subst AtStop (sym e) (kept-step s k n goes, collecting-goes code s k goes w)
+  stop_if-kept : (b : Bool) (s p : State) (k : ℕ) → wants_collection code s k ≡ b → P s → ending s ≡ None
+      → In p (stop_if plain_collect code b (step code s k)) → AtStop p
+  stop_if-kept true s p k w n goes (inl e) =
+      subst AtStop (sym e) (kept-step s k n goes, collecting-goes code s k goes w)
   stop_if-kept true s p k w n goes (inr h) = absurd h
   stop_if-kept false s p k w n goes h = absurd h
 
-  stop-kept : (b : Bool) (s p : State) (e : Event) → has_ended s ≡ b → P s → In p (stop_in plain_collect code b s e) → AtStop p
+  stop-kept : (b : Bool) (s p : State) (e : Event) → has_ended s ≡ b → P s → In p (stop_in plain_collect code b s e)
+      → AtStop p
   stop-kept true s p e h n i = absurd i
-  stop-kept false s p (Event.Turn k) h n i = stop_if-kept (wants_collection code s k) s p k refl n (none-from (ending s) h) i
+  stop-kept false s p (Event.Turn k) h n i =
+      stop_if-kept (wants_collection code s k) s p k refl n (none-from (ending s) h) i
   stop-kept false s p Event.Collect h n (inl e) = subst AtStop (sym e) (n, none-from (ending s) h)
   stop-kept false s p Event.Collect h n (inr i) = absurd i
 
@@ -70,7 +81,8 @@ silent-prefix : (s : State) → prefixed s.output (silent s) ≡ s
 silent-prefix s = ap (λ (o : List ℕ). record s { output = o }) (append-nil s.output)
 
 pub silent-step : (code : Code) (s : State) (k : ℕ) → silent (step code s k) ≡ silent (step code (silent s) k)
-silent-step code s k = ap (λ (t : State). silent (step code t k)) (sym (silent-prefix s)) ∙ ap silent (step-prefixed s.output code (silent s) k)
+silent-step code s k = ap (λ (t : State). silent (step code t k)) (sym (silent-prefix s))
+    ∙ ap silent (step-prefixed s.output code (silent s) k)
 
 silent-live : (s : State) → live_list (silent s) ≡ live_list s
 unfolding live_list
@@ -84,12 +96,17 @@ silent-dead s = ap (λ xs. keys_where (is_dead xs) s.goroutines) (silent-live s)
 pub collect-plain : (s : State) → s.finalisers ≡ [] → plain_collect s ≡ s
 collect-plain s h =
     let rs = reach s (sources s []) in
-    ap (λ (fs : List (ℕ × ℕ)). record s { finalisers = only (λ o. is_in o rs) fs; queue = s.queue ++ queued (only (λ o. not (is_in o rs)) fs) }) h
+    ap (λ (fs : List (ℕ × ℕ)). record s {
+      finalisers = only (λ o. is_in o rs) fs;
+      queue = s.queue
+          ++ queued (only (λ o. not (is_in o rs)) fs);
+    }) h
     ∙ ap (λ (q : List Queued). record s { finalisers = []; queue = q }) (append-nil s.queue)
     ∙ ap (λ (fs : List (ℕ × ℕ)). record s { finalisers = fs }) (sym h)
 
 module _ (code : Code) (s : State) (goes : ending s ≡ None) where
-  collected-is : (b : Bool) (k : ℕ) → wants_collection code s k ≡ b → IsPlain (step code s k) → step code s k ≡ collected_if plain_collect code b (step code s k)
+  collected-is : (b : Bool) (k : ℕ) → wants_collection code s k ≡ b → IsPlain (step code s k)
+      → step code s k ≡ collected_if plain_collect code b (step code s k)
   collected-is true k w plain = sym (collect-plain (step code s k) (plain (collecting-goes code s k goes w)))
   collected-is false k w plain = refl
 
@@ -113,7 +130,8 @@ module _ (code : Code) (visited : List State) (closed : IsClosed code visited) w
   visited-step s k i goes =
       let p = turn-by-choice code (silent s) k goes in
       subst (λ (t : State). In t visited) (sym (silent-step code s k ∙ ap silent p.2))
-      (closed.turns (silent s) i goes (k % length (runnable s)) p.0 (mod_below k (length (runnable s)) (some-run s goes), p.1))
+      (closed.turns (silent s) i goes (k % length (runnable s)) p.0
+      (mod_below k (length (runnable s)) (some-run s goes), p.1))
 
   visited-collect : (s : State) → Visited s → ending s ≡ None → Visited (plain_collect s)
   visited-collect s i goes = subst Visited (sym (collect-plain s (closed.plain (silent s) i goes))) i
@@ -132,4 +150,5 @@ module _ (code : Code) (visited : List State) (closed : IsClosed code visited) w
     never-leaks events goes = alive-visited (run code (start code) events) (visited-run events) goes
 
     pub never-reports : NeverReports code
-    never-reports events p h = let r = stops-kept code Visited visited-step visited-collect events (start code) p closed.opening h in alive-visited p r.0 r.1
+    never-reports events p h = let r = stops-kept code Visited visited-step visited-collect events
+        (start code) p closed.opening h in alive-visited p r.0 r.1

@@ -1,5 +1,6 @@
 -- Lists of states that no turn leaves. Output is not compared: each listed state has printed nothing.
-use Rattle.std.specs.Prelude.{◌≡◌, ℕ, ◌+◌, ◌-◌, ◌*◌, ◌<◌, ◌≤◌, Bool, false, List, [], ◌∷◌, length, Option, Some, None, option_and_then, slice_get}
+use Rattle.std.specs.Prelude.{◌≡◌, ℕ, ◌+◌, ◌-◌, ◌*◌, ◌<◌, ◌≤◌, Bool, false, List, [], ◌∷◌, length, Option, Some, None}
+use Rattle.std.specs.Prelude.{option_and_then, slice_get}
 use Rattle.golf_theory.specs.Maps.{find}
 use Rattle.golf_theory.specs.Membership.{In}
 use Rattle.golf_data.specs.declared.code.Code.{Code}
@@ -50,7 +51,8 @@ number_at s place choice = choice * length (runnable s) + place
 
 -- a goroutine at this place can run, and the choice is one of its choices
 abbrev pub IsTurn : Code → State → ℕ → ℕ → Type 0
-IsTurn code s place choice = (place < length (runnable s)) × (choice ≤ turn_last_choice code s (slice_get (runnable s) place))
+IsTurn code s place choice = (place < length (runnable s))
+    × (choice ≤ turn_last_choice code s (slice_get (runnable s) place))
 
 -- the state after that turn, without its output
 abbrev pub after_turn : Code → State → ℕ → ℕ → State
@@ -62,11 +64,13 @@ after_turn code s place choice = silent (step code s (number_at s place choice))
 abbrev pub IsPlain : State → Type 0
 IsPlain s = ending s ≡ None → s.finalisers ≡ []
 
--- the opening state is in the list, each listed state is plain, and each turn of a listed state without an ending leads to a listed state
+-- the opening state is in the list, each listed state is plain, and each turn of a listed state without an ending leads
+-- to a listed state
 pub record IsClosed (code : Code) (visited : List State) : Type 0 where
   pub opening : In (start code) visited
   pub plain : (s : State) → In s visited → IsPlain s
-  pub turns : (s : State) → In s visited → ending s ≡ None → (place choice : ℕ) → IsTurn code s place choice → In (after_turn code s place choice) visited
+  pub turns : (s : State) → In s visited → ending s ≡ None → (place choice : ℕ) → IsTurn code s place choice
+      → In (after_turn code s place choice) visited
 
 -- no listed state without an ending has a dead goroutine
 abbrev pub NoneDead : List State → Type 0
@@ -82,5 +86,6 @@ NoneEnds is_one visited = (s : State) (e : Ending) → In s visited → ending s
 pub record IsRanked (code : Code) (ranked : List (State × ℕ)) (most : ℕ) : Type 0 where
   pub opening : In (start code, most) ranked
   pub plain : (s : State) (rank : ℕ) → In (s, rank) ranked → IsPlain s
-  pub falls : (s : State) (rank : ℕ) → In (s, rank) ranked → ending s ≡ None → (place choice : ℕ) → IsTurn code s place choice
+  pub falls : (s : State) (rank : ℕ) → In (s, rank) ranked → ending s ≡ None → (place choice : ℕ)
+      → IsTurn code s place choice
       → (lower : ℕ) × (lower < rank) × In (after_turn code s place choice, lower) ranked

@@ -19,15 +19,18 @@ NeverReports code = (events : List Event) (p : State) → In p (stops code event
 
 -- no state without an ending has a dead goroutine
 abbrev pub NeverLeaks : Code → Type 0
-NeverLeaks code = (events : List Event) → ending (run code (start code) events) ≡ None → dead (run code (start code) events) ≡ []
+NeverLeaks code = (events : List Event) → ending (run code (start code) events) ≡ None
+    → dead (run code (start code) events) ≡ []
 
 -- no report names a goroutine, with recovery or without
 abbrev pub ReportsNobody : Code → Type 0
-ReportsNobody code = (events : List Event) (recover : Bool) (r : Report) → In r (real_reports code events recover) → r.reported ≡ []
+ReportsNobody code = (events : List Event) (recover : Bool) (r : Report) → In r (real_reports code events recover)
+    → r.reported ≡ []
 
 -- no run has one of these endings
 abbrev pub NeverEnds : (Ending → Bool) → Code → Type 0
-NeverEnds is_one code = (events : List Event) (e : Ending) → ending (run code (start code) events) ≡ Some e → is_one e ≡ false
+NeverEnds is_one code = (events : List Event) (e : Ending) → ending (run code (start code) events) ≡ Some e
+    → is_one e ≡ false
 
 abbrev pub is_panic : Ending → Bool
 is_panic (Ending.Panicked kind goroutine line) = true
@@ -64,28 +67,35 @@ AlwaysEnds code = (most : ℕ) × EndsWithin most code
 -- a turn by any number is the turn of the goroutine at its place by one of the choices of this goroutine
 abbrev pub TurnsByChoice : Type 0
 TurnsByChoice = (code : Code) (s : State) (c : ℕ) → ending s ≡ None
-    → (choice : ℕ) × (choice ≤ turn_last_choice code s (whose_turn s c)) × (step code s c ≡ step code s (choice * length (runnable s) + c % length (runnable s)))
+    → (choice : ℕ) × (choice ≤ turn_last_choice code s (whose_turn s c))
+    × (step code s c ≡ step code s (choice * length (runnable s) + c % length (runnable s)))
 
 abbrev pub ClosedListsNeverLeak : Type 0
 ClosedListsNeverLeak = (code : Code) (visited : List State) → IsClosed code visited → NoneDead visited → NeverLeaks code
 
 abbrev pub ClosedListsNeverReport : Type 0
-ClosedListsNeverReport = (code : Code) (visited : List State) → IsClosed code visited → NoneDead visited → NeverReports code
+ClosedListsNeverReport = (code : Code) (visited : List State) → IsClosed code visited → NoneDead visited
+    → NeverReports code
 
 abbrev pub ClosedListsReportNobody : Type 0
-ClosedListsReportNobody = (code : Code) (visited : List State) → IsClosed code visited → NoneDead visited → ReportsNobody code
+ClosedListsReportNobody = (code : Code) (visited : List State) → IsClosed code visited → NoneDead visited
+    → ReportsNobody code
 
 abbrev pub ClosedListsNeverEnd : Type 0
-ClosedListsNeverEnd = (code : Code) (visited : List State) (is_one : Ending → Bool) → IsClosed code visited → NoneEnds is_one visited → NeverEnds is_one code
+ClosedListsNeverEnd = (code : Code) (visited : List State) (is_one : Ending → Bool) → IsClosed code visited
+    → NoneEnds is_one visited → NeverEnds is_one code
 
 abbrev pub ClosedListsNeverPanic : Type 0
-ClosedListsNeverPanic = (code : Code) (visited : List State) → IsClosed code visited → NoneEnds is_panic visited → NeverPanics code
+ClosedListsNeverPanic = (code : Code) (visited : List State) → IsClosed code visited → NoneEnds is_panic visited
+    → NeverPanics code
 
 abbrev pub ClosedListsNeverSleep : Type 0
-ClosedListsNeverSleep = (code : Code) (visited : List State) → IsClosed code visited → NoneEnds is_asleep visited → NeverAllAsleep code
+ClosedListsNeverSleep = (code : Code) (visited : List State) → IsClosed code visited → NoneEnds is_asleep visited
+    → NeverAllAsleep code
 
 abbrev pub RankedListsEnd : Type 0
 RankedListsEnd = (code : Code) (ranked : List (State × ℕ)) (most : ℕ) → IsRanked code ranked most → EndsWithin most code
 
 abbrev pub RankedListsAlwaysEnd : Type 0
-RankedListsAlwaysEnd = (code : Code) (ranked : List (State × ℕ)) (most : ℕ) → IsRanked code ranked most → AlwaysEnds code
+RankedListsAlwaysEnd = (code : Code) (ranked : List (State × ℕ)) (most : ℕ) → IsRanked code ranked most
+    → AlwaysEnds code

@@ -46,7 +46,8 @@ StandsAlone a cs = (cs ≡ []) ⊎ ((f : FrameView) × (cs ≡ stands a f))
 
 -- a frame-local instruction has the same changes in each state and with each choice, and they are those of its frame
 abbrev pub LocalInstructions : Type 0
-LocalInstructions = (code : Code) (i : Instr) → is_local i ≡ true → (a : Actor) (choice other : ℕ) (s t : State) → (changes code i a choice s ≡ changes code i a other t) × StandsAlone a (changes code i a choice s)
+LocalInstructions = (code : Code) (i : Instr) → is_local i ≡ true → (a : Actor) (choice other : ℕ) (s t : State)
+    → (changes code i a choice s ≡ changes code i a other t) × StandsAlone a (changes code i a choice s)
 
 -- ---- turns
 
@@ -66,11 +67,14 @@ abbrev pub becomes : ℕ → Option GoroutineView → State → State
 becomes g None s = s
 becomes g (Some r) s = become g r s
 
--- what a goroutine at a frame-local instruction becomes by its turn, whatever the state, and whatever the choice; the same goroutines can run after it
+-- what a goroutine at a frame-local instruction becomes by its turn, whatever the state, and whatever the choice; the
+-- same goroutines can run after it
 pub record HasLocalTurn (code : Code) (g : ℕ) (r : GoroutineView) : Type 0 where
   pub after : Option GoroutineView
-  pub steps : (s : State) (c : ℕ) → whose_turn s c ≡ Some g → find g s.goroutines ≡ Some r → step code s c ≡ becomes g after s
-  pub same : (s : State) → IsRising s.goroutines → find g s.goroutines ≡ Some r → runnable (becomes g after s) ≡ runnable s
+  pub steps : (s : State) (c : ℕ) → whose_turn s c ≡ Some g → find g s.goroutines ≡ Some r
+      → step code s c ≡ becomes g after s
+  pub same : (s : State) → IsRising s.goroutines → find g s.goroutines ≡ Some r
+      → runnable (becomes g after s) ≡ runnable s
 
 abbrev pub LocalTurns : Type 0
 LocalTurns = (code : Code) (g : ℕ) (r : GoroutineView) → IsLocal code r → HasLocalTurn code g r
@@ -84,6 +88,8 @@ IsOf g (Change.Block k kind line waits r) = k ≡ g
 IsOf g (Change.PassOn k m) = k ≡ g
 IsOf g _ = ⊥
 
--- what a goroutine that runs has become is not seen by a change of another one, nor by a goroutine that gets another number: the two can be exchanged
+-- what a goroutine that runs has become is not seen by a change of another one, nor by a goroutine that gets another
+-- number: the two can be exchanged
 abbrev pub LocalChangesCommute : Type 0
-LocalChangesCommute = (change : Change) (g : ℕ) (r : GoroutineView) (s : State) → r.mode ≡ Mode.Running → (IsOf g change → ⊥) → (g ≡ s.next_goroutine → ⊥) → apply change (become g r s) ≡ become g r (apply change s)
+LocalChangesCommute = (change : Change) (g : ℕ) (r : GoroutineView) (s : State) → r.mode ≡ Mode.Running
+    → (IsOf g change → ⊥) → (g ≡ s.next_goroutine → ⊥) → apply change (become g r s) ≡ become g r (apply change s)

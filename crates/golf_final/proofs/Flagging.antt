@@ -1,7 +1,8 @@
 -- The flag at the rank of an object that is there.
 -- For: `flagged` and `queue_finalisers`, src/queueing.rt
 -- By: induction over the list of flags, with the entries that they belong to
-use Rattle.std.proofs.Common.{◌≡◌, ℕ, suc, ◌<◌, ◌≤◌, Bool, true, false, ◌||◌, cond, List, [], ◌∷◌, ◌++◌, not, map, length, get_or, inl, inr, refl, sym, ap, ◌∙◌, arith}
+use Rattle.std.proofs.Common.{◌≡◌, ℕ, suc, ◌<◌, ◌≤◌, Bool, true, false, ◌||◌, cond, List, [], ◌∷◌, ◌++◌, not, map}
+use Rattle.std.proofs.Common.{length, get_or, inl, inr, refl, sym, ap, ◌∙◌, arith}
 use Rattle.std.specs.Prelude.{IsTrue, ◌↔◌, Result, Ok, Err, OnOk}
 use Rattle.std.proofs.lemmas.Bool.{eq-eqb, ne_eqb, lt-ltb, le-ltb}
 use Rattle.golf_theory.specs.Membership.{In, is_in}
@@ -26,13 +27,15 @@ In-kept {X = X} (b ∷ bs) (y ∷ ys) x h =
     ] h
 
 module _ {X : Type 0} where
-  kept-above : (j o : ℕ) (flags : List Bool) (es : List (ℕ × X)) → Rises j es → o < j → is_in o (kept flags (keys es)) ≡ false
+  kept-above : (j o : ℕ) (flags : List Bool) (es : List (ℕ × X)) → Rises j es → o < j
+      → is_in o (kept flags (keys es)) ≡ false
   kept-above j o flags es r l = is_in-out o (kept flags (keys es)) (λ h.
       let e = Entry-keys es o (In-kept flags (keys es) o h) in
       let a = Entry-above j es o e.0 r e.1 in
       omega (arith, a, l))
 
-  pub flag-of : (j : ℕ) (flags : List Bool) (es : List (ℕ × X)) (o : ℕ) (x : X) → Rises j es → length flags ≡ length es → Entry es o x → get_or flags (rank o es) false ≡ is_in o (kept flags (keys es))
+  pub flag-of : (j : ℕ) (flags : List Bool) (es : List (ℕ × X)) (o : ℕ) (x : X) → Rises j es → length flags ≡ length es
+      → Entry es o x → get_or flags (rank o es) false ≡ is_in o (kept flags (keys es))
   flag-of j flags [] o x r l h = absurd h
   flag-of j [] (e ∷ es) o x r l h = absurd (omega (arith, l))
   flag-of j (b ∷ bs) (e ∷ es) o x r l (inl h) =
@@ -64,10 +67,13 @@ is-flag b flags n h = by b (get_or flags n false) h
     by false false h = refl
 
 -- what the flags of the marked objects leave is queued
-pub queued-outside : (s : State) (xs : List ℕ) (flags : List Bool) → flags ≡ map (λ e. is_in e.0 xs) s.finalisers → queue_unflagged flags s ≡ queue_outside xs s
+pub queued-outside : (s : State) (xs : List ℕ) (flags : List Bool) → flags ≡ map (λ e. is_in e.0 xs) s.finalisers
+    → queue_unflagged flags s ≡ queue_outside xs s
 queued-outside s xs flags is =
-    let a : kept flags s.finalisers ≡ only (λ o. is_in o xs) s.finalisers = ap (λ (fs : List Bool). kept fs s.finalisers) is ∙ kept-only (λ o. is_in o xs) s.finalisers in
-    let b : left_out flags s.finalisers ≡ only (λ o. not (is_in o xs)) s.finalisers = ap (λ (fs : List Bool). left_out fs s.finalisers) is ∙ left_out-only (λ o. is_in o xs) s.finalisers in
+    let a : kept flags s.finalisers ≡ only (λ o. is_in o xs) s.finalisers =
+    ap (λ (fs : List Bool). kept fs s.finalisers) is ∙ kept-only (λ o. is_in o xs) s.finalisers in
+    let b : left_out flags s.finalisers ≡ only (λ o. not (is_in o xs)) s.finalisers =
+    ap (λ (fs : List Bool). left_out fs s.finalisers) is ∙ left_out-only (λ o. is_in o xs) s.finalisers in
     λ i. record s { finalisers = a i; queue = s.queue ++ queued (b i) }
 
 -- what holds if a call went well holds under another name

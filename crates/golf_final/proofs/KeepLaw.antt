@@ -1,7 +1,8 @@
 -- On the graph of a state, what is kept is what the definitions keep.
 -- For: `keeps_law`, src/laws.rt; `KeepsAlike`, specs/Keeping.antt
 -- By: induction over the steps that lead to an object
-use Rattle.std.proofs.Common.{◌≡◌, ℕ, ◌+◌, ◌<◌, Bool, true, false, ◌||◌, List, [], length, get_or, Option, Some, ◌==◌, ◌⊎◌, inl, inr, refl, sym, ap, subst, ◌∙◌, slice_get}
+use Rattle.std.proofs.Common.{◌≡◌, ℕ, ◌+◌, ◌<◌, Bool, true, false, ◌||◌, List, [], length, get_or, Option, Some, ◌==◌}
+use Rattle.std.proofs.Common.{◌⊎◌, inl, inr, refl, sym, ap, subst, ◌∙◌, slice_get}
 use Rattle.std.specs.Prelude.{◌↔◌, option_map, unwrap_or}
 use Rattle.std.proofs.lemmas.List.{length-map}
 use Rattle.std.proofs.lemmas.Option.{slice_get-map, slice_get_within, get_or_from_slice_get}
@@ -34,13 +35,8 @@ use Rattle.golf_snapshot.proofs.LiveComplete.{live-graph}
 use Rattle.golf_final.specs.Keeping.{HasChild, ComesTo, Prevents, IsKept, KeepsAlike}
 
 -- what some objects that are there reach, and what their nodes come to
-module _ (s : State) (n : Numbered s) (w : IsWhole s) (starts : List ℕ) (there : (o : ℕ) → In o starts → Present s o) where
-  Reaches : ℕ → Type 0
-  Reaches = Reach s starts
-
-  Comes : ℕ → Type 0
-  Comes = ComesTo (live_parts s) (ranks s.objects starts)
-
+module _ (s : State) (n : Numbered s) (w : IsWhole s) (starts : List ℕ)
+    (there : (o : ℕ) → In o starts → Present s o) where
   reached-present : (o : ℕ) → Reach s starts o → Present s o
   reached-present o r = Reached-least (λ q. In q starts) (RefersTo s) (Present s) there
       (λ p q d l. Every-at (Present s) (object_refs l.0) q (w.objects p l.0 l.1) l.2) o r
@@ -49,14 +45,16 @@ module _ (s : State) (n : Numbered s) (w : IsWhole s) (starts : List ℕ) (there
   abbrev pub IsReached : ℕ → Type 0
   IsReached k = (e : ℕ × Object) × (slice_get s.objects k ≡ Some e) × Reach s starts e.0
 
-  ranked-reached : (os : List ℕ) (k : ℕ) → ((o : ℕ) → In o os → Present s o × Reach s starts o) → In k (ranks s.objects os) → IsReached k
+  ranked-reached : (os : List ℕ) (k : ℕ) → ((o : ℕ) → In o os → Present s o × Reach s starts o)
+      → In k (ranks s.objects os) → IsReached k
   ranked-reached os k h i =
       let r = In-map_back (λ o. rank o s.objects) k os i in
       let a = h r.0 r.2 in
       let e = rank-entry s n w r.0 a.0 in
       subst IsReached (sym r.1) ((r.0, e.0), e.1, a.1)
 
-  children-by : (k : ℕ) (e : ℕ × Object) → slice_get s.objects k ≡ Some e → children_of (live_parts s) k ≡ ranks s.objects (object_refs e.1)
+  children-by : (k : ℕ) (e : ℕ × Object) → slice_get s.objects k ≡ Some e
+      → children_of (live_parts s) k ≡ ranks s.objects (object_refs e.1)
   children-by k e h = row-at (λ (d : ℕ × Object). ranks s.objects (object_refs d.1)) s.objects k e h
 
   pub comes-reached : (k : ℕ) → ComesTo (live_parts s) (ranks s.objects starts) k → IsReached k
@@ -65,17 +63,26 @@ module _ (s : State) (n : Numbered s) (w : IsWhole s) (starts : List ℕ) (there
       (λ q p r i.
       let x = Entry-at s.objects q r.0 r.1 in
       ranked-reached (object_refs r.0.1) p
-      (λ o m. (Every-at (Present s) (object_refs r.0.1) o (w.objects r.0.0 r.0.1 x) m, Reached-step (λ j. In j starts) (RefersTo s) r.0.0 o r.2 (r.0.1, x, m)))
+      (λ o m. (
+        Every-at (Present s) (object_refs r.0.1) o (w.objects r.0.0 r.0.1 x) m,
+        Reached-step (λ j. In j starts) (RefersTo s) r.0.0 o r.2 (r.0.1, x, m),
+      ))
       (subst (In p) (children-by q r.0 r.1) i)) k h
 
   pub reached-comes : (o : ℕ) → Reach s starts o → ComesTo (live_parts s) (ranks s.objects starts) (rank o s.objects)
-  reached-comes o r = Reached-least (λ q. In q starts) (RefersTo s) (λ q. ComesTo (live_parts s) (ranks s.objects starts) (rank q s.objects))
-      (λ q i. Reached-root (λ p. In p (ranks s.objects starts)) (HasChild (live_parts s)) (rank q s.objects) (In-map (λ j. rank j s.objects) q starts i))
-      (λ p q d l. Reached-step (λ j. In j (ranks s.objects starts)) (HasChild (live_parts s)) (rank p s.objects) (rank q s.objects) d
-      (subst (In (rank q s.objects)) (sym (children-by (rank p s.objects) (p, l.0) (at-rank 0 s.objects p l.0 n.objects_rise l.1))) (In-map (λ j. rank j s.objects) q (object_refs l.0) l.2))) o r
+  reached-comes o r = Reached-least (λ q. In q starts) (RefersTo s)
+      (λ q. ComesTo (live_parts s) (ranks s.objects starts) (rank q s.objects))
+      (λ q i. Reached-root (λ p. In p (ranks s.objects starts)) (HasChild (live_parts s)) (rank q s.objects)
+      (In-map (λ j. rank j s.objects) q starts i))
+      (λ p q d l. Reached-step (λ j. In j (ranks s.objects starts)) (HasChild (live_parts s)) (rank p s.objects)
+      (rank q s.objects) d
+      (subst (In (rank q s.objects)) (sym (children-by (rank p s.objects) (p, l.0)
+      (at-rank 0 s.objects p l.0 n.objects_rise l.1))) (In-map (λ j. rank j s.objects) q (object_refs l.0) l.2))) o
+      r
 
 -- the flags of a node
-module _ (s : State) (n : Numbered s) (w : IsWhole s) (m : Marked) (marks : MarksLeast (live_parts s) m) (k : ℕ) (e : ℕ × Object) (at : slice_get s.objects k ≡ Some e) where
+module _ (s : State) (n : Numbered s) (w : IsWhole s) (m : Marked) (marks : MarksLeast (live_parts s) m) (k : ℕ)
+    (e : ℕ × Object) (at : slice_get s.objects k ≡ Some e) where
   below : k < node_count (live_parts s)
   below = subst (λ (c : ℕ). k < c) (sym (length-map s.objects (row_of s.objects))) (slice_get_within s.objects k e at)
 
@@ -86,9 +93,11 @@ module _ (s : State) (n : Numbered s) (w : IsWhole s) (m : Marked) (marks : Mark
 
   finaliser-flag : get_or (live_parts s).finalised k false ≡ has_finaliser s e.0
   finaliser-flag = get_or_from_slice_get (live_parts s).finalised k (has_finaliser s e.0) false
-      (slice_get-map (λ (d : ℕ × Object). has_finaliser s d.0) s.objects k ∙ ap (option_map (λ (d : ℕ × Object). has_finaliser s d.0)) at)
+      (slice_get-map (λ (d : ℕ × Object). has_finaliser s d.0) s.objects k
+      ∙ ap (option_map (λ (d : ℕ × Object). has_finaliser s d.0)) at)
 
-  pub prevents-alike : (sets : Bool) → Prevents (live_parts s) m.flags sets k ↔ (In e.0 (keys s.finalisers) ⊎ ((sets ≡ true) × Live s (Node.AnObject e.0)))
+  pub prevents-alike : (sets : Bool) → Prevents (live_parts s) m.flags sets k
+      ↔ (In e.0 (keys s.finalisers) ⊎ ((sets ≡ true) × Live s (Node.AnObject e.0)))
   prevents-alike sets = (
     λ p. elim p [
       | inl f ↦ inl (In-from e.0 (keys s.finalisers) (sym finaliser-flag ∙ f))
@@ -105,19 +114,25 @@ not-running true z e = cc
 not-running false z e = refl
 
 -- the flags of a sleeper
-module _ (s : State) (n : Numbered s) (w : IsWhole s) (m : Marked) (marks : MarksLeast (live_parts s) m) (j g : ℕ) (r : GoroutineView) (at : slice_get (sleeping s) j ≡ Some (g, r)) where
+module _ (s : State) (n : Numbered s) (w : IsWhole s) (m : Marked) (marks : MarksLeast (live_parts s) m) (j g : ℕ)
+    (r : GoroutineView) (at : slice_get (sleeping s) j ≡ Some (g, r)) where
   asleep : Entry s.goroutines g r × (is_running r.mode ≡ false)
-  asleep = let e = sleeping-entry s (g, r) (In-slice_get (sleeping s) j (g, r) at) in (e.0, not-running (is_running r.mode) (g == 0) e.1)
+  asleep = let e = sleeping-entry s (g, r)
+      (In-slice_get (sleeping s) j (g, r) at) in (e.0, not-running (is_running r.mode) (g == 0) e.1)
 
   few : j < sleeper_count (live_parts s)
-  few = subst (λ (c : ℕ). j < c) (sym (length-map (sleeping s) (sleeper_of s.objects))) (slice_get_within (sleeping s) j (g, r) at)
+  few = subst (λ (c : ℕ). j < c) (sym (length-map (sleeping s) (sleeper_of s.objects)))
+      (slice_get_within (sleeping s) j (g, r) at)
 
   awake-live : IsSet m.awake j ↔ Live s (Node.AGoroutine g)
   awake-live =
       let a = (live-graph s n w).goroutines j g (r, at) in
       let i = marks.awake j few in
-      let place : node_count (live_parts s) + j ≡ length s.objects + j = ap (λ (c : ℕ). c + j) (length-map s.objects (row_of s.objects)) in
-      (λ t. a.0 (subst (Least (live_parts s)) place (i.0 t)), λ l. i.1 (subst (Least (live_parts s)) (sym place) (a.1 l)))
+      let place : node_count (live_parts s) + j ≡ length s.objects + j =
+      ap (λ (c : ℕ). c + j) (length-map s.objects (row_of s.objects)) in (
+        λ t. a.0 (subst (Least (live_parts s)) place (i.0 t)),
+        λ l. i.1 (subst (Least (live_parts s)) (sym place) (a.1 l)),
+      )
 
   refs-are : sleeper_references (live_parts s) j ≡ ranks s.objects (goroutine_refs r)
   refs-are = ap (λ (o : Option Sleeper). unwrap_or (option_map (λ (x : Sleeper). x.references) o) [])
@@ -133,9 +148,12 @@ module _ (s : State) (n : Numbered s) (w : IsWhole s) (m : Marked) (marks : Mark
   kept-alike sets = (
     λ t.
         let p = t.1.0 in
-        let c = comes-reached s n w (goroutine_refs r) present p (subst (λ (l : List ℕ). ComesTo (live_parts s) l p) refs-are t.1.1) in
-        let reach = subst (λ (l : List ℕ). Reach s l c.0.0) (sym found) c.2 in
-        ((r, asleep.0, asleep.1, λ l. t.0 (awake-live.1 l)), (c.0.0, reach, (prevents-alike s n w m marks p c.0 c.1 sets).0 t.1.2)),
+        let c = comes-reached s n w (goroutine_refs r) present p
+        (subst (λ (l : List ℕ). ComesTo (live_parts s) l p) refs-are t.1.1) in
+        let reach = subst (λ (l : List ℕ). Reach s l c.0.0) (sym found) c.2 in (
+          (r, asleep.0, asleep.1, λ l. t.0 (awake-live.1 l)),
+          (c.0.0, reach, (prevents-alike s n w m marks p c.0 c.1 sets).0 t.1.2),
+        ),
     λ t.
         let o = t.1.0 in
         let reach = subst (λ (l : List ℕ). Reach s l o) found t.1.1 in
@@ -143,7 +161,8 @@ module _ (s : State) (n : Numbered s) (w : IsWhole s) (m : Marked) (marks : Mark
           λ a. t.0.3 (awake-live.0 a),
           (
             rank o s.objects,
-            subst (λ (l : List ℕ). ComesTo (live_parts s) l (rank o s.objects)) (sym refs-are) (reached-comes s n w (goroutine_refs r) present o reach),
+            subst (λ (l : List ℕ). ComesTo (live_parts s) l (rank o s.objects)) (sym refs-are)
+                (reached-comes s n w (goroutine_refs r) present o reach),
             (prevents-alike s n w m marks (rank o s.objects) (o, e.0) e.1 sets).1 t.1.2,
           ),
         ),
@@ -151,7 +170,8 @@ module _ (s : State) (n : Numbered s) (w : IsWhole s) (m : Marked) (marks : Mark
 
 pub keeps-alike : KeepsAlike
 keeps-alike s m sets flags n w marks has j g i =
-    let few = subst (λ (c : ℕ). j < c) (sym (length-map (sleeping s) (sleeper_of s.objects))) (slice_get_within (sleeping s) j (g, i.0) i.1) in
+    let few = subst (λ (c : ℕ). j < c) (sym (length-map (sleeping s) (sleeper_of s.objects)))
+    (slice_get_within (sleeping s) j (g, i.0) i.1) in
     let a = has.kept j few in
     let b = kept-alike s n w m marks j g i.0 i.1 sets in
     (λ t. b.0 (a.0 t), λ t. a.1 (b.1 t))

@@ -9,7 +9,8 @@ use Rattle.golf_theory.proofs.Derivations.{Reached-root, Reached-step, Reached-l
 use Rattle.golf_model.specs.declared.graph.GraphParts.{GraphParts}
 use Rattle.golf_model.specs.Sleepers.{Sleeper}
 use Rattle.golf_model.specs.declared.graph.Marked.{Marked}
-use Rattle.golf_model.specs.Graph.{node_count, children_of, sleeper_waits, sleeper_references, Justifies, Least, IsInRange}
+use Rattle.golf_model.specs.Graph.{node_count, children_of, sleeper_waits, sleeper_references, Justifies, Least}
+use Rattle.golf_model.specs.Graph.{IsInRange}
 use Rattle.golf_marks.specs.Flags.{IsSet}
 use Rattle.golf_marks.proofs.Flags.{IsSet-below}
 use Rattle.golf_mark.specs.Marking.{MarksLeast}
@@ -26,7 +27,9 @@ module _ (g : GraphParts) (flags : List Bool) (sets : Bool) (b : GraphParts) (ba
   from_child : (x q r : ℕ) → In q (children_of g x) → ComesTo g (q ∷ []) r → ComesTo g (x ∷ []) r
   from_child x q r child c = Reached-least (λ p. In p (q ∷ [])) (HasChild g) (ComesTo g (x ∷ []))
       (λ y h. elim h [
-        | inl e ↦ subst (ComesTo g (x ∷ [])) (sym e) (Reached-step (λ p. In p (x ∷ [])) (HasChild g) x q (Reached-root (λ p. In p (x ∷ [])) (HasChild g) x (inl refl)) child)
+        | inl e ↦ subst (ComesTo g (x ∷ [])) (sym e)
+            (Reached-step (λ p. In p (x ∷ [])) (HasChild g) x q
+            (Reached-root (λ p. In p (x ∷ [])) (HasChild g) x (inl refl)) child)
         | inr none ↦ absurd none
       ])
       (λ y z d l. Reached-step (λ p. In p (x ∷ [])) (HasChild g) y z d l) r c
@@ -34,7 +37,11 @@ module _ (g : GraphParts) (flags : List Bool) (sets : Bool) (b : GraphParts) (ba
   -- what one of some nodes comes to
   from_one : (starts : List ℕ) (x r : ℕ) → In x starts → ComesTo g (x ∷ []) r → ComesTo g starts r
   from_one starts x r i c = Reached-least (λ p. In p (x ∷ [])) (HasChild g) (ComesTo g starts)
-      (λ y h. elim h [ inl e ↦ subst (ComesTo g starts) (sym e) (Reached-root (λ p. In p starts) (HasChild g) x i) | inr none ↦ absurd none ])
+      (λ y h. elim h [
+        | inl e ↦ subst (ComesTo g starts) (sym e)
+            (Reached-root (λ p. In p starts) (HasChild g) x i)
+        | inr none ↦ absurd none
+      ])
       (λ y z d l. Reached-step (λ p. In p starts) (HasChild g) y z d l) r c
 
   no_waits : (xs : List Sleeper) (s p : ℕ) → xs ≡ [] → In p (sleeper_waits (record b { sleepers = xs }) s) → ⊥
@@ -55,22 +62,28 @@ module _ (g : GraphParts) (flags : List Bool) (sets : Bool) (b : GraphParts) (ba
       (λ y h. (y, Reached-root (λ p. In p (y ∷ [])) (HasChild g) y (inl refl), ((back.roots y).0 h).1))
       (λ q y l j. justified q y j l) x d
 
-  pub leads : (starts : List ℕ) → ((x : ℕ) × In x starts × Least b x) → (r : ℕ) × ComesTo g starts r × Prevents g flags sets r
+  pub leads : (starts : List ℕ) → ((x : ℕ) × In x starts × Least b x) → (r : ℕ) × ComesTo g starts r
+      × Prevents g flags sets r
   leads starts t = let l = marked-leads t.0 t.2 in (l.0, from_one starts t.0 l.0 t.1 l.1, l.2)
 
-  prevents-below : length g.finalised ≡ node_count g → length flags ≡ node_count g → (r : ℕ) → Prevents g flags sets r → r < node_count g
+  prevents-below : length g.finalised ≡ node_count g → length flags ≡ node_count g → (r : ℕ) → Prevents g flags sets r
+      → r < node_count g
   prevents-below a f r (inl h) = omega (arith, IsSet-below g.finalised r h, a)
   prevents-below a f r (inr h) = omega (arith, IsSet-below flags r h.1, f)
 
-  pub led : length g.finalised ≡ node_count g → length flags ≡ node_count g → (starts : List ℕ) → ((r : ℕ) × ComesTo g starts r × Prevents g flags sets r) → (x : ℕ) × In x starts × Least b x
+  pub led : length g.finalised ≡ node_count g → length flags ≡ node_count g → (starts : List ℕ)
+      → ((r : ℕ) × ComesTo g starts r × Prevents g flags sets r) → (x : ℕ) × In x starts × Least b x
   led a f starts t =
       Reached-least (λ p. In p starts) (HasChild g) (λ y. Least b y → (x : ℕ) × In x starts × Least b x)
       (λ y i d. (y, i, d))
-      (λ q y up child d. up (Reached-step (λ p. In p b.roots) (Justifies b) y q d (Justifies.child ((back.parents q y).1 (row_past g.children q y child, child)))))
-      t.0 t.1 (Reached-root (λ p. In p b.roots) (Justifies b) t.0 ((back.roots t.0).1 (prevents-below a f t.0 t.2, t.2)))
+      (λ q y up child d. up (Reached-step (λ p. In p b.roots) (Justifies b) y q d
+      (Justifies.child ((back.parents q y).1 (row_past g.children q y child, child)))))
+      t.0 t.1 (Reached-root (λ p. In p b.roots) (Justifies b) t.0
+      ((back.roots t.0).1 (prevents-below a f t.0 t.2, t.2)))
 
 -- a sleeper that is not awake has a reference that is marked backwards exactly if it is kept
-pub kept-alike : (g : GraphParts) (m : Marked) (sets : Bool) (b : GraphParts) (leading : Marked) → IsInRange g → length m.flags ≡ node_count g → IsBackward g m.flags sets b → MarksLeast b leading → (s : ℕ)
+pub kept-alike : (g : GraphParts) (m : Marked) (sets : Bool) (b : GraphParts) (leading : Marked) → IsInRange g
+    → length m.flags ≡ node_count g → IsBackward g m.flags sets b → MarksLeast b leading → (s : ℕ)
     → ((IsSet m.awake s → ⊥) × ((p : ℕ) × In p (sleeper_references g s) × IsSet leading.flags p)) ↔ IsKept g m sets s
 kept-alike g m sets b leading range size back marks s = (
   λ t. (t.0, leads g m.flags sets b back (sleeper_references g s) (t.1.0, t.1.1, ((marks.flags t.1.0).0 t.1.2).1)),

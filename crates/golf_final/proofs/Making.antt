@@ -15,9 +15,12 @@ use Rattle.golf_final.specs.Keeping.{Prevents}
 use Rattle.golf_final.specs.Backward.{HasNumbers, IsBackward}
 use Rattle.golf_final.proofs.Parts.{rows-below}
 
-module _ (g : GraphParts) (range : IsInRange g) (flags : List Bool) (sets : Bool) (n : ℕ) (count : n ≡ node_count g) (numbers : List ObjectId) (has : HasNumbers 0 n numbers) (rows : List (List ℕ))
-    (inverse : IsInverseBelow (node_count g) (node_count g) (children_of g) rows) (finalised : List Bool) (size : length finalised ≡ n) (roots : List ℕ)
-    (all : (p : ℕ) → In p roots ↔ ((p < node_count g) × Prevents g flags sets p)) (sleepers : List Sleeper) (none : sleepers ≡ []) where
+module _ (g : GraphParts) (range : IsInRange g) (flags : List Bool) (sets : Bool) (n : ℕ) (count : n ≡ node_count g)
+    (numbers : List ObjectId) (has : HasNumbers 0 n numbers) (rows : List (List ℕ))
+    (inverse : IsInverseBelow (node_count g) (node_count g) (children_of g) rows) (finalised : List Bool)
+    (size : length finalised ≡ n) (roots : List ℕ)
+    (all : (p : ℕ) → In p roots ↔ ((p < node_count g) × Prevents g flags sets p)) (sleepers : List Sleeper)
+    (none : sleepers ≡ []) where
   abbrev pub made : GraphParts
   made = record { numbers = numbers; children = rows; finalised = finalised; roots = roots; sleepers = sleepers }
 
@@ -27,8 +30,10 @@ module _ (g : GraphParts) (range : IsInRange g) (flags : List Bool) (sets : Bool
     flagged = size ∙ count ∙ sym inverse.row_count;
     numbers = has.rise;
     few = omega (arith, range.few, inverse.row_count, ap length none);
-    children = rows-below (length rows) rows (λ m p i. let b = ((inverse.members m p).0 i).0 in omega (arith, b, inverse.row_count));
-    roots = Every-from (λ p. p < length rows) roots (λ p i. let b = ((all p).0 i).0 in omega (arith, b, inverse.row_count));
+    children = rows-below (length rows) rows
+        (λ m p i. let b = ((inverse.members m p).0 i).0 in omega (arith, b, inverse.row_count));
+    roots = Every-from (λ p. p < length rows) roots
+        (λ p i. let b = ((all p).0 i).0 in omega (arith, b, inverse.row_count));
     waits = subst (λ (xs : List Sleeper). Every (λ x. AreNodes made x.waits) xs) (sym none) tt;
     references = subst (λ (xs : List Sleeper). Every (λ x. AreNodes made x.references) xs) (sym none) tt;
   }

@@ -11,7 +11,8 @@ pub record HasNumbers (first many : ℕ) (numbers : List ObjectId) : Type 0 wher
   pub count : length numbers ≡ many
   pub rise : NumbersRise first numbers
 
--- it has the same nodes; each leads to those that have it as a child, and the roots are those that keep whoever comes to them
+-- it has the same nodes; each leads to those that have it as a child, and the roots are those that keep whoever comes
+-- to them
 pub record IsBackward (g : GraphParts) (flags : List Bool) (sets_finalisers : Bool) (b : GraphParts) : Type 0 where
   pub nodes : node_count b ≡ node_count g
   pub none : b.sleepers ≡ []

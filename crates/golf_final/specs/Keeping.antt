@@ -43,8 +43,10 @@ FlagsKept s sets_finalisers flags = (j g : ℕ) → IsSleeper s j g → IsSet fl
 
 -- on the marked graph of a state
 abbrev pub KeepsAlike : Type 0
-KeepsAlike = (s : State) (m : Marked) (sets_finalisers : Bool) (flags : List Bool) → Numbered s → IsWhole s → MarksLeast (live_parts s) m → HasKept (live_parts s) m sets_finalisers flags → FlagsKept s sets_finalisers flags
+KeepsAlike = (s : State) (m : Marked) (sets_finalisers : Bool) (flags : List Bool) → Numbered s → IsWhole s
+    → MarksLeast (live_parts s) m → HasKept (live_parts s) m sets_finalisers flags → FlagsKept s sets_finalisers flags
 
 -- if the graph is that of a state, and marked
 abbrev pub KeepsOf : GraphParts → Marked → Bool → List Bool → Type 0
-KeepsOf g m sets_finalisers flags = (s : State) → Numbered s → IsWhole s → g ≡ live_parts s → MarksLeast g m → FlagsKept s sets_finalisers flags
+KeepsOf g m sets_finalisers flags = (s : State) → Numbered s → IsWhole s → g ≡ live_parts s → MarksLeast g m
+    → FlagsKept s sets_finalisers flags

@@ -10,7 +10,8 @@ pub length_same : (s n : ℕ) → length (replicate n s) ≡ n
 length_same s zero = refl
 length_same s (suc n) = ap suc (length_same s n)
 
-pub left_append : (g : ℕ → ℕ → ℕ) (ss xs ts ys : List ℕ) → length ss ≡ length xs → left_in g (ss ++ ts) (xs ++ ys) ≡ left_in g ss xs + left_in g ts ys
+pub left_append : (g : ℕ → ℕ → ℕ) (ss xs ts ys : List ℕ) → length ss ≡ length xs
+    → left_in g (ss ++ ts) (xs ++ ys) ≡ left_in g ss xs + left_in g ts ys
 left_append g [] [] ts ys e = omega arith
 left_append g [] (x ∷ xs) ts ys e = absurd (omega arith)
 left_append g (s ∷ ss) [] ts ys e = absurd (omega arith)

@@ -1,9 +1,11 @@
 -- What clauses say of a hand.
-use Rattle.std.specs.Prelude.{Option, Some, None, ◌≡◌, ◌≢◌, ◌⊎◌, ℕ, ◌+◌, ◌<◌, ◌≤◌, List, [], ◌∷◌, ◌++◌, length, sum_by, vec_capacity}
+use Rattle.std.specs.Prelude.{Option, Some, None, ◌≡◌, ◌≢◌, ◌⊎◌, ℕ, ◌+◌, ◌<◌, ◌≤◌, List, [], ◌∷◌, ◌++◌, length, sum_by}
+use Rattle.std.specs.Prelude.{vec_capacity}
 use Rattle.std.specs.Global.{Global, Vec}
 use mathlib.Core.Option.{some}
 use lib.ListN.{get_elem?}
-use Rattle.crossbeam_deque.specs.Handles.{Pass, view, taken as gone_before, IsPassOf, worker_deque, stealer_deque, worker_flavor, stealer_flavor, worker_view, worker_capacity, worker_index}
+use Rattle.crossbeam_deque.specs.Handles.{Pass, view, taken as gone_before, IsPassOf, worker_deque, stealer_deque}
+use Rattle.crossbeam_deque.specs.Handles.{worker_flavor, stealer_flavor, worker_view, worker_capacity, worker_index}
 use Rattle.crossbeam_deque.specs.declared.handles.Stealer.{Stealer}
 use Rattle.crossbeam_deque.specs.declared.handles.Worker.{Worker}
 use Rattle.golf_theory.specs.Membership.{Every}
@@ -54,7 +56,8 @@ taken_list h = (worker_view h.own).taken ++ taken_with h.passes.items
 
 -- the passes know the two numbers of their deques, and with none was more taken than the second
 abbrev pub RowKnows : ℕ → ℕ → List GreyPass → Type 0
-RowKnows capacity places passes = (j : ℕ) (p : GreyPass) → get_elem? passes j ≡ some p → ((view p).places ≡ places) × ((view p).capacity ≡ capacity) × (length (view p).taken ≤ capacity)
+RowKnows capacity places passes = (j : ℕ) (p : GreyPass) → get_elem? passes j ≡ some p → ((view p).places ≡ places)
+    × ((view p).capacity ≡ capacity) × (length (view p).taken ≤ capacity)
 
 -- a steal that finds nothing: the deque was empty at a step of it, or another took a place between its steps
 abbrev pub FoundNone : GreyPass → GreyPass → Type 0
@@ -62,16 +65,19 @@ FoundNone old new = WasEmpty (view old) ⊎ (gone_before old < gone_before new)
 
 -- so it went with the pass of each deque but one
 abbrev pub FoundNoneBut : ℕ → List GreyPass → List GreyPass → Type 0
-FoundNoneBut number old new = (j : ℕ) (p q : GreyPass) → j ≢ number → get_elem? old j ≡ some p → get_elem? new j ≡ some q → FoundNone p q
+FoundNoneBut number old new = (j : ℕ) (p q : GreyPass) → j ≢ number → get_elem? old j ≡ some p
+    → get_elem? new j ≡ some q → FoundNone p q
 
--- a take that finds nothing: the hand's own deque was empty at a step of it, and each other was, or another hand's step came between
+-- a take that finds nothing: the hand's own deque was empty at a step of it, and each other was, or another hand's step
+-- came between
 pub record FindsNone (old new : GreyHand) : Type 0 where
   pub own : WasEmpty (worker_view old.own)
   pub others : FoundNoneBut old.number old.passes.items new.passes.items
 
 -- a pass of each of the first deques
 abbrev pub RowFits : List Thief → List GreyPass → Type 0
-RowFits thieves passes = (j : ℕ) (t : Thief) (p : GreyPass) → get_elem? thieves j ≡ some t → get_elem? passes j ≡ some p → IsPassOf (stealer_deque t) p × ((view p).parts ≡ 1) × ((view p).pushed ≡ [])
+RowFits thieves passes = (j : ℕ) (t : Thief) (p : GreyPass) → get_elem? thieves j ≡ some t → get_elem? passes j ≡ some p
+    → IsPassOf (stealer_deque t) p × ((view p).parts ≡ 1) × ((view p).pushed ≡ [])
 
 -- the passes are one of each deque
 pub record IsRow (thieves : List Thief) (passes : List GreyPass) : Type 0 where
@@ -137,19 +143,24 @@ AllFresh capacity places owners = (j : ℕ) (w : Owner) → get_elem? owners j �
 
 -- the passes know the two numbers, and with none was a place taken
 abbrev pub RowIsNew : ℕ → ℕ → List GreyPass → Type 0
-RowIsNew capacity places passes = (j : ℕ) (p : GreyPass) → get_elem? passes j ≡ some p → ((view p).places ≡ places) × ((view p).capacity ≡ capacity) × ((view p).taken ≡ [])
+RowIsNew capacity places passes = (j : ℕ) (p : GreyPass) → get_elem? passes j ≡ some p → ((view p).places ≡ places)
+    × ((view p).capacity ≡ capacity) × ((view p).taken ≡ [])
 
 -- so many whole rows, with which nothing was taken
 abbrev pub AreNewRows : List Thief → ℕ → ℕ → List (Vec GreyPass) → Type 0
-AreNewRows thieves capacity places rows = (k : ℕ) (r : Vec GreyPass) → get_elem? rows k ≡ some r → IsRow thieves r.items × ((g : ℕ → ℕ → ℕ) → row_weight g r.items ≡ 0) × RowIsNew capacity places r.items
+AreNewRows thieves capacity places rows = (k : ℕ) (r : Vec GreyPass) → get_elem? rows k ≡ some r → IsRow thieves r.items
+    × ((g : ℕ → ℕ → ℕ) → row_weight g r.items ≡ 0) × RowIsNew capacity places r.items
 
 -- each number from one on and below another has a hand
 abbrev pub HaveNumbers : ℕ → ℕ → List GreyHand → Type 0
-HaveNumbers from count hands = (j : ℕ) → from ≤ j → j < count → (k : ℕ) × (h : GreyHand) × (get_elem? hands k ≡ some h) × (h.number ≡ j)
+HaveNumbers from count hands = (j : ℕ) → from ≤ j → j < count → (k : ℕ) × (h : GreyHand) × (get_elem? hands k ≡ some h)
+    × (h.number ≡ j)
 
 -- the hands of these deques, in any order
 abbrev pub AllHandsIn : List Thief → ℕ → ℕ → List GreyHand → Type 0
-AllHandsIn thieves capacity places hands = (length hands ≡ length thieves) × ((k : ℕ) (h : GreyHand) → get_elem? hands k ≡ some h → IsHandIn thieves capacity places h) × HaveNumbers 0 (length thieves) hands
+AllHandsIn thieves capacity places hands = (length hands ≡ length thieves)
+    × ((k : ℕ) (h : GreyHand) → get_elem? hands k ≡ some h → IsHandIn thieves capacity places h)
+    × HaveNumbers 0 (length thieves) hands
 
 -- the hands of a pool, in any order
 abbrev pub AreAllHands : GreyPool → List GreyHand → Type 0
@@ -187,7 +198,8 @@ left_in g [] places = 0
 left_in g (s ∷ ss) [] = 0
 left_in g (s ∷ ss) (x ∷ xs) = g s x + left_in g ss xs
 
--- each place that is left lay in one deque, and for each deque what was pushed to it was taken from it or is left in it, each place as often
+-- each place that is left lay in one deque, and for each deque what was pushed to it was taken from it or is left in
+-- it, each place as often
 pub record IsSplit (hands : List GreyHand) (places sources : List ℕ) : Type 0 where
   pub each : length sources ≡ length places
   pub balance : (g : ℕ → ℕ → ℕ) → pushed_to g hands ≡ taken_from g hands + left_in g sources places
@@ -213,12 +225,15 @@ abbrev pub rows_weight : (ℕ → ℕ → ℕ) → List (Vec GreyPass) → ℕ
 rows_weight g rows = sum_by (λ (r : Vec GreyPass). row_weight g r.items) rows
 
 -- the hands but for the rest are taken apart, by rising number
-pub record IsTaking (thieves : List Thief) (capacity places : ℕ) (hands rest : List GreyHand) (owners : List Owner) (rows : List (Vec GreyPass)) : Type 0 where
+pub record IsTaking (thieves : List Thief) (capacity places : ℕ) (hands rest : List GreyHand) (owners : List Owner)
+    (rows : List (Vec GreyPass)) : Type 0 where
   pub count : length owners + length rest ≡ length thieves
   pub rows_count : length rows ≡ length owners
   pub fits : (k : ℕ) (h : GreyHand) → get_elem? rest k ≡ some h → IsHandIn thieves capacity places h
   pub numbers : HaveNumbers (length owners) (length thieves) rest
-  pub owned : (j : ℕ) (w : Owner) → get_elem? owners j ≡ some w → ((t : Thief) → get_elem? thieves j ≡ some t → (worker_deque w ≡ stealer_deque t) × (stealer_flavor t ≡ 0)) × (worker_flavor w ≡ 0) × ((worker_view w).parts + length thieves ≡ all_parts)
+  pub owned : (j : ℕ) (w : Owner) → get_elem? owners j ≡ some w
+      → ((t : Thief) → get_elem? thieves j ≡ some t → (worker_deque w ≡ stealer_deque t) × (stealer_flavor t ≡ 0))
+      × (worker_flavor w ≡ 0) × ((worker_view w).parts + length thieves ≡ all_parts)
   pub rowed : AllRows thieves rows
   pub sums_pushed : (g : ℕ → ℕ → ℕ) → pushed_in g owners + pushed_to g rest ≡ pushed_to g hands
   pub sums_taken : (g : ℕ → ℕ → ℕ) → (taken_in g owners + rows_weight g rows) + taken_from g rest ≡ taken_from g hands
@@ -230,4 +245,5 @@ pub record IsStealing (thieves : List Thief) (number j : ℕ) (first now : List 
   pub knows : (capacity places : ℕ) → RowKnows capacity places first → RowKnows capacity places now
   pub unused : get_elem? now number ≡ get_elem? first number
   pub later : (k : ℕ) → j ≤ k → get_elem? now k ≡ get_elem? first k
-  pub none : (k : ℕ) (p q : GreyPass) → k < j → k ≢ number → get_elem? first k ≡ some p → get_elem? now k ≡ some q → FoundNone p q
+  pub none : (k : ℕ) (p q : GreyPass) → k < j → k ≢ number → get_elem? first k ≡ some p → get_elem? now k ≡ some q
+      → FoundNone p q

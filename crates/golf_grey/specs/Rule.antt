@@ -1,4 +1,5 @@
--- The rule of one deque: what was pushed to it was taken or is in it, each place as often; all are below a number, and they are no more than another.
+-- The rule of one deque: what was pushed to it was taken or is in it, each place as often; all are below a number, and
+-- they are no more than another.
 use Rattle.std.specs.Prelude.{◌≡◌, ℕ, ◌+◌, ◌-◌, ◌<◌, ◌≤◌, List, [], ◌∷◌, ◌++◌, length, sum_by}
 use mathlib.Core.Option.{some}
 use lib.ListN.{get_elem?}
@@ -6,7 +7,8 @@ use Rattle.golf_theory.specs.Membership.{Every}
 use Rattle.golf_grey.specs.declared.rule.GreyView.{GreyView}
 
 abbrev pub grey : ℕ → ℕ → ℕ → ℕ → List ℕ → List ℕ → GreyView
-grey parts pushers places capacity pushed taken = record { parts = parts; pushers = pushers; places = places; capacity = capacity; pushed = pushed; taken = taken }
+grey parts pushers places capacity pushed taken =
+    record { parts = parts; pushers = pushers; places = places; capacity = capacity; pushed = pushed; taken = taken }
 
 -- as many parts as there may be hands, and more
 abbrev pub all_parts : ℕ
@@ -27,15 +29,18 @@ AllBelow places xs = Every (λ x. x < places) xs
 abbrev pub count : List ℕ → ℕ
 count xs = sum_by (λ _. 1) xs
 
--- the parts add up, and one view alone may have pushed; for every weight of places, what was pushed weighs as much as what was taken and what is in the deque;
--- a view without a part has done nothing; each other knows the two numbers, and what is in the deque is below the first, and what was pushed is no more than the second
+-- the parts add up, and one view alone may have pushed; for every weight of places, what was pushed weighs as much as
+-- what was taken and what is in the deque; a view without a part has done nothing; each other knows the two numbers,
+-- and what is in the deque is below the first, and what was pushed is no more than the second
 pub record BalancedAt (places capacity : ℕ) (items : List ℕ) (views : List GreyView) : Type 0 where
   pub parts : sum_by (λ v. v.parts) views ≡ all_parts
   pub pushers : sum_by (λ v. v.pushers) views ≡ 1
-  pub balance : (h : ℕ → ℕ) → sum_by (λ v. sum_by h v.pushed) views ≡ sum_by (λ v. sum_by h v.taken) views + sum_by h items
+  pub balance : (h : ℕ → ℕ) → sum_by (λ v. sum_by h v.pushed) views ≡ sum_by (λ v. sum_by h v.taken) views
+      + sum_by h items
   pub idle : (k : ℕ) (v : GreyView) → get_elem? views k ≡ some v → v.parts ≡ 0 → (v.pushed ≡ []) × (v.taken ≡ [])
   pub silent : (k : ℕ) (v : GreyView) → get_elem? views k ≡ some v → v.pushers ≡ 0 → v.pushed ≡ []
-  pub same : (k : ℕ) (v : GreyView) → get_elem? views k ≡ some v → 0 < v.parts → (v.places ≡ places) × (v.capacity ≡ capacity)
+  pub same : (k : ℕ) (v : GreyView) → get_elem? views k ≡ some v → 0 < v.parts → (v.places ≡ places)
+      × (v.capacity ≡ capacity)
   pub low : AllBelow places items
   pub few : sum_by (λ v. count v.pushed) views ≤ capacity
 
@@ -46,7 +51,8 @@ Balanced items views = (places : ℕ) × (capacity : ℕ) × BalancedAt places c
 pub record Pushed (v : GreyView) (xs : List ℕ) (w : GreyView) : Type 0 where
   pub view : w ≡ grey v.parts v.pushers v.places v.capacity (v.pushed ++ xs) v.taken
 
--- a take adds to what was taken, which is below the number of places and no more than may be pushed; who has every part has not taken more than was pushed
+-- a take adds to what was taken, which is below the number of places and no more than may be pushed; who has every part
+-- has not taken more than was pushed
 pub record Taken (v : GreyView) (xs : List ℕ) (w : GreyView) : Type 0 where
   pub view : w ≡ grey v.parts v.pushers v.places v.capacity v.pushed (v.taken ++ xs)
   pub low : AllBelow v.places xs
@@ -82,7 +88,8 @@ right_view v = grey 1 0 v.places v.capacity [] []
 
 -- a pass is taken back with all that it did
 abbrev pub both_views : GreyView → GreyView → GreyView
-both_views v w = grey (v.parts + w.parts) (v.pushers + w.pushers) v.places v.capacity (v.pushed ++ w.pushed) (v.taken ++ w.taken)
+both_views v w = grey (v.parts + w.parts) (v.pushers + w.pushers) v.places v.capacity (v.pushed ++ w.pushed)
+    (v.taken ++ w.taken)
 
 abbrev pub spent_view : GreyView
 spent_view = grey 0 0 0 0 [] []

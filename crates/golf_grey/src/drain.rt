@@ -1,12 +1,15 @@
 //! The end of a pool: each deque gets back its passes, and is emptied.
 
-ghost use Rattle.std.specs.Prelude.{◌≡◌, ◌+◌, ◌-◌, ◌<◌, ◌≤◌, ℕ, sum_by, length, remove, List as SpecList, [], ◌∷◌, ◌++◌};
+ghost use Rattle.std.specs.Prelude.{◌≡◌, ◌+◌, ◌-◌, ◌<◌, ◌≤◌, ℕ, sum_by, length, remove, List as SpecList, [], ◌∷◌};
+ghost use Rattle.std.specs.Prelude.{◌++◌};
 ghost use mathlib.Core.Option.{some};
 ghost use lib.ListN.{get_elem?};
 ghost use Rattle.crossbeam_deque.specs.Handles.{view, IsPassOf, stealer_deque, worker_flavor, worker_view};
 ghost use Rattle.golf_grey.specs.Rule.{all_parts};
 ghost use Rattle.golf_grey.specs.declared.hand.GreyHand.{GreyHand as SpecHand};
-ghost use Rattle.golf_grey.specs.Hands.{AllHandsIn, IsStage, IsRow, AllRows, left_in, row_weight, rows_weight, pushed_to, taken_from, pushed_in, taken_in, Thief as SpecThief, Owner as SpecOwner};
+ghost use Rattle.golf_grey.specs.Hands.{AllHandsIn, IsStage, IsRow, AllRows, left_in, row_weight, rows_weight};
+ghost use Rattle.golf_grey.specs.Hands.{pushed_to, taken_from, pushed_in, taken_in, Thief as SpecThief};
+ghost use Rattle.golf_grey.specs.Hands.{Owner as SpecOwner};
 
 use crate::hand::GreyHand;
 use crate::rule::{Deal, GreyView, Owner, Take, Thief};

@@ -1,6 +1,7 @@
 //! The deques of all hands, as thieves see them.
 
-ghost use Rattle.std.specs.Prelude.{◌≡◌, ◌+◌, ◌*◌, ℕ, ◌<◌, ◌≤◌, ◌∷◌, [], ◌++◌, length, sum_by, IfSome, IfNone, List as SpecList};
+ghost use Rattle.std.specs.Prelude.{◌≡◌, ◌+◌, ◌*◌, ℕ, ◌<◌, ◌≤◌, ◌∷◌, [], ◌++◌, length, sum_by, IfSome, IfNone};
+ghost use Rattle.std.specs.Prelude.{List as SpecList};
 
 use crate::drain::{absorb_row, drain_all, take_apart};
 use crate::hand::GreyHand;

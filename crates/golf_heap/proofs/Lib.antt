@@ -1,4 +1,5 @@
 pub mod Ranks
+pub mod Keyed
 pub mod Numbers
 pub mod Gathering
 pub mod Stored

@@ -16,16 +16,25 @@ absent (Some x) h = cc
 
 -- a number that is not there stays away
 pub unchanged : (h : NumberedObjects) (o : ℕ) (x : Object) → is_some (find o h.objects) ≡ false → h ≡ replaced o x h
-unchanged h o x n = ap (λ (es : List (ℕ × Object)). record { objects = es; last = h.last }) (sym (put-none o x h.objects (absent (find o h.objects) n)))
+unchanged h o x n = ap (λ (es : List (ℕ × Object)). record { objects = es; last = h.last })
+    (sym (put-none o x h.objects (absent (find o h.objects) n)))
 
 pub IsNumbered-made : (h : NumberedObjects) (x : Object) → IsNumbered h → IsNumbered (made x h)
 IsNumbered-made h x n = record {
   rises = Rises-add 1 (h.last + 1) x h.objects (omega arith) n.within n.rises;
-  within = AllBelow-add (h.last + 1 + 1) (h.last + 1) x h.objects (omega arith) (AllBelow-more (h.last + 1) (h.last + 1 + 1) h.objects (omega arith) n.within);
+  within = AllBelow-add (h.last + 1 + 1) (h.last + 1) x h.objects (omega arith)
+      (AllBelow-more (h.last + 1) (h.last + 1 + 1) h.objects (omega arith) n.within);
 }
 
 pub IsNumbered-replaced : (h : NumberedObjects) (o : ℕ) (x : Object) → IsNumbered h → IsNumbered (replaced o x h)
-IsNumbered-replaced h o x n = record { rises = Rises-put 1 o x h.objects n.rises; within = AllBelow-put (h.last + 1) o x h.objects n.within }
+IsNumbered-replaced h o x n = record {
+  rises = Rises-put 1 o x h.objects n.rises;
+  within = AllBelow-put (h.last + 1) o x h.objects n.within;
+}
 
-pub IsNumbered-kept : (h : NumberedObjects) (keep : List Bool) → IsNumbered h → IsNumbered (record h { objects = kept keep h.objects })
-IsNumbered-kept h keep n = record { rises = Rises-kept 1 keep h.objects n.rises; within = AllBelow-kept (h.last + 1) keep h.objects n.within }
+pub IsNumbered-kept : (h : NumberedObjects) (keep : List Bool) → IsNumbered h
+    → IsNumbered (record h { objects = kept keep h.objects })
+IsNumbered-kept h keep n = record {
+  rises = Rises-kept 1 keep h.objects n.rises;
+  within = AllBelow-kept (h.last + 1) keep h.objects n.within;
+}

@@ -1,7 +1,8 @@
 -- Places and keys of a map whose keys rise.
 -- For: `rank` (golf_heap/specs/Objects.antt) and `rank`, `count` (src/heap.rt)
 -- By: induction over the list of entries
-use Rattle.std.proofs.Common.{◌≡◌, ℕ, zero, suc, ◌+◌, ◌<◌, ◌≤◌, Bool, true, false, cond, List, [], ◌∷◌, length, get_or, Option, Some, None, ◌==◌, nat_lt, refl, sym, ap, ◌∙◌, arith, slice_get}
+use Rattle.std.proofs.Common.{◌≡◌, ℕ, zero, suc, ◌+◌, ◌<◌, ◌≤◌, Bool, true, false, cond, List, [], ◌∷◌, length, get_or}
+use Rattle.std.proofs.Common.{Option, Some, None, ◌==◌, nat_lt, refl, sym, ap, ◌∙◌, arith, slice_get}
 use Rattle.std.specs.List.Sorted.{IsNonDecreasingBy}
 use Rattle.std.proofs.lemmas.Bool.{ne_eqb, lt-ltb, le-ltb, ltb-true, ltb-false}
 use Rattle.golf_theory.specs.Maps.{find, Rises, AllBelow}
@@ -20,7 +21,8 @@ module _ {X : Type 0} where
   above j (e ∷ es) zero d r l = r.0
   above j (e ∷ es) (suc i) d r l = let a = above (suc e.0) es i d r.1 (omega arith) in omega (arith, r.0)
 
-  rising : (j : ℕ) (es : List (ℕ × X)) (m n : ℕ) (d : ℕ × X) → Rises j es → m ≤ n → n < length es → (get_or es m d).0 ≤ (get_or es n d).0
+  rising : (j : ℕ) (es : List (ℕ × X)) (m n : ℕ) (d : ℕ × X) → Rises j es → m ≤ n → n < length es
+      → (get_or es m d).0 ≤ (get_or es n d).0
   rising j [] m n d r l h = absurd (omega arith)
   rising j (e ∷ es) zero zero d r l h = omega arith
   rising j (e ∷ es) zero (suc n) d r l h = let a = above (suc e.0) es n d r.1 (omega arith) in omega arith
@@ -31,7 +33,8 @@ module _ {X : Type 0} where
   sorted j es r = λ m n d l h. rising j es m n d r l h
 
   -- the place that parts the smaller keys from the others
-  pub rank-is : (k i : ℕ) (es : List (ℕ × X)) → i ≤ length es → ((m : ℕ) (d : ℕ × X) → m < i → (get_or es m d).0 < k) → ((d : ℕ × X) → i < length es → k ≤ (get_or es i d).0) → i ≡ rank k es
+  pub rank-is : (k i : ℕ) (es : List (ℕ × X)) → i ≤ length es → ((m : ℕ) (d : ℕ × X) → m < i → (get_or es m d).0 < k)
+      → ((d : ℕ × X) → i < length es → k ≤ (get_or es i d).0) → i ≡ rank k es
   rank-is k zero [] l a b = refl
   rank-is k (suc i) [] l a b = absurd (omega arith)
   rank-is k zero (e ∷ es) l a b = sym (ap (λ t. cond t (suc (rank k es)) 0) (le-ltb e.0 k (b e (omega arith))))
@@ -50,7 +53,8 @@ module _ {X : Type 0} where
   pub find-rank : (k j : ℕ) (es : List (ℕ × X)) → Rises j es → find k es ≡ at_key k (slice_get es (rank k es))
   find-rank k j [] r = refl
   find-rank k j (e ∷ es) r =
-      elim (nat_lt e.0 k) as (λ t. nat_lt e.0 k ≡ t → cond (k == e.0) (Some e.1) (find k es) ≡ at_key k (slice_get (e ∷ es) (cond t (suc (rank k es)) 0))) [
+      elim (nat_lt e.0 k) as (λ t. nat_lt e.0 k ≡ t
+      → cond (k == e.0) (Some e.1) (find k es) ≡ at_key k (slice_get (e ∷ es) (cond t (suc (rank k es)) 0))) [
         | true ↦ λ t.
             let l : e.0 < k = ltb-true e.0 k t in
             ap (λ b. cond b (Some e.1) (find k es)) (ne_eqb k e.0 (λ a. omega arith)) ∙ find-rank k (suc e.0) es r.1

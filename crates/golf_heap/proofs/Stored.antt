@@ -4,17 +4,19 @@
 use Rattle.std.proofs.Common.{◌≡◌, ℕ, ◌+◌, List, [], ◌∷◌, ◌++◌, Some, None, sym, ap, ◌∙◌, arith, subst, length-append}
 use Rattle.slab.specs.Slab.{get, Updates, slab_len}
 use Rattle.golf_data.specs.declared.value.Object.{Object}
-use Rattle.golf_heap.specs.declared.places.Place.{Place}
+use Rattle.golf_heap.specs.declared.places.ObjectKey.{ObjectKey}
 use Rattle.golf_heap.specs.Objects.{IsNumbered, made}
 use Rattle.golf_heap.specs.Kept.{gathered, Holds, IsStored}
 use Rattle.golf_heap.proofs.Gathering.{Slots, gathered-same, Holds-same, gathered-added, Holds-added}
 use Rattle.golf_heap.proofs.Numbers.{IsNumbered-made}
 
-pub IsStored-room : (s after : Slots) (ps : List Place) (last : ℕ) → after ≡ record s { capacity = after.capacity } → IsStored s ps last → IsStored after ps last
+pub IsStored-room : (s after : Slots) (ps : List ObjectKey) (last : ℕ) → after ≡ record s { capacity = after.capacity }
+    → IsStored s ps last → IsStored after ps last
 IsStored-room s after ps last e i =
     let same : (key : ℕ) → get after key ≡ get s key = λ key. ap (λ (z : Slots). get z key) e in
     record {
-      numbers = subst (λ (es : List (ℕ × Object)). IsNumbered (record { objects = es; last = last })) (sym (gathered-same s after ps same)) i.numbers;
+      numbers = subst (λ (es : List (ℕ × Object)). IsNumbered (record { objects = es; last = last }))
+          (sym (gathered-same s after ps same)) i.numbers;
       held = Holds-same s after ps same i.held;
       only = ap (λ (z : Slots). slab_len z) e ∙ i.only;
     }
@@ -25,18 +27,27 @@ pub record IsPut (s after : Slots) (key n last : ℕ) (x : Object) : Type 0 wher
   pub updates : Updates s after key (Some (n, x))
   pub number : n ≡ last + 1
 
-pub IsStored-made : (s after : Slots) (key n last : ℕ) (x : Object) (ps : List Place) → IsStored s ps last → IsPut s after key n last x → slab_len after ≡ slab_len s + 1 → IsStored after (ps ++ record { number = n; key = key } ∷ []) n
+pub IsStored-made : (s after : Slots) (key n last : ℕ) (x : Object) (ps : List ObjectKey) → IsStored s ps last
+    → IsPut s after key n last x → slab_len after ≡ slab_len s + 1
+    → IsStored after (ps ++ record { number = n; key = key } ∷ []) n
 IsStored-made s after key n last x ps i put l = record {
   numbers =
-      subst (λ (es : List (ℕ × Object)). IsNumbered (record { objects = es; last = n })) (sym (gathered-added s after key n x ps i.held put.vacant put.updates))
-      (subst (λ (m : ℕ). IsNumbered (record { objects = gathered s ps ++ (m, x) ∷ []; last = m })) (sym put.number) (IsNumbered-made (record { objects = gathered s ps; last = last }) x i.numbers));
+      subst (λ (es : List (ℕ × Object)). IsNumbered (record { objects = es; last = n }))
+      (sym (gathered-added s after key n x ps i.held put.vacant put.updates))
+      (subst (λ (m : ℕ). IsNumbered (record { objects = gathered s ps ++ (m, x) ∷ []; last = m })) (sym put.number)
+      (IsNumbered-made (record { objects = gathered s ps; last = last }) x i.numbers));
   held = Holds-added s after key n x ps i.held put.vacant put.updates;
   only = l ∙ omega (arith, i.only, length-append ps (record { number = n; key = key } ∷ []));
 }
 
-pub view-made : (s mid after : Slots) (key n last : ℕ) (x : Object) (ps : List Place) → mid ≡ record s { capacity = mid.capacity } → Holds mid ps → IsPut mid after key n last x → record { objects = gathered after (ps ++ record { number = n; key = key } ∷ []); last = n } ≡ made x (record { objects = gathered s ps; last = last })
+pub view-made : (s mid after : Slots) (key n last : ℕ) (x : Object) (ps : List ObjectKey)
+    → mid ≡ record s { capacity = mid.capacity } → Holds mid ps → IsPut mid after key n last x
+    → record { objects = gathered after (ps ++ record { number = n; key = key } ∷ []); last = n } ≡ made x
+    (record { objects = gathered s ps; last = last })
 view-made s mid after key n last x ps room h put =
     let first : gathered after (ps ++ record { number = n; key = key } ∷ []) ≡ gathered s ps ++ (n, x) ∷ [] =
-    gathered-added mid after key n x ps h put.vacant put.updates ∙ ap (λ (es : List (ℕ × Object)). es ++ (n, x) ∷ []) (gathered-same s mid ps (λ k. ap (λ (z : Slots). get z k) room)) in
+    gathered-added mid after key n x ps h put.vacant put.updates
+    ∙ ap (λ (es : List (ℕ × Object)). es ++ (n, x) ∷ [])
+    (gathered-same s mid ps (λ k. ap (λ (z : Slots). get z k) room)) in
     ap (λ (es : List (ℕ × Object)). record { objects = es; last = n }) first
     ∙ ap (λ (m : ℕ). record { objects = gathered s ps ++ (m, x) ∷ []; last = m }) put.number

@@ -2,11 +2,11 @@
 use Rattle.std.specs.Prelude.{◌≡◌, ℕ, false, List, [], ◌∷◌, length, map, Option, Some, None}
 use Rattle.slab.specs.Slab.{Slab, get, slab_len}
 use Rattle.golf_data.specs.declared.value.Object.{Object}
-use Rattle.golf_heap.specs.declared.places.Place.{Place}
+use Rattle.golf_heap.specs.declared.places.ObjectKey.{ObjectKey}
 use Rattle.golf_heap.specs.Objects.{IsNumbered}
 
 -- the keys by number
-abbrev pub keyed : List Place → List (ℕ × ℕ)
+abbrev pub keyed : List ObjectKey → List (ℕ × ℕ)
 keyed ps = map (λ p. (p.number, p.key)) ps
 
 -- the object of a slot; an empty slot stands for an unlocked mutex, but no place has one
@@ -15,7 +15,7 @@ object_in None = Object.Mutex false
 object_in (Some e) = e.1
 
 -- the objects by number
-abbrev pub gathered : Slab (ℕ × Object) → List Place → List (ℕ × Object)
+abbrev pub gathered : Slab (ℕ × Object) → List ObjectKey → List (ℕ × Object)
 gathered s [] = []
 gathered s (p ∷ ps) = (p.number, object_in (get s p.key)) ∷ gathered s ps
 
@@ -25,12 +25,12 @@ IsOf k None = ⊥
 IsOf k (Some e) = e.0 ≡ k
 
 -- the slot of each place has the place's number
-abbrev pub Holds : Slab (ℕ × Object) → List Place → Type 0
+abbrev pub Holds : Slab (ℕ × Object) → List ObjectKey → Type 0
 Holds s [] = Unit {0}
 Holds s (p ∷ ps) = IsOf p.number (get s p.key) × Holds s ps
 
 -- the slab has the objects of these places, and no others
-pub record IsStored (s : Slab (ℕ × Object)) (ps : List Place) (last : ℕ) : Type 0 where
+pub record IsStored (s : Slab (ℕ × Object)) (ps : List ObjectKey) (last : ℕ) : Type 0 where
   pub numbers : IsNumbered (record { objects = gathered s ps; last = last })
   pub held : Holds s ps
   pub only : slab_len s ≡ length ps

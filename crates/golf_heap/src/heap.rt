@@ -1,12 +1,13 @@
 //! Objects in rising order of number.
 
-ghost use Rattle.std.specs.Prelude.{◌≡◌, ◌+◌, ◌<◌, [], length, is_some, IsSome, option_map, slice_get, Some, IfOk, OnOk, OnErr};
+ghost use Rattle.std.specs.Prelude.{◌≡◌, ◌+◌, ◌<◌, [], length, is_some, IsSome, option_map, slice_get, Some, IfOk};
+ghost use Rattle.std.specs.Prelude.{OnOk, OnErr};
 ghost use Rattle.std.specs.Borrow.{sem};
 ghost use Rattle.golf_theory.specs.Maps.{find, keys};
 ghost use Rattle.golf_heap.specs.Objects.{IsNumbered, made, replaced, kept, rank};
 ghost use Rattle.golf_heap.specs.Lending.{LendsObject};
 
-use crate::places::{Place, close_up, free, key_of, rank_of};
+use crate::places::{ObjectKey, close_up, free, key_of, rank_of};
 use golf_base::{Memory, ObjectId};
 use golf_data::Object;
 use slab::Slab;
@@ -21,7 +22,7 @@ use std::marker::Model;
 #[derive(Debug, Drop)]
 pub struct Heap {
     slots: Slab<(u32, Object)>,
-    places: Vec<Place>,
+    places: Vec<ObjectKey>,
     last: u32,
 }
 
@@ -57,7 +58,7 @@ impl Heap {
         let number = self.last.checked_add(1).ok_or(Memory)?;
         self.slots.reserve(1)?;
         let key = self.slots.vacant_key();
-        self.places.push(Place { number, key })?;
+        self.places.push(ObjectKey { number, key })?;
         self.slots.insert_reserved((number, object));
         self.last = number;
         Ok(ObjectId(number))

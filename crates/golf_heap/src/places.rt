@@ -11,14 +11,14 @@ use slab::Slab;
 
 /// The key of the object of a number.
 #[derive(Clone, Copy, Debug)]
-pub struct Place {
+pub struct ObjectKey {
     pub number: u32,
     pub key: usize,
 }
 
 // The index at which the object of this number stands if none before it was freed, and if it does.
 #[inline(always)]
-fn index_of(places: &[Place], number: u32) -> Option<usize>
+fn index_of(places: &[ObjectKey], number: u32) -> Option<usize>
     requires { Rises 1 (keyed places.now) }
     ensures { IfSome result (λ at. at ≡ rank number (keyed places.now)) }
 {
@@ -33,7 +33,7 @@ fn index_of(places: &[Place], number: u32) -> Option<usize>
 
 /// How many places have a smaller number.
 #[inline(always)]
-pub fn rank_of(places: &[Place], number: u32) -> usize
+pub fn rank_of(places: &[ObjectKey], number: u32) -> usize
     requires { Rises 1 (keyed places.now) }
     ensures { result ≡ rank number (keyed places.now) }
 {
@@ -45,7 +45,7 @@ pub fn rank_of(places: &[Place], number: u32) -> usize
 
 /// The key of the object of this number.
 #[inline(always)]
-pub fn key_of(places: &[Place], number: u32) -> Option<usize>
+pub fn key_of(places: &[ObjectKey], number: u32) -> Option<usize>
     requires { Rises 1 (keyed places.now) }
     ensures { result ≡ find number (keyed places.now) }
 {
@@ -58,7 +58,7 @@ pub fn key_of(places: &[Place], number: u32) -> Option<usize>
 }
 
 /// Takes the objects of the places whose flag is false out of the slab.
-pub fn free(slots: &mut Slab<(u32, Object)>, places: &[Place], keep: &[bool])
+pub fn free(slots: &mut Slab<(u32, Object)>, places: &[ObjectKey], keep: &[bool])
     requires flags { length keep.now ≡ length places.now }
     requires rises { Rises 1 (keyed places.now) }
     requires held { Holds slots.old places.now }

@@ -13,11 +13,14 @@ use Rattle.golf_lex.proofs.Runs.{scans-lexes, fault-at, fault-end}
 at : ℕ → TokenKind → Token
 at line kind = record { kind = kind; line = line }
 
-short : Lexes (codes "a<-b // c\n}") (at 1 (Name (codes "a")) ∷ at 1 (Punctuation punctuations.Arrow) ∷ at 1 (Name (codes "b")) ∷ at 2 (Punctuation punctuations.CloseBrace) ∷ at 2 (Punctuation punctuations.Semicolon) ∷ [])
+short : Lexes (codes "a<-b // c\n}") (at 1 (Name (codes "a")) ∷ at 1 (Punctuation punctuations.Arrow)
+    ∷ at 1 (Name (codes "b")) ∷ at 2 (Punctuation punctuations.CloseBrace) ∷ at 2 (Punctuation punctuations.Semicolon)
+    ∷ [])
 unfolding at
 short = scans-lexes (codes "a<-b // c\n}") _ refl
 
-string : Lexes (codes "return \"\\\"\"") (at 1 (Keyword Return) ∷ at 1 (Text (34 ∷ [])) ∷ at 1 (Punctuation punctuations.Semicolon) ∷ [])
+string : Lexes (codes "return \"\\\"\"")
+    (at 1 (Keyword Return) ∷ at 1 (Text (34 ∷ [])) ∷ at 1 (Punctuation punctuations.Semicolon) ∷ [])
 unfolding at
 string = scans-lexes (codes "return \"\\\"\"") _ refl
 

@@ -24,22 +24,29 @@ abbrev pub reached : List ℕ → Option State
 reached [] = Some states.Blank
 reached (b ∷ bs) = option_and_then (λ state. grown state bs) (begun b)
 
-pub grown-append : (state : State) (xs ys : List ℕ) → grown state (xs ++ ys) ≡ option_and_then (λ next. grown next ys) (grown state xs)
+pub grown-append : (state : State) (xs ys : List ℕ)
+    → grown state (xs ++ ys) ≡ option_and_then (λ next. grown next ys) (grown state xs)
 grown-append state [] ys = refl
 grown-append state (b ∷ xs) ys = at (growth state b) (λ next. grown-append next xs ys)
   where
-    at : (g : Growth) → ((next : State) → grown next (xs ++ ys) ≡ option_and_then (λ n. grown n ys) (grown next xs)) → to_only g (λ next. grown next (xs ++ ys)) ≡ option_and_then (λ next. grown next ys) (to_only g (λ next. grown next xs))
+    at : (g : Growth) → ((next : State) → grown next (xs ++ ys) ≡ option_and_then (λ n. grown n ys) (grown next xs))
+        → to_only g (λ next. grown next (xs ++ ys)) ≡ option_and_then (λ next. grown next ys)
+        (to_only g (λ next. grown next xs))
     at (To next) again = again next
     at Over again = refl
     at Fault again = refl
 
-pub reached-append : (b : ℕ) (xs ys : List ℕ) → reached (b ∷ (xs ++ ys)) ≡ option_and_then (λ next. grown next ys) (reached (b ∷ xs))
+pub reached-append : (b : ℕ) (xs ys : List ℕ)
+    → reached (b ∷ (xs ++ ys)) ≡ option_and_then (λ next. grown next ys) (reached (b ∷ xs))
 reached-append b xs ys = at (begun b)
   where
-    at : (o : Option State) → option_and_then (λ s. grown s (xs ++ ys)) o ≡ option_and_then (λ next. grown next ys) (option_and_then (λ s. grown s xs) o)
+    at : (o : Option State) → option_and_then (λ s. grown s (xs ++ ys)) o ≡ option_and_then (λ next. grown next ys)
+        (option_and_then (λ s. grown s xs) o)
     at (Some s) = grown-append s xs ys
     at None = refl
 
 -- one more byte
-pub reached-more : (b c : ℕ) (xs : List ℕ) (state more : State) → reached (b ∷ xs) ≡ Some state → growth state c ≡ To more → reached (b ∷ (xs ++ c ∷ [])) ≡ Some more
-reached-more b c xs state more e g = reached-append b xs (c ∷ []) ∙ ap (λ o. option_and_then (λ n. grown n (c ∷ [])) o) e ∙ ap (λ h. to_only h (λ n. Some n)) g
+pub reached-more : (b c : ℕ) (xs : List ℕ) (state more : State) → reached (b ∷ xs) ≡ Some state
+    → growth state c ≡ To more → reached (b ∷ (xs ++ c ∷ [])) ≡ Some more
+reached-more b c xs state more e g = reached-append b xs (c ∷ [])
+    ∙ ap (λ o. option_and_then (λ n. grown n (c ∷ [])) o) e ∙ ap (λ h. to_only h (λ n. Some n)) g

@@ -18,7 +18,8 @@ find-passes : {X : Type 0} (test : X → Bool) (xs : List X) (x : X) → find te
 find-passes test [] x e = absurd (cc)
 find-passes test (y ∷ ys) x e = at (test y) refl (find-passes test ys x) e
   where
-    at : (t : Bool) → test y ≡ t → (find test ys ≡ Some x → test x ≡ true) → cond t (Some y) (find test ys) ≡ Some x → test x ≡ true
+    at : (t : Bool) → test y ≡ t → (find test ys ≡ Some x → test x ≡ true) → cond t (Some y) (find test ys) ≡ Some x
+        → test x ≡ true
     at true et again f = let same : y ≡ x = cc in ap test (sym same) ∙ et
     at false et again f = again f
 
@@ -28,7 +29,8 @@ find-none test [] fails = refl
 find-none test (y ∷ ys) fails = ap (λ t. cond t (Some y) (find test ys)) (fails y) ∙ find-none test ys fails
 
 pub keyword_of-text : (word : List ℕ) (k : Keyword) → keyword_of word ≡ Some k → word ≡ keyword_text k
-keyword_of-text word k e = sym ((bytes_eq-Decides (keyword_text k) word).0 (find-passes (λ j. bytes_eq (keyword_text j) word) KEYWORDS k e))
+keyword_of-text word k e = sym ((bytes_eq-Decides (keyword_text k) word).0
+    (find-passes (λ j. bytes_eq (keyword_text j) word) KEYWORDS k e))
 
 -- each keyword is told
 pub keyword_of-again : (k : Keyword) → keyword_of (keyword_text k) ≡ Some k
@@ -63,7 +65,8 @@ pub keyword_of-none : (word : List ℕ) → keyword_of word ≡ None → (k : Ke
 keyword_of-none word e k same = let both : Some k ≡ None = sym (keyword_of-again k) ∙ ap keyword_of same ∙ e in cc
 
 pub keyword_of-no : (word : List ℕ) → ((k : Keyword) → keyword_text k ≢ word) → keyword_of word ≡ None
-keyword_of-no word other = find-none (λ k. bytes_eq (keyword_text k) word) KEYWORDS (λ k. different (bytes_eq (keyword_text k) word) (λ t. other k ((bytes_eq-Decides (keyword_text k) word).0 t)))
+keyword_of-no word other = find-none (λ k. bytes_eq (keyword_text k) word) KEYWORDS
+    (λ k. different (bytes_eq (keyword_text k) word) (λ t. other k ((bytes_eq-Decides (keyword_text k) word).0 t)))
   where
     different : (t : Bool) → (t ≡ true → ⊥) → t ≡ false
     different true h = absurd (h refl)

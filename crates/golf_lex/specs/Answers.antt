@@ -17,4 +17,5 @@ Accepts bytes result = (tokens : List Token) → Lexes bytes tokens → (result 
 
 -- if they are at fault, the answer is the place, with its line, unless memory runs out
 abbrev pub Refuses : List ℕ → Result (List Token) LexFault → Type 0
-Refuses bytes result = (place : ℕ) → IsFault bytes place → (result ≡ Err (At (line_at bytes place) place)) ⊎ (result ≡ Err Memory)
+Refuses bytes result = (place : ℕ) → IsFault bytes place → (result ≡ Err (At (line_at bytes place) place))
+    ⊎ (result ≡ Err Memory)

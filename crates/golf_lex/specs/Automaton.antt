@@ -1,5 +1,6 @@
 -- The automaton that reads a file byte by byte.
-use Rattle.std.specs.Prelude.{ℕ, Bool, true, false, ◌||◌, nat_eq, cond, List, [], ◌∷◌, Option, Some, None, option_and_then}
+use Rattle.std.specs.Prelude.{ℕ, Bool, true, false, ◌||◌, nat_eq, cond, List, [], ◌∷◌, Option, Some, None}
+use Rattle.std.specs.Prelude.{option_and_then}
 use Rattle.std.specs.Option.{option_map}
 use Rattle.golf_lex_tokens.specs.declared.token.Punctuation.{Punctuation}
 use Rattle.golf_lex_tokens.specs.declared.token.Punctuation.TheVariants as punctuations
@@ -56,7 +57,8 @@ abbrev pub after_doubling : ℕ → ℕ → Punctuation → Punctuation → Grow
 after_doubling b second doubled assigning = cond (nat_eq b second) (to_punctuation doubled) (with_equals assigning b)
 
 abbrev pub after_slash : ℕ → Growth
-after_slash b = cond (nat_eq b 47) (To states.LineComment) (cond (nat_eq b 42) (To states.GeneralComment) (with_equals punctuations.SlashAssign b))
+after_slash b = cond (nat_eq b 47) (To states.LineComment)
+    (cond (nat_eq b 42) (To states.GeneralComment) (with_equals punctuations.SlashAssign b))
 
 abbrev pub after_punctuation : Punctuation → ℕ → Growth
 after_punctuation punctuations.Plus b = after_doubling b 43 punctuations.Increment punctuations.PlusAssign
@@ -82,14 +84,17 @@ growth states.Blank b = Over
 growth states.Word b = cond (is_word_byte b) (To states.Word) Over
 growth states.Zero b = cond (is_word_byte b) Fault Over
 growth states.Digits b = cond (is_digit b) (To states.Digits) (cond (is_letter b) Fault Over)
-growth states.Quoted b = cond (nat_eq b 34) (To states.Text) (cond (nat_eq b 92) (To states.Escaped) (cond (is_ordinary b) (To states.Quoted) Fault))
+growth states.Quoted b = cond (nat_eq b 34) (To states.Text)
+    (cond (nat_eq b 92) (To states.Escaped) (cond (is_ordinary b) (To states.Quoted) Fault))
 growth states.Escaped b = cond (is_escape b) (To states.Quoted) Fault
 growth states.Text b = Over
 growth (states.Punctuation m) b = after_punctuation m b
 growth states.Bar b = cond (nat_eq b 124) (to_punctuation punctuations.Or) Fault
 growth states.LineComment b = cond (nat_eq b 0) Fault (cond (nat_eq b 10) Over (To states.LineComment))
-growth states.GeneralComment b = cond (nat_eq b 0) Fault (cond (nat_eq b 42) (To states.Star) (To states.GeneralComment))
-growth states.Star b = cond (nat_eq b 47) (To states.Closed) (cond (nat_eq b 0) Fault (cond (nat_eq b 42) (To states.Star) (To states.GeneralComment)))
+growth states.GeneralComment b = cond (nat_eq b 0) Fault
+    (cond (nat_eq b 42) (To states.Star) (To states.GeneralComment))
+growth states.Star b = cond (nat_eq b 47) (To states.Closed)
+    (cond (nat_eq b 0) Fault (cond (nat_eq b 42) (To states.Star) (To states.GeneralComment)))
 growth states.Closed b = Over
 
 -- the bytes so far may be a lexeme

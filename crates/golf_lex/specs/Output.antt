@@ -22,11 +22,15 @@ released tokens (Some separator) token = cond (is_closing token.kind) tokens (to
 abbrev pub pushed : Output → Token → Output
 pushed o token =
     let tokens = released o.tokens o.held token in
-    cond (is_separator token.kind) (record o { tokens = tokens; held = Some token }) (record o { tokens = tokens ++ token ∷ []; held = None })
+    cond (is_separator token.kind) (record o { tokens = tokens; held = Some token })
+    (record o { tokens = tokens ++ token ∷ []; held = None })
 
 -- a token of this kind on the present line
 abbrev pub with_token : Output → TokenKind → Output
-with_token o kind = record (pushed o (record { kind = kind; line = o.line })) { semicolon = cond (may_end kind) (Some o.line) None }
+with_token o kind = record (pushed o (record { kind = kind; line = o.line })) {
+  semicolon = cond (may_end kind)
+      (Some o.line) None;
+}
 
 abbrev pub line_ended_by : Output → Option ℕ → Output
 line_ended_by o None = o

@@ -9,4 +9,5 @@ escaped_byte b = cond (nat_eq b 110) 10 (cond (nat_eq b 116) 9 b)
 abbrev pub content_from : Bool → List ℕ → List ℕ
 content_from escaped [] = []
 content_from true (b ∷ bs) = escaped_byte b ∷ content_from false bs
-content_from false (b ∷ bs) = cond (nat_eq b 92) (content_from true bs) (cond (nat_eq b 34) (content_from false bs) (b ∷ content_from false bs))
+content_from false (b ∷ bs) = cond (nat_eq b 92) (content_from true bs)
+    (cond (nat_eq b 34) (content_from false bs) (b ∷ content_from false bs))

@@ -42,26 +42,35 @@ ends : has_end (codes "a*/b") ≡ true
 ends = refl
 
 -- `x`, a comment over two lines, `1`: the semicolons have the lines of their tokens
-inserts : tokens_of (lexeme (Of x) (codes "x") ∷ lexeme GeneralComment (codes "/*\n*/") ∷ lexeme (Of (Integer (codes "1"))) (codes "1") ∷ []) ≡ at 1 x ∷ at 1 (Punctuation punctuations.Semicolon) ∷ at 2 (Integer (codes "1")) ∷ at 2 (Punctuation punctuations.Semicolon) ∷ []
+inserts : tokens_of (lexeme (Of x) (codes "x") ∷ lexeme GeneralComment (codes "/*\n*/")
+    ∷ lexeme (Of (Integer (codes "1"))) (codes "1") ∷ []) ≡ at 1 x ∷ at 1 (Punctuation punctuations.Semicolon)
+    ∷ at 2 (Integer (codes "1")) ∷ at 2 (Punctuation punctuations.Semicolon) ∷ []
 unfolding at x lexeme
 inserts = refl
 
 -- `x`, a blank, a line comment, a newline, `.`: no semicolon after the point
-inserts_none : tokens_of (lexeme (Of x) (codes "x") ∷ lexeme Blank (codes " ") ∷ lexeme LineComment (codes "//") ∷ lexeme Blank (codes "\n") ∷ lexeme (Of (Punctuation punctuations.Dot)) (codes ".") ∷ []) ≡ at 1 x ∷ at 1 (Punctuation punctuations.Semicolon) ∷ at 2 (Punctuation punctuations.Dot) ∷ []
+inserts_none : tokens_of (lexeme (Of x) (codes "x") ∷ lexeme Blank (codes " ") ∷ lexeme LineComment (codes "//")
+    ∷ lexeme Blank (codes "\n") ∷ lexeme (Of (Punctuation punctuations.Dot)) (codes ".") ∷ []) ≡ at 1 x
+    ∷ at 1 (Punctuation punctuations.Semicolon) ∷ at 2 (Punctuation punctuations.Dot) ∷ []
 unfolding at x lexeme
 inserts_none = refl
 
 -- of `x;;}` one `;` stays, and `[x,]` keeps its comma
-leaves_out : without_optional (at 1 x ∷ at 1 (Punctuation punctuations.Semicolon) ∷ at 1 (Punctuation punctuations.Semicolon) ∷ at 1 (Punctuation punctuations.CloseBrace) ∷ []) ≡ at 1 x ∷ at 1 (Punctuation punctuations.Semicolon) ∷ at 1 (Punctuation punctuations.CloseBrace) ∷ []
+leaves_out : without_optional (at 1 x ∷ at 1 (Punctuation punctuations.Semicolon)
+    ∷ at 1 (Punctuation punctuations.Semicolon) ∷ at 1 (Punctuation punctuations.CloseBrace) ∷ []) ≡ at 1 x
+    ∷ at 1 (Punctuation punctuations.Semicolon) ∷ at 1 (Punctuation punctuations.CloseBrace) ∷ []
 unfolding at x
 leaves_out = refl
 
-keeps : without_optional (at 1 x ∷ at 1 (Punctuation punctuations.Comma) ∷ at 1 (Punctuation punctuations.CloseBracket) ∷ []) ≡ at 1 x ∷ at 1 (Punctuation punctuations.Comma) ∷ at 1 (Punctuation punctuations.CloseBracket) ∷ []
+keeps : without_optional (at 1 x ∷ at 1 (Punctuation punctuations.Comma) ∷ at 1 (Punctuation punctuations.CloseBracket)
+    ∷ []) ≡ at 1 x ∷ at 1 (Punctuation punctuations.Comma) ∷ at 1 (Punctuation punctuations.CloseBracket) ∷ []
 unfolding at x
 keeps = refl
 
 -- `x(x, x);`
-call : costs (at 1 x ∷ at 1 (Punctuation punctuations.OpenParen) ∷ at 1 x ∷ at 1 (Punctuation punctuations.Comma) ∷ at 1 x ∷ at 1 (Punctuation punctuations.CloseParen) ∷ at 1 (Punctuation punctuations.Semicolon) ∷ []) ≡ 1 ∷ 2 ∷ 3 ∷ 2 ∷ 3 ∷ 3 ∷ 0 ∷ []
+call : costs (at 1 x ∷ at 1 (Punctuation punctuations.OpenParen) ∷ at 1 x ∷ at 1 (Punctuation punctuations.Comma)
+    ∷ at 1 x ∷ at 1 (Punctuation punctuations.CloseParen) ∷ at 1 (Punctuation punctuations.Semicolon) ∷ []) ≡ 1 ∷ 2 ∷ 3
+    ∷ 2 ∷ 3 ∷ 3 ∷ 0 ∷ []
 unfolding at x
 call = refl
 

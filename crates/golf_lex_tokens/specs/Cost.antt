@@ -3,7 +3,8 @@ use Rattle.std.specs.Prelude.{ℕ, ◌+◌, List, [], ◌∷◌, sum}
 use Rattle.golf_lex_tokens.specs.declared.token.Token.{Token}
 use Rattle.golf_lex_tokens.specs.declared.token.TokenKind.{TokenKind}
 use Rattle.golf_lex_tokens.specs.declared.token.TokenKind.TheVariants.{Punctuation as PunctuationToken}
-use Rattle.golf_lex_tokens.specs.declared.token.Punctuation.TheVariants.{OpenParen, OpenBracket, OpenBrace, CloseParen, CloseBracket, CloseBrace, Semicolon, Comma}
+use Rattle.golf_lex_tokens.specs.declared.token.Punctuation.TheVariants.{OpenParen, OpenBracket, OpenBrace, CloseParen}
+use Rattle.golf_lex_tokens.specs.declared.token.Punctuation.TheVariants.{CloseBracket, CloseBrace, Semicolon, Comma}
 
 abbrev pub one_more : List ℕ → List ℕ
 one_more [] = 1 ∷ []

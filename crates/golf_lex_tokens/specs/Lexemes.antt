@@ -1,5 +1,6 @@
 -- The bytes of a file cut into blanks, comments and tokens (Go specification, "Comments", "Tokens").
-use Rattle.std.specs.Prelude.{◌≡◌, ℕ, ◌<◌, Bool, true, false, ◌&&◌, ◌||◌, not, nat_eq, List, [], ◌∷◌, ◌++◌, length, codes}
+use Rattle.std.specs.Prelude.{◌≡◌, ℕ, ◌<◌, Bool, true, false, ◌&&◌, ◌||◌, not, nat_eq, List, [], ◌∷◌, ◌++◌, length}
+use Rattle.std.specs.Prelude.{codes}
 use Rattle.std.specs.List.{list_all}
 use Rattle.golf_lex_tokens.specs.declared.token.TokenKind.{TokenKind}
 use Rattle.golf_lex_tokens.specs.declared.token.TokenKind.TheVariants.{Integer, Punctuation as PunctuationToken}
@@ -55,7 +56,8 @@ Forms (Of kind) bytes = Spells kind bytes
 -- no longer front of the bytes and of what follows them spells a token
 abbrev pub IsLongest : List ℕ → List ℕ → Type 0
 IsLongest bytes rest =
-    (longer behind : List ℕ) → bytes ++ rest ≡ longer ++ behind → length bytes < length longer → (kind : TokenKind) → Spells kind longer → ⊥
+    (longer behind : List ℕ) → bytes ++ rest ≡ longer ++ behind → length bytes < length longer → (kind : TokenKind)
+    → Spells kind longer → ⊥
 
 -- the bytes begin with a byte that passes
 abbrev pub begins : (ℕ → Bool) → List ℕ → Bool

@@ -2,9 +2,11 @@
 use Rattle.std.specs.Prelude.{ℕ, ◌+◌, Bool, true, false, ◌&&◌, nat_eq, cond, List, [], ◌∷◌, ◌++◌}
 use Rattle.golf_lex_tokens.specs.declared.token.Token.{Token}
 use Rattle.golf_lex_tokens.specs.declared.token.TokenKind.{TokenKind}
-use Rattle.golf_lex_tokens.specs.declared.token.TokenKind.TheVariants.{Name, Integer, Text, Keyword as KeywordToken, Punctuation as PunctuationToken}
+use Rattle.golf_lex_tokens.specs.declared.token.TokenKind.TheVariants.{Name, Integer, Text, Keyword as KeywordToken}
+use Rattle.golf_lex_tokens.specs.declared.token.TokenKind.TheVariants.{Punctuation as PunctuationToken}
 use Rattle.golf_lex_tokens.specs.declared.token.Keyword.TheVariants.{Break, Continue, Return}
-use Rattle.golf_lex_tokens.specs.declared.token.Punctuation.TheVariants.{Increment, Decrement, CloseParen, CloseBracket, CloseBrace, Semicolon, Comma}
+use Rattle.golf_lex_tokens.specs.declared.token.Punctuation.TheVariants.{Increment, Decrement, CloseParen, CloseBracket}
+use Rattle.golf_lex_tokens.specs.declared.token.Punctuation.TheVariants.{CloseBrace, Semicolon, Comma}
 use Rattle.golf_lex_tokens.specs.Bytes.{newlines}
 use Rattle.golf_lex_tokens.specs.Lexemes.{Class, Lexeme}
 use Rattle.golf_lex_tokens.specs.Lexemes as lexemes

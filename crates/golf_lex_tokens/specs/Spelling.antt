@@ -2,7 +2,8 @@
 use Rattle.std.specs.Prelude.{◌≡◌, ◌≢◌, ℕ, Bool, true, false, ◌&&◌, nat_le, List, [], ◌∷◌, ◌++◌, codes}
 use Rattle.std.specs.List.{list_all}
 use Rattle.golf_lex_tokens.specs.declared.token.TokenKind.{TokenKind}
-use Rattle.golf_lex_tokens.specs.declared.token.TokenKind.TheVariants.{Name, Integer, Text, Keyword as KeywordToken, Punctuation as PunctuationToken}
+use Rattle.golf_lex_tokens.specs.declared.token.TokenKind.TheVariants.{Name, Integer, Text, Keyword as KeywordToken}
+use Rattle.golf_lex_tokens.specs.declared.token.TokenKind.TheVariants.{Punctuation as PunctuationToken}
 use Rattle.golf_lex_tokens.specs.declared.token.Keyword.{Keyword}
 use Rattle.golf_lex_tokens.specs.declared.token.Keyword.TheVariants as keywords
 use Rattle.golf_lex_tokens.specs.declared.token.Punctuation.{Punctuation}

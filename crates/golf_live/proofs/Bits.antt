@@ -1,12 +1,14 @@
 -- Bits of masks.
 -- For: `slot_bit`, src/masks.rt; `bits_of`, specs/Live.antt
 -- By: arithmetic; induction over n, the bits of the mask
-use Rattle.std.proofs.Common.{◌≡◌, ℕ, zero, suc, ◌+◌, ◌-◌, ◌*◌, ◌^◌, ◌<◌, ◌==◌, nat_lt, Bool, true, false, not, cond, ◌&&◌, inl, inr, refl, sym, ap, ◌∙◌, subst, arith}
+use Rattle.std.proofs.Common.{◌≡◌, ℕ, zero, suc, ◌+◌, ◌-◌, ◌*◌, ◌^◌, ◌<◌, ◌==◌, nat_lt, Bool, true, false, not, cond}
+use Rattle.std.proofs.Common.{◌&&◌, inl, inr, refl, sym, ap, ◌∙◌, subst, arith}
 use Rattle.std.specs.Prelude.{bit_and, min}
 use Rattle.std.specs.Int.{w64, bit_at, bit_not}
 use Rattle.std.proofs.lemmas.Bool.{eqb-true, eq-eqb, cases_lt, cases_eq, ltb-true, ltb-false, false_from_ne_true}
 use Rattle.std.proofs.lemmas.Nat.{pow_pos, pow_below}
-use Rattle.std.proofs.lemmas.Nat.Bits.{bit_at-lt, bit_at-zero, bit_at_and, bit_at_not, bit_at-pow_same, bit_at-pow_other, bit_at_cat_low, bit_at_cat_high, same_from_bits_below}
+use Rattle.std.proofs.lemmas.Nat.Bits.{bit_at-lt, bit_at-zero, bit_at_and, bit_at_not, bit_at-pow_same}
+use Rattle.std.proofs.lemmas.Nat.Bits.{bit_at-pow_other, bit_at_cat_low, bit_at_cat_high, same_from_bits_below}
 use Rattle.std.proofs.Math.Nat.{pow-suc}
 use Rattle.golf_data.specs.Masks.{has_bit}
 use Rattle.golf_live.specs.Live.{bits_of}
@@ -42,16 +44,20 @@ slot_bit-below slot = elim (nat_lt slot 64) as (λ b. nat_lt slot 64 ≡ b → c
 power-bit : (slot i : ℕ) → has_bit (2 ^ slot) i ≡ (i == slot)
 power-bit slot i = elim (cases_eq i slot) [
   | inl e ↦ ap (λ k. has_bit (2 ^ slot) k) e ∙ ap (λ x. x == 1) (bit_at-pow_same slot) ∙ sym (eq-eqb i slot e)
-  | inr n ↦ ap (λ x. x == 1) (bit_at-pow_other slot i n) ∙ sym (false_from_ne_true (i == slot) (λ t. n (eqb-true i slot t)))
+  | inr n ↦ ap (λ x. x == 1) (bit_at-pow_other slot i n)
+      ∙ sym (false_from_ne_true (i == slot) (λ t. n (eqb-true i slot t)))
 ]
 
 pub slot_bit-is : (slot i : ℕ) → i < 64 → has_bit (slot_bit slot) i ≡ (i == slot)
-slot_bit-is slot i l = elim (nat_lt slot 64) as (λ b. nat_lt slot 64 ≡ b → has_bit (cond b (2 ^ slot) 0) i ≡ (i == slot)) [
-  | true ↦ λ e. power-bit slot i
-  | false ↦ λ e. has_bit-zero i ∙ sym (false_from_ne_true (i == slot) (λ t. let s = eqb-true i slot t in let m = ltb-false slot 64 e in absurd (omega (arith, l, s, m))))
-] refl
+slot_bit-is slot i l = elim (nat_lt slot 64) as (λ b. nat_lt slot 64 ≡ b
+    → has_bit (cond b (2 ^ slot) 0) i ≡ (i == slot)) [
+      | true ↦ λ e. power-bit slot i
+      | false ↦ λ e. has_bit-zero i ∙ sym (false_from_ne_true (i == slot)
+          (λ t. let s = eqb-true i slot t in let m = ltb-false slot 64 e in absurd (omega (arith, l, s, m))))
+    ] refl
 
-pub has_bit-without : (m slot i : ℕ) → i < 64 → has_bit (bit_and m (bit_not w64 (slot_bit slot))) i ≡ (not (i == slot) && has_bit m i)
+pub has_bit-without : (m slot i : ℕ) → i < 64
+    → has_bit (bit_and m (bit_not w64 (slot_bit slot))) i ≡ (not (i == slot) && has_bit m i)
 has_bit-without m slot i l =
     let b = slot_bit slot in
     ap (λ x. x == 1) (bit_at_and m (bit_not w64 b) i)
@@ -61,7 +67,8 @@ has_bit-without m slot i l =
 
 -- a number of 64 bits by its bits
 pub same-bits : (a b : ℕ) → a < 2 ^ 64 → b < 2 ^ 64 → ((i : ℕ) → i < 64 → has_bit a i ≡ has_bit b i) → a ≡ b
-same-bits a b p q h = same_from_bits_below 64 a b p q (λ i l. one_same (bit_at a i) (bit_at b i) (bit_at-lt a i) (bit_at-lt b i) (h i l))
+same-bits a b p q h = same_from_bits_below 64 a b p q
+    (λ i l. one_same (bit_at a i) (bit_at b i) (bit_at-lt a i) (bit_at-lt b i) (h i l))
 
 -- the number that has the bits of a test
 twice : (b : Bool) (p r : ℕ) → r < p → cond b 1 0 * p + r < p * 2
@@ -70,7 +77,8 @@ twice false p r l = omega (arith, l)
 
 pub bits_of-below : (test : ℕ → Bool) (n : ℕ) → bits_of test n < 2 ^ n
 bits_of-below test zero = pow_pos 0
-bits_of-below test (suc n) = subst (λ p. bits_of test (suc n) < p) (sym (pow-suc 2 n)) (twice (test n) (2 ^ n) (bits_of test n) (bits_of-below test n))
+bits_of-below test (suc n) = subst (λ p. bits_of test (suc n) < p) (sym (pow-suc 2 n))
+    (twice (test n) (2 ^ n) (bits_of test n) (bits_of-below test n))
 
 lowest : (b : Bool) → (bit_at (cond b 1 0) 0 == 1) ≡ b
 lowest true = refl
@@ -79,7 +87,8 @@ lowest false = refl
 pub bits_of-is : (test : ℕ → Bool) (n i : ℕ) → i < n → has_bit (bits_of test n) i ≡ test i
 bits_of-is test zero i l = absurd (omega (arith, l))
 bits_of-is test (suc n) i l = elim (cases_lt i n) [
-  | inl less ↦ ap (λ x. x == 1) (bit_at_cat_low (cond (test n) 1 0) n (bits_of test n) i less) ∙ bits_of-is test n i less
+  | inl less ↦ ap (λ x. x == 1) (bit_at_cat_low (cond (test n) 1 0) n (bits_of test n) i less)
+      ∙ bits_of-is test n i less
   | inr more ↦ (let e : n ≡ i = omega (arith, l, more) in
       ap (λ x. x == 1) (bit_at_cat_high (cond (test n) 1 0) n (bits_of test n) i (bits_of-below test n) more)
       ∙ ap (λ k. bit_at (cond (test n) 1 0) k == 1) (let z : i - n ≡ 0 = omega (arith, e) in z)

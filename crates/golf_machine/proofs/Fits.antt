@@ -14,7 +14,8 @@ use Rattle.golf_model.specs.Acting.{Actor, panics, dies, choose}
 use Rattle.golf_state.specs.declared.outcome.Outcome.{Outcome}
 use Rattle.golf_state.specs.Doing.{does, does_by, Stands}
 use Rattle.golf_state.specs.Looked.{frames_of}
-use Rattle.golf_state.specs.Outcomes.{Comes, StaysIn, StandsToFault, carries, faults, outcome_of, goes_as, has_block, ending_outcome, frame_outcome, frames_outcome}
+use Rattle.golf_state.specs.Outcomes.{Comes, StaysIn, StandsToFault, carries, faults, outcome_of, goes_as, has_block}
+use Rattle.golf_state.specs.Outcomes.{ending_outcome, frame_outcome, frames_outcome}
 use Rattle.golf_state.proofs.Doings.{actor_of}
 use Rattle.golf_machine.specs.Fits.{Ends, Fits, is_fit}
 
@@ -55,8 +56,10 @@ changes-fit [] = refl
 changes-fit (c ∷ cs) = block-fits (has_block (c ∷ cs)) (c ∷ cs)
 
 -- an operation that says exactly what its changes come to
-pub fits-comes : (outcome : Outcome) (act : Actor → List Change) (g line : ℕ) (s t : State) → StaysIn (frames_of g s) → Comes outcome act g line s t → Fits outcome act g line s t
-fits-comes outcome act g line s t stays h = (ends outcome h, ap is_fit (sym (h.1 stays)) ∙ changes-fit (does_by act g line (find g s.goroutines)))
+pub fits-comes : (outcome : Outcome) (act : Actor → List Change) (g line : ℕ) (s t : State) → StaysIn (frames_of g s)
+    → Comes outcome act g line s t → Fits outcome act g line s t
+fits-comes outcome act g line s t stays h =
+    (ends outcome h, ap is_fit (sym (h.1 stays)) ∙ changes-fit (does_by act g line (find g s.goroutines)))
   where
     ends : (o : Outcome) → Comes o act g line s t → Ends o act g line s t
     ends Outcome.Done c = c.0.0
@@ -70,32 +73,53 @@ module _ (act : Actor → List Change) (g line : ℕ) (s : State) where
   pub fits-stuck : does_by act g line (find g s.goroutines) ≡ [] → Fits Outcome.Stuck act g line s s
   fits-stuck e = (refl, sym (ap (λ (cs : List Change). not_empty cs) e))
 
-  pub fits-done : (cs : List Change) (t : State) → does_by act g line (find g s.goroutines) ≡ cs → not_empty cs ≡ true → t ≡ apply_all cs s → Fits Outcome.Done act g line s t
-  fits-done cs t e some is = (is ∙ sym (ap (λ (ds : List Change). apply_all ds s) e), sym (ap (λ (ds : List Change). not_empty ds) e ∙ some))
+  pub fits-done : (cs : List Change) (t : State) → does_by act g line (find g s.goroutines) ≡ cs → not_empty cs ≡ true
+      → t ≡ apply_all cs s → Fits Outcome.Done act g line s t
+  fits-done cs t e some is = (
+    is ∙ sym (ap (λ (ds : List Change). apply_all ds s) e),
+    sym (ap (λ (ds : List Change). not_empty ds) e ∙ some),
+  )
 
 faults-some : (a : Actor) (kind : PanicKind) → not_empty (faults a kind) ≡ true
-faults-some a kind = elim (is_fatal kind) as (λ b. not_empty (choose b (dies a kind) (panics a kind)) ≡ true) [ true ↦ refl | false ↦ refl ]
+faults-some a kind = elim (is_fatal kind) as (λ b. not_empty (choose b (dies a kind) (panics a kind)) ≡ true) [
+  | true ↦
+      refl
+  | false ↦ refl
+]
 
 module _ (act : Actor → List Change) (g after line : ℕ) (s : State) (st : Stands g after s) where
   pub by-is : does_by act g line (find g s.goroutines) ≡ act (actor_of st line)
   by-is = ap (does_by act g line) st.found
 
-  pub fits-panic : (kind : PanicKind) → act (actor_of st line) ≡ faults (actor_of st line) kind → Fits (Outcome.Panic kind) act g line s s
+  pub fits-panic : (kind : PanicKind) → act (actor_of st line) ≡ faults (actor_of st line) kind
+      → Fits (Outcome.Panic kind) act g line s s
   fits-panic kind e =
-      let same = by-is ∙ e ∙ sym (ap (does_by (λ a. faults a kind) g line) st.found) in
-      ((refl, ap (λ (cs : List Change). apply_all cs s) same), sym (ap (λ (cs : List Change). not_empty cs) (by-is ∙ e) ∙ faults-some (actor_of st line) kind))
+      let same = by-is ∙ e ∙ sym (ap (does_by (λ a. faults a kind) g line) st.found) in (
+        (refl, ap (λ (cs : List Change). apply_all cs s) same),
+        sym (ap (λ (cs : List Change). not_empty cs) (by-is ∙ e) ∙ faults-some (actor_of st line) kind),
+      )
 
 -- ---- what is left to do
 
 -- once it is done, the changes are made
-pub carried : (outcome : Outcome) (act : Actor → List Change) (g line : ℕ) (s t u : State) → Fits outcome act g line s t → u ≡ carries outcome g line t → u ≡ does act g line s
+pub carried : (outcome : Outcome) (act : Actor → List Change) (g line : ℕ) (s t u : State) → Fits outcome act g line s t
+    → u ≡ carries outcome g line t → u ≡ does act g line s
 carried Outcome.Done act g line s t u h e = e ∙ h.0
 carried Outcome.Blocked act g line s t u h e = e ∙ h.0
 carried (Outcome.Panic kind) act g line s t u h e = e ∙ ap (does (λ a. faults a kind) g line) h.0.0 ∙ sym h.0.1
-carried Outcome.Stuck act g line s t u h e = e ∙ h.0 ∙ sym (ap (λ (cs : List Change). apply_all cs s) (none_left _ (sym h.1)))
+carried Outcome.Stuck act g line s t u h e = e ∙ h.0
+    ∙ sym (ap (λ (cs : List Change). apply_all cs s) (none_left _ (sym h.1)))
 
-pub stands-to-fault : (outcome : Outcome) (act : Actor → List Change) (g after line : ℕ) (s t : State) → Stands g after s → Fits outcome act g line s t → StandsToFault outcome g after t
+pub stands-to-fault : (outcome : Outcome) (act : Actor → List Change) (g after line : ℕ) (s t : State)
+    → Stands g after s → Fits outcome act g line s t → StandsToFault outcome g after t
 stands-to-fault Outcome.Done act g after line s t st h = tt
 stands-to-fault Outcome.Blocked act g after line s t st h = tt
-stands-to-fault (Outcome.Panic kind) act g after line s t st h = record { frame = st.frame; callers = st.callers; started = st.started; found = ap (λ (u : State). find g u.goroutines) h.0.0 ∙ st.found; next = st.next }
+stands-to-fault (Outcome.Panic kind) act g after line s t st h =
+    record {
+      frame = st.frame;
+      callers = st.callers;
+      started = st.started;
+      found = ap (λ (u : State). find g u.goroutines) h.0.0 ∙ st.found;
+      next = st.next;
+    }
 stands-to-fault Outcome.Stuck act g after line s t st h = tt

@@ -2,12 +2,14 @@
 -- For: `line_bytes` (golf_model/specs/Values.antt) and `line_of` (src/printing.rt), `zeros_of` (src/structures.rt)
 -- By: induction over the list of values for the zeros; otherwise what one more value adds
 use Rattle.std.specs.Prelude.{MatchOption}
-use Rattle.std.proofs.Common.{◌≡◌, ℕ, zero, suc, ◌+◌, ◌<◌, ◌≤◌, Bool, true, false, List, [], ◌∷◌, ◌++◌, length, take, drop, get_or, Option, Some, None, refl, sym, ap, ◌∙◌, arith, append_assoc}
+use Rattle.std.proofs.Common.{◌≡◌, ℕ, zero, suc, ◌+◌, ◌<◌, ◌≤◌, Bool, true, false, List, [], ◌∷◌, ◌++◌, length, take}
+use Rattle.std.proofs.Common.{drop, get_or, Option, Some, None, refl, sym, ap, ◌∙◌, arith, append_assoc}
 use Rattle.std.proofs.lemmas.List.{drop_more, take_more}
 use Rattle.golf_data.specs.declared.value.Value.{Value}
 use Rattle.golf_model.specs.Values.{bytes_of, before, spaced_bytes, line_bytes, zero_of, zeros_of}
 
-before-some : (xs ys : List ℕ) (o : Option (List ℕ)) → before (Some xs) (before (Some ys) o) ≡ before (Some (xs ++ ys)) o
+before-some : (xs ys : List ℕ) (o : Option (List ℕ))
+    → before (Some xs) (before (Some ys) o) ≡ before (Some (xs ++ ys)) o
 before-some xs ys None = refl
 before-some xs ys (Some zs) = ap (λ (r : List ℕ). Some r) (sym (append_assoc xs ys zs))
 
@@ -21,7 +23,8 @@ module _ (texts : List (List ℕ)) (values : List Value) where
   abbrev pub IsPrinted : ℕ → List ℕ → Type 0
   IsPrinted i text = line_bytes texts values ≡ before (Some text) (rest_bytes texts i (drop i values))
 
-  pub printed_first : (i : ℕ) (v : Value) (text bytes : List ℕ) → i ≤ 0 → i < length values → v ≡ get_or values i v → bytes_of texts v ≡ Some bytes → IsPrinted i text → IsPrinted (i + 1) (text ++ bytes)
+  pub printed_first : (i : ℕ) (v : Value) (text bytes : List ℕ) → i ≤ 0 → i < length values → v ≡ get_or values i v
+      → bytes_of texts v ≡ Some bytes → IsPrinted i text → IsPrinted (i + 1) (text ++ bytes)
   printed_first (suc i) v text bytes z l h e so_far = absurd (omega arith)
   printed_first zero v text bytes z l h e so_far =
       so_far ∙ ap (λ (vs : List Value). before (Some text) (line_bytes texts vs)) (drop_more values 0 v l)
@@ -33,7 +36,8 @@ module _ (texts : List (List ℕ)) (values : List Value) where
   later zero i vs e = absurd (omega arith)
   later (suc n) i vs e = refl
 
-  pub printed_later : (i : ℕ) (v : Value) (text bytes : List ℕ) → 0 < i → i < length values → v ≡ get_or values i v → bytes_of texts v ≡ Some bytes → IsPrinted i text → IsPrinted (i + 1) ((text ++ 32 ∷ []) ++ bytes)
+  pub printed_later : (i : ℕ) (v : Value) (text bytes : List ℕ) → 0 < i → i < length values → v ≡ get_or values i v
+      → bytes_of texts v ≡ Some bytes → IsPrinted i text → IsPrinted (i + 1) ((text ++ 32 ∷ []) ++ bytes)
   printed_later zero v text bytes z l h e so_far = absurd (omega arith)
   printed_later (suc i) v text bytes z l h e so_far =
       let rest = spaced_bytes texts (drop (suc i + 1) values) in
@@ -50,12 +54,16 @@ zeros-push : (vs : List Value) (v : Value) → zeros_of (vs ++ v ∷ []) ≡ zer
 zeros-push [] v = refl
 zeros-push (w ∷ vs) v = ap (λ (zs : List Value). zero_of w ∷ zs) (zeros-push vs v)
 
-pub zeros_more : (vs : List Value) (i : ℕ) (v : Value) (zs : List Value) → i < length vs → v ≡ get_or vs i v → zs ≡ zeros_of (take i vs) → zs ++ zero_of v ∷ [] ≡ zeros_of (take (i + 1) vs)
+pub zeros_more : (vs : List Value) (i : ℕ) (v : Value) (zs : List Value) → i < length vs → v ≡ get_or vs i v
+    → zs ≡ zeros_of (take i vs) → zs ++ zero_of v ∷ [] ≡ zeros_of (take (i + 1) vs)
 zeros_more vs i v zs l h e =
     ap (λ (ys : List Value). ys ++ zero_of v ∷ []) e
-    ∙ sym (ap zeros_of (take_more vs i v l ∙ ap (λ (w : Value). take i vs ++ w ∷ []) (sym h)) ∙ zeros-push (take i vs) v)
+    ∙ sym (ap zeros_of (take_more vs i v l ∙ ap (λ (w : Value). take i vs ++ w ∷ []) (sym h))
+    ∙ zeros-push (take i vs) v)
 
 -- a value that was added
-pub was_added : (o : Option (List ℕ)) (b : Bool) (t old : List ℕ) → b ≡ true → MatchOption o (b ≡ false) (λ bytes. (b ≡ true) × (t ≡ old ++ bytes)) → (bytes : List ℕ) × (o ≡ Some bytes) × (t ≡ old ++ bytes)
+pub was_added : (o : Option (List ℕ)) (b : Bool) (t old : List ℕ) → b ≡ true
+    → MatchOption o (b ≡ false) (λ bytes. (b ≡ true) × (t ≡ old ++ bytes)) → (bytes : List ℕ) × (o ≡ Some bytes)
+    × (t ≡ old ++ bytes)
 was_added None b t old e h = cc
 was_added (Some bytes) b t old e h = (bytes, refl, h.1)

@@ -1,7 +1,8 @@
 -- Whose turn it is, and what the turn is.
 -- For: `whose_turn`, `step` (golf_model/specs/Turn.antt) and `turn` (src/turning.rt), `act` (src/stepping.rt)
 -- By: cases of the goroutine's mode and of its first frame; no induction
-use Rattle.std.proofs.Common.{◌≡◌, ℕ, ◌+◌, ◌<◌, ◌%◌, ◌/◌, Bool, true, not, ◌||◌, ◌==◌, List, [], ◌∷◌, length, Option, Some, None, refl, sym, ap, ◌∙◌, arith, subst, ◌^◌}
+use Rattle.std.proofs.Common.{◌≡◌, ℕ, ◌+◌, ◌<◌, ◌%◌, ◌/◌, Bool, true, not, ◌||◌, ◌==◌, List, [], ◌∷◌, length, Option}
+use Rattle.std.proofs.Common.{Some, None, refl, sym, ap, ◌∙◌, arith, subst, ◌^◌}
 use Rattle.std.specs.Prelude.{slice_get, option_and_then}
 use Rattle.std.proofs.lemmas.Bool.{and_parts}
 use Rattle.golf_data.specs.declared.code.Code.{Code}
@@ -19,7 +20,8 @@ use Rattle.golf_model.specs.Views.{FrameView, GoroutineView}
 use Rattle.golf_model.specs.State.{State, is_running, not_empty, can_run, runnable, ending, ending_of}
 use Rattle.golf_model.specs.Changes.{apply_all, behind_first}
 use Rattle.golf_model.specs.Clearing.{clearing}
-use Rattle.golf_model.specs.Turn.{turned, turn_changes, whose_turn, step, wants_collection, goroutine_collects, moves_on, clears_nothing, line_at}
+use Rattle.golf_model.specs.Turn.{turned, turn_changes, whose_turn, step, wants_collection, goroutine_collects}
+use Rattle.golf_model.specs.Turn.{moves_on, clears_nothing, line_at}
 use Rattle.golf_state.specs.Looked.{frames_of, frames_in}
 use Rattle.golf_state.specs.Doing.{Stands, Runs}
 use Rattle.golf_state.specs.Outcomes.{StaysIn}
@@ -36,8 +38,10 @@ pub some_run : (s : State) → ending s ≡ None → 0 < length (runnable s)
 some_run s goes = awake s.recorded (runnable s) goes
 
 -- the goroutine at the place that the number gives
-pub whose : (s : State) (n g place count : ℕ) → slice_get (runnable s) place ≡ Some g → place ≡ n % count → count ≡ length (runnable s) → whose_turn s n ≡ Some g
-whose s n g place count at is told = ap (λ k. slice_get (runnable s) (n % k)) (sym told) ∙ ap (λ p. slice_get (runnable s) p) (sym is) ∙ at
+pub whose : (s : State) (n g place count : ℕ) → slice_get (runnable s) place ≡ Some g → place ≡ n % count
+    → count ≡ length (runnable s) → whose_turn s n ≡ Some g
+whose s n g place count at is told = ap (λ k. slice_get (runnable s) (n % k)) (sym told)
+    ∙ ap (λ p. slice_get (runnable s) p) (sym is) ∙ at
 
 mode-running : (m : Mode) → is_running m ≡ true → m ≡ Mode.Running
 mode-running Mode.Running h = refl
@@ -46,13 +50,17 @@ mode-running (Mode.Blocked kind line waits ticket) h = cc
 -- a goroutine whose turn it is runs
 pub turn-runs : (s : State) (n g : ℕ) → IsRising s.goroutines → whose_turn s n ≡ Some g → Runs g s
 turn-runs s n g r h =
-    let i = Entry-keys_where (can_run s.queue) s.goroutines g (In-slice_get (runnable s) (n % length (runnable s)) g h) in
+    let i = Entry-keys_where (can_run s.queue) s.goroutines g
+    (In-slice_get (runnable s) (n % length (runnable s)) g h) in
     let x = i.0 in
-    let m = mode-running x.mode ((and_parts (is_running x.mode) (not (g == 0) || (not_empty x.frames || not_empty s.queue)) i.2).0) in
+    let m = mode-running x.mode ((and_parts (is_running x.mode)
+    (not (g == 0) || (not_empty x.frames || not_empty s.queue)) i.2).0) in
     record {
       frames = x.frames;
       started = x.started;
-      found = find-Entry s.goroutines g x r i.1 ∙ ap (λ (k : Mode). let y : GoroutineView = record { frames = x.frames; mode = k; started = x.started } in Some y) m;
+      found = find-Entry s.goroutines g x r i.1
+          ∙ ap (λ (k : Mode). let y : GoroutineView =
+          record { frames = x.frames; mode = k; started = x.started } in Some y) m;
     }
 
 -- ---- the step
@@ -67,16 +75,20 @@ module _ (code : Code) (s : State) (n g : ℕ) (turn : whose_turn s n ≡ Some g
   clears-is : clears_nothing code s n ≡ keeps_all code g (n / length (runnable s)) s
   clears-is =
       ap (λ (b : Bool). b || not (moves_on code s n)) wants-is
-      ∙ ap (λ (o : Option ℕ). goroutine_collects code (find g s.goroutines) || not (not_empty (turn_changes code (n / length (runnable s)) s o))) turn
+      ∙ ap (λ (o : Option ℕ). goroutine_collects code (find g s.goroutines)
+      || not (not_empty (turn_changes code (n / length (runnable s)) s o))) turn
 
   taken-is : taken code g (n / length (runnable s)) s ≡ step code s n
   taken-is =
-      ap (λ c. apply_all (clearing code c (Some g) (acted code g (n / length (runnable s)) s)) (acted code g (n / length (runnable s)) s)) (sym clears-is)
-      ∙ ap (λ (m : Option ℕ). apply_all (clearing code (clears_nothing code s n) m (acted code g (n / length (runnable s)) s)) (acted code g (n / length (runnable s)) s)) (sym turn)
+      ap (λ c. apply_all (clearing code c (Some g) (acted code g (n / length (runnable s)) s))
+      (acted code g (n / length (runnable s)) s)) (sym clears-is)
+      ∙ ap (λ (m : Option ℕ). apply_all (clearing code (clears_nothing code s n) m
+      (acted code g (n / length (runnable s)) s)) (acted code g (n / length (runnable s)) s)) (sym turn)
       ∙ ap (λ (t : State). apply_all (clearing code (clears_nothing code s n) (whose_turn s n) t) t) turned-is
 
   -- the turn, and what is cleared after it, by the choice that the number was divided into
-  pub step-taken : (count choice : ℕ) (t : State) → count ≡ length (runnable s) → choice ≡ n / count → t ≡ taken code g choice s → t ≡ step code s n
+  pub step-taken : (count choice : ℕ) (t : State) → count ≡ length (runnable s) → choice ≡ n / count
+      → t ≡ taken code g choice s → t ≡ step code s n
   step-taken count choice t told e is = is ∙ ap (λ k. taken code g k s) (e ∙ ap (λ k. n / k) told) ∙ taken-is
 
   pub wants-taken : (b : Bool) → b ≡ goroutine_collects code (find g s.goroutines) → wants_collection code s n ≡ b
@@ -97,27 +109,38 @@ module _ (g : ℕ) (s : State) (r : Runs g s) where
     frame = f;
     callers = behind_first r.frames;
     started = r.started;
-    found = r.found ∙ ap (λ (fs : List FrameView). let x : GoroutineView = record { frames = fs; mode = Mode.Running; started = r.started } in Some x) (first-is r.frames f (e ∙ ap (λ (fs : List FrameView). slice_get fs 0) frames-are));
+    found = r.found ∙ ap (λ (fs : List FrameView). let x : GoroutineView =
+        record { frames = fs; mode = Mode.Running; started = r.started } in Some x)
+        (first-is r.frames f (e ∙ ap (λ (fs : List FrameView). slice_get fs 0) frames-are));
     next = refl;
   }
 
 -- the turn of a goroutine at an instruction
-module _ (code : Code) (g after : ℕ) (s : State) (r : Runs g s) (line : CodeLine) (top : IsAtTop code (frames_of g s) line after) where
+module _ (code : Code) (g after : ℕ) (s : State) (r : Runs g s) (line : CodeLine)
+    (top : IsAtTop code (frames_of g s) line after) where
   abbrev pub view : GoroutineView
   view = record { frames = top.frame ∷ top.callers; mode = Mode.Running; started = r.started }
 
   pub view-found : find g s.goroutines ≡ Some view
-  view-found = r.found ∙ ap (λ (fs : List FrameView). let x : GoroutineView = record { frames = fs; mode = Mode.Running; started = r.started } in Some x) (sym (frames-are g s r) ∙ top.are)
+  view-found = r.found ∙ ap (λ (fs : List FrameView). let x : GoroutineView =
+      record { frames = fs; mode = Mode.Running; started = r.started } in Some x) (sym (frames-are g s r) ∙ top.are)
 
   abbrev pub stands-there : Stands g after s
-  stands-there = record { frame = top.frame; callers = top.callers; started = r.started; found = view-found; next = top.at.2 }
+  stands-there = record {
+    frame = top.frame;
+    callers = top.callers;
+    started = r.started;
+    found = view-found;
+    next = top.at.2;
+  }
 
   pub stays-there : StaysIn (frames_of g s)
   stays-there = subst StaysIn (sym top.are) top.at.0
 
 -- ---- places
 
-fits-in : (o : Option Function) (at : ℕ) (l : CodeLine) → IsShort o → Some l ≡ option_and_then (λ fn. slice_get fn.body at) o → at + 1 < 2 ^ 32
+fits-in : (o : Option Function) (at : ℕ) (l : CodeLine) → IsShort o
+    → Some l ≡ option_and_then (λ fn. slice_get fn.body at) o → at + 1 < 2 ^ 32
 fits-in None at l h e = cc
 fits-in (Some fn) at l h e = let w = slice_get_within fn.body at l (sym e) in omega (arith, w, h)
 

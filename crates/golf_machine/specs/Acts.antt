@@ -19,7 +19,8 @@ Acts g s = (after : ℕ) × Stands g after s
 
 -- the goroutine runs and has none
 abbrev pub HasNoFrame : ℕ → State → Type 0
-HasNoFrame g s = (started : ℕ) × (find g s.goroutines ≡ Some (record { frames = []; mode = Mode.Running; started = started }))
+HasNoFrame g s = (started : ℕ) × (find g s.goroutines ≡ Some
+    (record { frames = []; mode = Mode.Running; started = started }))
 
 -- the top operands, so many, in source order, if there are so many
 abbrev pub last_of : ℕ → List Value → Option (List Value)

@@ -24,13 +24,16 @@ outcome_in Within.ZeroDivisor = Outcome.Panic PanicKind.DivideByZero
 outcome_in Within.Stuck = Outcome.Stuck
 outcome_in Within.Beyond = Outcome.Stuck
 
--- the state after this outcome: the changes are made; or the goroutine panics, and the state is as it was; or no rule fits, and it is
+-- the state after this outcome: the changes are made; or the goroutine panics, and the state is as it was; or no rule
+-- fits, and it is
 abbrev pub Ends : Outcome → (Actor → List Change) → ℕ → ℕ → State → State → Type 0
 Ends Outcome.Done act g line old new = new ≡ does act g line old
 Ends Outcome.Blocked act g line old new = new ≡ does act g line old
-Ends (Outcome.Panic kind) act g line old new = (new ≡ old) × (does act g line old ≡ does (λ a. faults a kind) g line old)
+Ends (Outcome.Panic kind) act g line old new = (new ≡ old)
+    × (does act g line old ≡ does (λ a. faults a kind) g line old)
 Ends Outcome.Stuck act g line old new = new ≡ old
 
 -- an instruction that makes these changes has come to this outcome: a rule fits exactly if there are changes
 abbrev pub Fits : Outcome → (Actor → List Change) → ℕ → ℕ → State → State → Type 0
-Fits outcome act g line old new = Ends outcome act g line old new × (is_fit outcome ≡ not_empty (does_by act g line (find g old.goroutines)))
+Fits outcome act g line old new = Ends outcome act g line old new
+    × (is_fit outcome ≡ not_empty (does_by act g line (find g old.goroutines)))

@@ -1,5 +1,6 @@
 -- Structs, slices and conditions among the objects.
-use Rattle.std.specs.Prelude.{ℕ, Bool, true, false, List, length, Option, Some, None, slice_set, nat_lt, option_and_then}
+use Rattle.std.specs.Prelude.{ℕ, Bool, true, false, List, length, Option, Some, None, slice_set, nat_lt}
+use Rattle.std.specs.Prelude.{option_and_then}
 use Rattle.golf_theory.specs.Maps.{find}
 use Rattle.golf_data.specs.declared.value.Value.{Value}
 use Rattle.golf_data.specs.declared.value.Object.{Object}

@@ -20,7 +20,8 @@ use Rattle.golf_machine.specs.declared.passing.Passed.{Passed}
 abbrev pub cleared_in : Function → FrameView → FrameView
 cleared_in fn f = record f { slots = cleared_slots (stays_in Leaving.No (slice_get fn.live f.at)) f.slots }
 
--- the frame is at an instruction, no collection, that makes it another frame, with these globals, and that one is cleared
+-- the frame is at an instruction, no collection, that makes it another frame, with these globals, and that one is
+-- cleared
 pub record Passes (code : Code) (globals : List Value) (f h : FrameView) : Type 0 where
   pub line : CodeLine
   pub frame : FrameView
@@ -71,7 +72,8 @@ HasPassedOnTop Passed.Nowhere code globals fs hs = (hs ≡ fs) × IsNowhereOnTop
 -- so often, once for each of these numbers
 abbrev pub PassEach : Code → List Value → List ℕ → List FrameView → List FrameView → Type 0
 PassEach code globals [] fs hs = hs ≡ fs
-PassEach code globals (c ∷ cs) fs hs = (ks : List FrameView) × PassesOnTop code globals fs ks × PassEach code globals cs ks hs
+PassEach code globals (c ∷ cs) fs hs = (ks : List FrameView) × PassesOnTop code globals fs ks
+    × PassEach code globals cs ks hs
 
 -- the state after the turn of a goroutine that runs, and what is cleared after it
 abbrev pub acted : Code → ℕ → ℕ → State → State
@@ -79,13 +81,17 @@ acted code g choice s = apply_all (turn_of code g choice s (find g s.goroutines)
 
 -- whether nothing is cleared after it: its instruction is a collection, or no rule fits
 abbrev pub keeps_all : Code → ℕ → ℕ → State → Bool
-keeps_all code g choice s = goroutine_collects code (find g s.goroutines) || not (not_empty (turn_of code g choice s (find g s.goroutines)))
+keeps_all code g choice s = goroutine_collects code (find g s.goroutines)
+    || not (not_empty (turn_of code g choice s (find g s.goroutines)))
 
 abbrev pub taken : Code → ℕ → ℕ → State → State
-taken code g choice s = apply_all (clearing code (keeps_all code g choice s) (Some g) (acted code g choice s)) (acted code g choice s)
+taken code g choice s = apply_all (clearing code (keeps_all code g choice s) (Some g) (acted code g choice s))
+    (acted code g choice s)
 
--- the turn of the goroutine, which is no collection and ends no program, whatever choice it is given; or the state is as it was
+-- the turn of the goroutine, which is no collection and ends no program, whatever choice it is given; or the state is
+-- as it was
 abbrev pub HasTakenTurn : Passed → Code → ℕ → State → State → Type 0
-HasTakenTurn Passed.Over code g s t = (goroutine_collects code (find g s.goroutines) ≡ false) × ((choice : ℕ) → t ≡ taken code g choice s) × (ending t ≡ ending s)
+HasTakenTurn Passed.Over code g s t = (goroutine_collects code (find g s.goroutines) ≡ false)
+    × ((choice : ℕ) → t ≡ taken code g choice s) × (ending t ≡ ending s)
 HasTakenTurn (Passed.At line after) code g s t = (t ≡ s) × IsAtTop code (frames_of g s) line.now after
 HasTakenTurn Passed.Nowhere code g s t = (t ≡ s) × IsNowhereOnTop code (frames_of g s)

@@ -50,8 +50,10 @@ pub record HasGoneOn (code : Code) (old new : State) (before after : List Event)
   pub silent : GoOn code old taken
   pub state : new ≡ steps code old taken
 
--- with these frames and globals turns of exactly the numbers that were given were taken, and each touched the innermost frame alone
-pub record HasKeptOn (code : Code) (globals : List Value) (fs hs : List FrameView) (before after : List Event) (given now : ℕ) : Type 0 where
+-- with these frames and globals turns of exactly the numbers that were given were taken, and each touched the innermost
+-- frame alone
+pub record HasKeptOn (code : Code) (globals : List Value) (fs hs : List FrameView) (before after : List Event)
+    (given now : ℕ) : Type 0 where
   pub taken : List ℕ
   pub order : before ≡ turn_events taken ++ after
   pub count : now ≡ given + length taken
@@ -77,9 +79,11 @@ pub record HasCome (code : Code) (old : State) (before after : List Event) (give
 
 -- no turn was left; or the outside is needed after the last turn
 abbrev pub HasTaken : Option Turned → Code → State → State → List Event → List Event → ℕ → ℕ → Type 0
-HasTaken None code old new before after given now = HasGoneOn code old new before after given now × (is_turn_next after ≡ false)
+HasTaken None code old new before after given now = HasGoneOn code old new before after given now
+    × (is_turn_next after ≡ false)
 HasTaken (Some turned) code old new before after given now =
-    (last : HasCome code old before after given now) × (new ≡ step code last.state last.number) × (turned ≡ outcome_of code last.state last.number) × (stops_after code last.state last.number ≡ true)
+    (last : HasCome code old before after given now) × (new ≡ step code last.state last.number)
+    × (turned ≡ outcome_of code last.state last.number) × (stops_after code last.state last.number ≡ true)
 
 -- memory ran out for the last turn, and the state is the one before it
 abbrev pub HasFailed : Code → State → State → List Event → List Event → ℕ → ℕ → Type 0

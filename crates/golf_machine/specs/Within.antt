@@ -34,17 +34,21 @@ is_on_frame (Instr.Jump target) = true
 is_on_frame (Instr.JumpIfNot target) = true
 is_on_frame _ = false
 
--- whichever goroutine has the frame f, its changes are that it stands with the frame h, of the same function, which leaves as f did
+-- whichever goroutine has the frame f, its changes are that it stands with the frame h, of the same function, which
+-- leaves as f did
 pub record Becomes (act : Actor → List Change) (f h : FrameView) : Type 0 where
-  pub stands : (g : ℕ) (r : GoroutineView) (callers : List FrameView) (line : ℕ) → act (acting g r f callers line) ≡ stands (acting g r f callers line) h
+  pub stands : (g : ℕ) (r : GoroutineView) (callers : List FrameView) (line : ℕ)
+      → act (acting g r f callers line) ≡ stands (acting g r f callers line) h
   pub function : h.function ≡ f.function
   pub leaving : h.leaving ≡ f.leaving
 
 -- whichever goroutine has the frame f, its changes are those of the other act
 abbrev pub ActsAs : (Actor → List Change) → (Actor → List Change) → FrameView → Type 0
-ActsAs act other f = (g : ℕ) (r : GoroutineView) (callers : List FrameView) (line : ℕ) → act (acting g r f callers line) ≡ other (acting g r f callers line)
+ActsAs act other f = (g : ℕ) (r : GoroutineView) (callers : List FrameView) (line : ℕ)
+    → act (acting g r f callers line) ≡ other (acting g r f callers line)
 
--- what came of an instruction that does this, if it touches the frame alone: it is done; or the frame is as it was, and it panics, or no rule fits, or it touches more than the frame
+-- what came of an instruction that does this, if it touches the frame alone: it is done; or the frame is as it was, and
+-- it panics, or no rule fits, or it touches more than the frame
 abbrev pub HasGone : Bool → Within → (Actor → List Change) → FrameView → FrameView → Type 0
 HasGone on_frame Within.Done act f h = Becomes act f h
 HasGone on_frame Within.ZeroDivisor act f h = (h ≡ f) × ActsAs act (λ a. panics a PanicKind.DivideByZero) f

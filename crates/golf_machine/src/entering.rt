@@ -1,6 +1,7 @@
 //! Frames that calls, goroutines, deferred calls and finalisers begin with.
 
-ghost use Rattle.std.specs.Prelude.{◌≡◌, ◌<◌, ◌∷◌, [], ℕ, Some, None, IfOk, OnOk, OnErr, option_map, reverse, slice_get, option_to_list, true};
+ghost use Rattle.std.specs.Prelude.{◌≡◌, ◌<◌, ◌∷◌, [], ℕ, Some, None, IfOk, OnOk, OnErr, option_map, reverse};
+ghost use Rattle.std.specs.Prelude.{slice_get, option_to_list, true};
 ghost use Rattle.golf_model.specs.Views.{frame_view, frame_views};
 ghost use Rattle.golf_model.specs.State.{slots_of, call_frame, not_empty};
 ghost use Rattle.golf_model.specs.Changes.{apply_all, finish};

@@ -1,7 +1,8 @@
 //! Frames that return or unwind, and goroutines that end.
 
 ghost use Rattle.std.specs.Prelude.{◌≡◌, ℕ, IfOk, OnOk, OnErr};
-ghost use Rattle.golf_model.specs.Calls.{ends, returns, returns_value, returns_to, unwinds_to, leaves_returning, leaves_unwinding};
+ghost use Rattle.golf_model.specs.Calls.{ends, returns, returns_value, returns_to, unwinds_to, leaves_returning};
+ghost use Rattle.golf_model.specs.Calls.{leaves_unwinding};
 ghost use Rattle.golf_state.specs.Doing.{does, does_by, Stands};
 ghost use Rattle.golf_theory.specs.Maps.{find};
 ghost use Rattle.golf_model.specs.State.{not_empty};

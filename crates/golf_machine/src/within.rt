@@ -1,9 +1,11 @@
 //! Instructions that touch the innermost frame alone; they may look at globals.
 
-ghost use Rattle.std.specs.Prelude.{◌≡◌, ◌<◌, ◌≤◌, ◌+◌, ◌^◌, ◌∷◌, [], ℕ, length, drop, IfOk, OnErr, slice_get, true, false};
+ghost use Rattle.std.specs.Prelude.{◌≡◌, ◌<◌, ◌≤◌, ◌+◌, ◌^◌, ◌∷◌, [], ℕ, length, drop, IfOk, OnErr, slice_get, true};
+ghost use Rattle.std.specs.Prelude.{false};
 ghost use Rattle.golf_data.specs.declared.code.Code.{Code};
 ghost use Rattle.golf_model.specs.Acting.{next, jumps};
-ghost use Rattle.golf_model.specs.Calculating.{pushes, loads, stores, loads_global, drops, doubles, doubles_two, negates, inverts, computes, divides, compares, equates, jumps_unless};
+ghost use Rattle.golf_model.specs.Calculating.{pushes, loads, stores, loads_global, drops, doubles, doubles_two};
+ghost use Rattle.golf_model.specs.Calculating.{negates, inverts, computes, divides, compares, equates, jumps_unless};
 ghost use Rattle.golf_model.specs.State.{State};
 ghost use Rattle.golf_model.specs.Turn.{changes, is_collection};
 ghost use Rattle.golf_model.specs.Views.{frame_view};

@@ -18,7 +18,8 @@ use Rattle.golf_mark.proofs.Winning.{HasLooked, Wins-looked}
 use Rattle.golf_mark.proofs.Covering.{own_wins, own_less, covered_wins, covered_same}
 
 -- a marker claims
-pub IsMarkerOf-wins : (marks : Marks) (pool : GreyPool) (a : Marker) (s : Scanner) → IsMarkerOf marks pool a → Wins marks a.scanner s → IsMarkerOf marks pool (record a { scanner = s })
+pub IsMarkerOf-wins : (marks : Marks) (pool : GreyPool) (a : Marker) (s : Scanner) → IsMarkerOf marks pool a
+    → Wins marks a.scanner s → IsMarkerOf marks pool (record a { scanner = s })
 IsMarkerOf-wins marks pool a s fits w = record {
   scanner = w.fits;
   own = own_wins marks a.scanner s w fits.own;
@@ -29,8 +30,10 @@ IsMarkerOf-wins marks pool a s fits w = record {
   places = fits.places;
 }
 
-pub Attends-scanned : (marks : Marks) (pool : GreyPool) (place : ℕ) (a : Marker) (seat : MarkSeat) (s : Scanner) → IsMarkerOf marks pool a → IsSameSeat a.scanner.seat seat → HasLooked a.scanner.seat seat
-    → Wins marks (with_seat a.scanner seat) s → IsScanned (graph_in marks) (known s.seat) place → Attends marks pool place a (record a { scanner = s })
+pub Attends-scanned : (marks : Marks) (pool : GreyPool) (place : ℕ) (a : Marker) (seat : MarkSeat) (s : Scanner)
+    → IsMarkerOf marks pool a → IsSameSeat a.scanner.seat seat → HasLooked a.scanner.seat seat
+    → Wins marks (with_seat a.scanner seat) s → IsScanned (graph_in marks) (known s.seat) place
+    → Attends marks pool place a (record a { scanner = s })
 Attends-scanned marks pool place a seat s fits same look wins scanned =
     let looked : Scanner = with_seat a.scanner seat in
     record {
@@ -38,7 +41,8 @@ Attends-scanned marks pool place a seat s fits same look wins scanned =
         scanner = wins.fits;
         own = own_wins marks looked s wins (own_less marks a.scanner looked look.known (λ p h. h) fits.own);
         hand = fits.hand;
-        covered = covered_wins (λ p. In p (pushed a.hand)) marks looked s wins (covered_same (λ p. In p (pushed a.hand)) marks a.scanner looked look.claimed look.known refl fits.covered);
+        covered = covered_wins (λ p. In p (pushed a.hand)) marks looked s wins
+            (covered_same (λ p. In p (pushed a.hand)) marks a.scanner looked look.claimed look.known refl fits.covered);
         budget = fits.budget;
         deferred = fits.deferred;
         places = fits.places;
@@ -56,7 +60,9 @@ pub record AlsoNotes (place : ℕ) (old notes : List Bool) : Type 0 where
   pub noted : IsSet notes place
 
 -- a place that is not known as marked is deferred
-pub Attends-deferred : (marks : Marks) (pool : GreyPool) (place : ℕ) (a : Marker) (seat : MarkSeat) (notes : List Bool) → IsMarkerOf marks pool a → IsSameSeat a.scanner.seat seat → HasLooked a.scanner.seat seat → AlsoNotes place a.deferred notes
+pub Attends-deferred : (marks : Marks) (pool : GreyPool) (place : ℕ) (a : Marker) (seat : MarkSeat) (notes : List Bool)
+    → IsMarkerOf marks pool a → IsSameSeat a.scanner.seat seat → HasLooked a.scanner.seat seat
+    → AlsoNotes place a.deferred notes
     → Attends marks pool place a (record a { scanner = with_seat a.scanner seat; deferred = notes })
 Attends-deferred marks pool place a seat notes fits same look more =
     let looked = Wins-looked marks a.scanner seat fits.scanner same look in

@@ -1,7 +1,8 @@
 -- One more flag is set.
 -- For: `claim`, src/work.rt; `IsWorking`, specs/Working.antt
 -- By: cases of whether a place is the new one, and arithmetic; no induction
-use Rattle.std.proofs.Common.{◌≡◌, ℕ, ◌+◌, ◌<◌, inl, inr, List, [], ◌∷◌, ◌++◌, length, get_or, set, Bool, true, false, sym, ap, subst, arith}
+use Rattle.std.proofs.Common.{◌≡◌, ℕ, ◌+◌, ◌<◌, inl, inr, List, [], ◌∷◌, ◌++◌, length, get_or, set, Bool, true, false}
+use Rattle.std.proofs.Common.{sym, ap, subst, arith}
 use Rattle.std.proofs.lemmas.List.{length_push, length-set}
 use Rattle.golf_theory.specs.Membership.{In}
 use Rattle.golf_theory.proofs.Lists.{In-left, In-cases, In-push}
@@ -10,10 +11,18 @@ use Rattle.golf_marks.proofs.Flags.{IsSet-set, set-IsSet, unset_one}
 use Rattle.golf_mark.specs.Working.{IsWorking}
 
 -- one more place is marked
-pub IsWorking-more : (bits : List Bool) (old new : Roomy ℕ) (p : ℕ) → p < length bits → get_or bits p false ≡ false → new.items ≡ old.items ++ p ∷ [] → new.spare + 1 ≡ old.spare → IsWorking bits old → IsWorking (set bits p true) new
+pub IsWorking-more : (bits : List Bool) (old new : Roomy ℕ) (p : ℕ) → p < length bits → get_or bits p false ≡ false
+    → new.items ≡ old.items ++ p ∷ [] → new.spare + 1 ≡ old.spare → IsWorking bits old → IsWorking (set bits p true) new
 IsWorking-more bits old new p low off items spare w = record {
   room = omega (arith, unset_one bits p low off, w.room);
-  counted = omega (arith, unset_one bits p low off, w.counted, ap length items, length_push old.items p, length-set bits p true);
+  counted = omega (
+    arith,
+    unset_one bits p low off,
+    w.counted,
+    ap length items,
+    length_push old.items p,
+    length-set bits p true,
+  );
   listed = λ q. (
     λ h. set-IsSet bits p q low (elim (In-cases q old.items (p ∷ []) (subst (λ (l : List ℕ). In q l) items h)) [
       | inl i ↦ inr ((w.listed q).0 i)

@@ -1,7 +1,8 @@
 -- From the bits of a marking to its flags.
 -- For: `HasMarked`, golf_marks/specs/Flags.antt; `into_marked`, src/work.rt
 -- By: arithmetic of the numbers in a list of bits that is cut; no induction
-use Rattle.std.proofs.Common.{◌≡◌, ℕ, ◌+◌, ◌-◌, ◌<◌, ◌≤◌, List, length, take, drop, Bool, false, sym, ap, ◌∙◌, subst, arith}
+use Rattle.std.proofs.Common.{◌≡◌, ℕ, ◌+◌, ◌-◌, ◌<◌, ◌≤◌, List, length, take, drop, Bool, false, sym, ap, ◌∙◌, subst}
+use Rattle.std.proofs.Common.{arith}
 use Rattle.std.specs.Prelude.{◌↔◌}
 use Rattle.std.specs.List.Sorted.{IsStrictlyIncreasing}
 use Rattle.std.proofs.lemmas.List.{get_or-take, get_or-drop, length-take-le, length-drop}
@@ -19,8 +20,10 @@ pub IsSet-take : (n : ℕ) (bits : List Bool) (p : ℕ) → p < n → IsSet bits
 IsSet-take n bits p within h = get_or-take n bits p false within ∙ h
 
 -- bits cut in two, and the numbers of the front's
-pub HasMarked-cut : (bits : List Bool) (order : List ℕ) (nodes : ℕ) (m : Marked) → nodes ≤ length bits → ((p : ℕ) → In p order ↔ IsSet bits p)
-    → m.flags ≡ take nodes bits → m.awake ≡ drop nodes bits → IsStrictlyIncreasing m.order → ((n : ℕ) → In n m.order ↔ IsSet (take nodes bits) n)
+pub HasMarked-cut : (bits : List Bool) (order : List ℕ) (nodes : ℕ) (m : Marked) → nodes ≤ length bits
+    → ((p : ℕ) → In p order ↔ IsSet bits p)
+    → m.flags ≡ take nodes bits → m.awake ≡ drop nodes bits → IsStrictlyIncreasing m.order
+    → ((n : ℕ) → In n m.order ↔ IsSet (take nodes bits) n)
     → HasMarked nodes (length bits - nodes) (λ p. In p order) m
 HasMarked-cut bits order nodes m low listed flags awake rising members = record {
   flag_count = ap length flags ∙ length-take-le nodes bits low;
@@ -41,12 +44,16 @@ HasMarked-cut bits order nodes m low listed flags awake rising members = record 
 }
 
 -- the same places by another property, and by another count of sleepers
-pub HasMarked-same : (nodes sleepers others : ℕ) (P Q : ℕ → Type 0) (m : Marked) → sleepers ≡ others → ((p : ℕ) → P p ↔ Q p) → HasMarked nodes sleepers P m → HasMarked nodes others Q m
+pub HasMarked-same : (nodes sleepers others : ℕ) (P Q : ℕ → Type 0) (m : Marked) → sleepers ≡ others
+    → ((p : ℕ) → P p ↔ Q p) → HasMarked nodes sleepers P m → HasMarked nodes others Q m
 HasMarked-same nodes sleepers others P Q m count same h = record {
   flag_count = h.flag_count;
   awake_count = h.awake_count ∙ count;
   flags = λ p. (λ i. let r = (h.flags p).0 i in (r.0, (same p).0 r.1), λ i. (h.flags p).1 (i.0, (same p).1 i.1));
-  awake = λ s l. let r = h.awake s (omega (arith, l, count)) in (λ i. (same (nodes + s)).0 (r.0 i), λ i. r.1 ((same (nodes + s)).1 i));
+  awake = λ s l. let r = h.awake s (omega (arith, l, count)) in (
+    λ i. (same (nodes + s)).0 (r.0 i),
+    λ i. r.1 ((same (nodes + s)).1 i),
+  );
   rising = h.rising;
   order = h.order;
 }

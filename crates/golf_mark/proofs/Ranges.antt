@@ -8,7 +8,8 @@ use Rattle.golf_theory.proofs.Lists.{Every-at}
 use Rattle.golf_theory.proofs.Derivations.{Reached-least}
 use Rattle.golf_model.specs.declared.graph.GraphParts.{GraphParts}
 use Rattle.golf_model.specs.Sleepers.{Sleeper}
-use Rattle.golf_model.specs.Graph.{node_count, sleeper_count, children_of, sleeper_waits, sleeper_references, Justifies, Least, AreNodes, IsInRange}
+use Rattle.golf_model.specs.Graph.{node_count, sleeper_count, children_of, sleeper_waits, sleeper_references, Justifies}
+use Rattle.golf_model.specs.Graph.{Least, AreNodes, IsInRange}
 
 -- the list of a row, and of a sleeper, has what each such list has
 module _ (P : ℕ → Type 0) where
@@ -17,7 +18,8 @@ module _ (P : ℕ → Type 0) where
   of_row (row ∷ rows) zero a = a.0
   of_row (row ∷ rows) (suc k) a = of_row rows k a.1
 
-  of_sleeper : (f : Sleeper → List ℕ) (xs : List Sleeper) (s : ℕ) → Every (λ x. Every P (f x)) xs → Every P (unwrap_or (option_map f (slice_get xs s)) [])
+  of_sleeper : (f : Sleeper → List ℕ) (xs : List Sleeper) (s : ℕ) → Every (λ x. Every P (f x)) xs
+      → Every P (unwrap_or (option_map f (slice_get xs s)) [])
   of_sleeper f [] s a = tt
   of_sleeper f (x ∷ xs) zero a = a.0
   of_sleeper f (x ∷ xs) (suc s) a = of_sleeper f xs s a.1
@@ -28,7 +30,8 @@ row_past [] k p h = absurd h
 row_past (row ∷ rows) zero p h = omega arith
 row_past (row ∷ rows) (suc k) p h = omega (arith, row_past rows k p h)
 
-sleeper_past : (f : Sleeper → List ℕ) (xs : List Sleeper) (s p : ℕ) → In p (unwrap_or (option_map f (slice_get xs s)) []) → s < length xs
+sleeper_past : (f : Sleeper → List ℕ) (xs : List Sleeper) (s p : ℕ)
+    → In p (unwrap_or (option_map f (slice_get xs s)) []) → s < length xs
 sleeper_past f [] s p h = absurd h
 sleeper_past f (x ∷ xs) zero p h = omega arith
 sleeper_past f (x ∷ xs) (suc s) p h = omega (arith, sleeper_past f xs s p h)

@@ -14,14 +14,17 @@ pub scanned_node : (g : GraphParts) (marked : List ℕ) (p : ℕ) → p < node_c
     → ((s : ℕ) → In p (sleeper_waits g s) → In (node_count g + s) marked)
     → IsScanned g marked p
 scanned_node g marked p low children sleepers q (Justifies.child i) = children q i
-scanned_node g marked p low children sleepers q (Justifies.wakes s e i) = subst (λ (y : ℕ). In y marked) (sym e) (sleepers s i)
+scanned_node g marked p low children sleepers q (Justifies.wakes s e i) =
+    subst (λ (y : ℕ). In y marked) (sym e) (sleepers s i)
 scanned_node g marked p low children sleepers q (Justifies.refers s e i) = absurd (omega arith)
 
 pub scanned_sleeper : (g : GraphParts) (marked : List ℕ) (s : ℕ) → IsInRange g
     → ((q : ℕ) → In q (sleeper_references g s) → In q marked)
     → IsScanned g marked (node_count g + s)
-scanned_sleeper g marked s fit references q (Justifies.child i) = absurd (omega (arith, row_past g.children (node_count g + s) q i))
+scanned_sleeper g marked s fit references q (Justifies.child i) =
+    absurd (omega (arith, row_past g.children (node_count g + s) q i))
 scanned_sleeper g marked s fit references q (Justifies.wakes t e i) =
-    let b = Every-at (λ x. x < node_count g) (sleeper_waits g t) (node_count g + s) (waits-nodes g fit t) i in absurd (omega (arith, b))
+    let b = Every-at (λ x. x < node_count g) (sleeper_waits g t) (node_count g + s) (waits-nodes g fit t) i in absurd
+    (omega (arith, b))
 scanned_sleeper g marked s fit references q (Justifies.refers t e i) =
     let same : t ≡ s = omega arith in references q (subst (λ (k : ℕ). In q (sleeper_references g k)) same i)

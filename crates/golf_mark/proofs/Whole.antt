@@ -28,13 +28,21 @@ pub record HasScannedAll (marks : Marks) (todo : List Bool) (s : Scanner) (seats
   pub roots : (p : ℕ) → In p (graph_in marks).roots → In p (known s.seat)
   pub known : (p : ℕ) → Every (λ t. In p (known t) → 0 < claim_count p seats) seats
 
-pub claimed_least : (marks : Marks) (todo : List Bool) (s : Scanner) (seats : List MarkSeat) → IsInRange (graph_in marks) → HasScannedAll marks todo s seats → (p : ℕ) → 0 < claim_count p seats ↔ Least (graph_in marks) p
+pub claimed_least : (marks : Marks) (todo : List Bool) (s : Scanner) (seats : List MarkSeat)
+    → IsInRange (graph_in marks) → HasScannedAll marks todo s seats → (p : ℕ) → 0 < claim_count p seats
+    ↔ Least (graph_in marks) p
 claimed_least marks todo s seats fit all p = (
   all.sound p,
   Reached-least (λ q. In q g.roots) (Justifies g) (λ q. 0 < claim_count q seats)
       (λ q r. known_claimed q (all.roots q r))
       (λ q x c j.
-      let mine : In q (claimed s.seat) = In-times q (claimed s.seat) (omega (arith, c, ap (claim_count q) all.one, sum_by-cons (λ (t : MarkSeat). times q (claimed t)) s.seat [])) in
+      let mine : In q (claimed s.seat) = In-times q (claimed s.seat)
+      (omega (
+        arith,
+        c,
+        ap (claim_count q) all.one,
+        sum_by-cons (λ (t : MarkSeat). times q (claimed t)) s.seat [],
+      )) in
       let low : q < place_count g = Least-below g fit q (all.sound q c) in
       elim (all.covered q low mine) [
         | inl done ↦ known_claimed x (done x j)
@@ -49,4 +57,5 @@ claimed_least marks todo s seats fit all p = (
     g = graph_in marks
 
     known_claimed : (q : ℕ) → In q (known s.seat) → 0 < claim_count q seats
-    known_claimed q h = (subst (λ (l : List MarkSeat). Every (λ t. In q (known t) → 0 < claim_count q seats) l) all.one (all.known q)).0 h
+    known_claimed q h = (subst (λ (l : List MarkSeat). Every (λ t. In q (known t) → 0 < claim_count q seats) l) all.one
+        (all.known q)).0 h

@@ -25,7 +25,8 @@ AllRun marks pool ms = (k : ℕ) (m : Marker) → get_elem? ms k ≡ some m → 
 
 -- each of the first roots is known to a marker
 abbrev pub IsRooted : List ℕ → List Marker → Type 0
-IsRooted roots ms = (p : ℕ) → In p roots → (k : ℕ) × (m : Marker) × (get_elem? ms k ≡ some m) × In p (known m.scanner.seat)
+IsRooted roots ms = (p : ℕ) → In p roots → (k : ℕ) × (m : Marker) × (get_elem? ms k ≡ some m)
+    × In p (known m.scanner.seat)
 
 -- how many seats the markers stand for
 abbrev pub marker_parts : List Marker → ℕ
@@ -49,18 +50,25 @@ pub record IsGathered (marks : Marks) (ms rest : List Marker) (f : Finisher) : T
   pub fits : IsFinisherOf marks f
   pub begins : (k : ℕ) (m : Marker) → get_elem? rest k ≡ some m → get_elem? ms k ≡ some m
   pub all : (k : ℕ) (m : Marker) → get_elem? ms k ≡ some m → k < length rest → get_elem? rest k ≡ some m
-  pub sums : (h : ℕ → ℕ) → sum_by h (claimed f.seat) + sum_by (λ m. sum_by h (claimed m.scanner.seat)) rest ≡ sum_by (λ m. sum_by h (claimed m.scanner.seat)) ms
+  pub sums : (h : ℕ → ℕ) → sum_by h (claimed f.seat) + sum_by (λ m. sum_by h (claimed m.scanner.seat)) rest ≡ sum_by
+      (λ m. sum_by h (claimed m.scanner.seat)) ms
   pub counted : parts f.seat + marker_parts rest ≡ marker_parts ms
-  pub told : (k : ℕ) (m : Marker) → get_elem? ms k ≡ some m → length rest ≤ k → (p : ℕ) → In p (known m.scanner.seat) → In p (known f.seat)
-  pub noted : (k : ℕ) (m : Marker) → get_elem? ms k ≡ some m → length rest ≤ k → (p : ℕ) → p < place_count (graph_in marks) → IsNoted m p → IsSet f.todo p
+  pub told : (k : ℕ) (m : Marker) → get_elem? ms k ≡ some m → length rest ≤ k → (p : ℕ) → In p (known m.scanner.seat)
+      → In p (known f.seat)
+  pub noted : (k : ℕ) (m : Marker) → get_elem? ms k ≡ some m → length rest ≤ k → (p : ℕ)
+      → p < place_count (graph_in marks) → IsNoted m p → IsSet f.todo p
 
 -- the hands of the markers but for the rest, the last first
 pub record IsHandedOver (ms rest : List Marker) (hands : List GreyHand) : Type 0 where
   pub count : length hands + length rest ≡ length ms
-  pub from : (k : ℕ) (h : GreyHand) → get_elem? hands k ≡ some h → (j : ℕ) × (m : Marker) × (get_elem? ms j ≡ some m) × (m.hand ≡ h) × (j + k + 1 ≡ length ms)
-  pub sums_pushed : (f : ℕ → ℕ) → sum_by (λ (h : GreyHand). sum_by f (pushed h)) hands + sum_by (λ (m : Marker). sum_by f (pushed m.hand)) rest ≡ sum_by (λ (m : Marker). sum_by f (pushed m.hand)) ms
-  pub sums_taken : (f : ℕ → ℕ) → sum_by (λ (h : GreyHand). took f h) hands + sum_by (λ (m : Marker). took f m.hand) rest ≡ sum_by (λ (m : Marker). took f m.hand) ms
+  pub from : (k : ℕ) (h : GreyHand) → get_elem? hands k ≡ some h → (j : ℕ) × (m : Marker) × (get_elem? ms j ≡ some m)
+      × (m.hand ≡ h) × (j + k + 1 ≡ length ms)
+  pub sums_pushed : (f : ℕ → ℕ) → sum_by (λ (h : GreyHand). sum_by f (pushed h)) hands + sum_by
+      (λ (m : Marker). sum_by f (pushed m.hand)) rest ≡ sum_by (λ (m : Marker). sum_by f (pushed m.hand)) ms
+  pub sums_taken : (f : ℕ → ℕ) → sum_by (λ (h : GreyHand). took f h) hands + sum_by (λ (m : Marker). took f m.hand) rest
+      ≡ sum_by (λ (m : Marker). took f m.hand) ms
 
 -- what was shared was taken or is left
 abbrev pub IsEvenWith : List Marker → List ℕ → Type 0
-IsEvenWith ms left = (f : ℕ → ℕ) → sum_by (λ m. sum_by f (pushed m.hand)) ms ≡ sum_by (λ m. took f m.hand) ms + sum_by f left
+IsEvenWith ms left = (f : ℕ → ℕ) → sum_by (λ m. sum_by f (pushed m.hand)) ms ≡ sum_by (λ m. took f m.hand) ms
+    + sum_by f left

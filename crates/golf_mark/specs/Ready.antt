@@ -31,7 +31,8 @@ pub record Seeds (marks : Marks) (pool : GreyPool) (root : ℕ) (old new : Marke
   pub there : In root (known new.scanner.seat)
 
 -- all that several markers need is there
-pub record IsReady (marks : Marks) (pool : GreyPool) (ms : List Marker) (hands : Roomy GreyHand) (seats : Roomy MarkSeat) : Type 0 where
+pub record IsReady (marks : Marks) (pool : GreyPool) (ms : List Marker) (hands : Roomy GreyHand)
+    (seats : Roomy MarkSeat) : Type 0 where
   pub some_marker : 0 < length ms
   pub few : length ms ≤ 16
   pub count : length ms ≡ hand_count pool

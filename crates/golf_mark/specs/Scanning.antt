@@ -25,7 +25,8 @@ pub record IsScannerOf (marks : Marks) (s : Scanner) : Type 0 where
 -- each place that it claimed is scanned, or in its own list, or elsewhere
 abbrev pub IsCovered : Marks → (ℕ → Type 0) → Scanner → Type 0
 IsCovered marks Elsewhere s =
-    (p : ℕ) → p < place_count (graph_in marks) → In p (claimed s.seat) → IsScanned (graph_in marks) (known s.seat) p ⊎ (In p s.won.items ⊎ Elsewhere p)
+    (p : ℕ) → p < place_count (graph_in marks) → In p (claimed s.seat) → IsScanned (graph_in marks) (known s.seat) p
+    ⊎ (In p s.won.items ⊎ Elsewhere p)
 
 -- its own list has places that it knows
 abbrev pub KnowsWon : Marks → Scanner → Type 0
@@ -34,6 +35,7 @@ KnowsWon marks s = (p : ℕ) → In p s.won.items → (p < place_count (graph_in
 -- it claims: what it wins joins its own list, and what it knew it knows
 pub record Wins (marks : Marks) (old new : Scanner) : Type 0 where
   pub fits : IsScannerOf marks new
-  pub won : (more : List ℕ) × (claimed new.seat ≡ claimed old.seat ++ more) × (new.won.items ≡ old.won.items ++ more) × ((p : ℕ) → In p more → (p < place_count (graph_in marks)) × In p (known new.seat))
+  pub won : (more : List ℕ) × (claimed new.seat ≡ claimed old.seat ++ more) × (new.won.items ≡ old.won.items ++ more)
+      × ((p : ℕ) → In p more → (p < place_count (graph_in marks)) × In p (known new.seat))
   pub known : (p : ℕ) → In p (known old.seat) → In p (known new.seat)
   pub parts : parts new.seat ≡ parts old.seat

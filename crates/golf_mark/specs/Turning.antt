@@ -28,7 +28,8 @@ is_one p q = (if q == p then 1 else 0)
 
 -- each place that it took is scanned, or noted as deferred
 abbrev pub IsAtattended : GraphParts → Marker → Type 0
-IsAtattended g m = (p : ℕ) → p < place_count g → 0 < took (is_one p) m.hand → IsScanned g (known m.scanner.seat) p ⊎ IsSet m.deferred p
+IsAtattended g m = (p : ℕ) → p < place_count g → 0 < took (is_one p) m.hand → IsScanned g (known m.scanner.seat) p
+    ⊎ IsSet m.deferred p
 
 -- it knows what it knew, and stands for the same seats and the same hand
 pub record Keeps (old new : Marker) : Type 0 where
@@ -42,7 +43,8 @@ pub record Attends (marks : Marks) (pool : GreyPool) (place : ℕ) (old new : Ma
   pub keeps : Keeps old new
   pub took : (f : ℕ → ℕ) → took f new.hand ≡ took f old.hand
   pub deferred : (p : ℕ) → IsSet old.deferred p → IsSet new.deferred p
-  pub here : place < place_count (graph_in marks) → IsScanned (graph_in marks) (known new.scanner.seat) place ⊎ IsSet new.deferred place
+  pub here : place < place_count (graph_in marks) → IsScanned (graph_in marks) (known new.scanner.seat) place
+      ⊎ IsSet new.deferred place
 
 -- a marker goes through some turns
 pub record Runs (marks : Marks) (pool : GreyPool) (old new : Marker) : Type 0 where

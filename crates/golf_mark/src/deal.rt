@@ -13,7 +13,7 @@ ghost use Rattle.golf_mark.specs.Turning.{IsMarkerOf};
 use crate::marker::Marker;
 use crate::notes::Notes;
 use crate::scanner::{Scanner, claim};
-use crate::stack::Stack;
+use crate::worklist::Worklist;
 use golf_base::{List, Memory};
 use golf_grey::{GreyHand, GreyPool};
 use golf_marks::{MarkSeat, Marks};
@@ -50,7 +50,7 @@ pub(crate) fn equip(
             unreachable!()
         };
         let deferred = Notes::new(alloc, places)?;
-        let won = Stack::new(alloc, places as usize)?;
+        let won = Worklist::new(alloc, places as usize)?;
         let scanner = Scanner { seat, won };
         markers.push(Marker {
             scanner,

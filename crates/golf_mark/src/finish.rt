@@ -1,6 +1,6 @@
 //! The finishing scan, of what the markers have left.
 
-ghost use Rattle.std.specs.Prelude.{◌≡◌, ◌+◌, ◌<◌, ℕ, Bool, List, length};
+ghost use Rattle.std.specs.Prelude.{◌^◌, ◌≡◌, ◌+◌, ◌<◌, ℕ, Bool, List, length};
 ghost use Rattle.golf_marks.specs.Places.{place_count};
 ghost use Rattle.golf_marks.specs.Seats.{graph_in};
 ghost use Rattle.golf_mark.specs.Finishing.{IsIdle, IsPending, KeepsSeat};
@@ -41,7 +41,7 @@ fn settle_at(
     requires graph { graph_in marks.now ≡ graph.now }
     requires waiters { IsWaiters graph.now waiters.now }
     requires place { place < place_count (graph_in marks.now) }
-    requires small { place_count (graph_in marks.now) < 4294967296 }
+    requires small { place_count (graph_in marks.now) < 2 ^ 32 }
     requires todo { length todo.now ≡ place_count (graph_in marks.now) }
     requires covered { IsCovered marks.now (IsPending todo.now place) scanner.old }
     ensures idle { IsIdle marks.now scanner.new }

@@ -10,9 +10,9 @@ mod marker;
 mod markers;
 mod notes;
 mod scanner;
-mod stack;
 mod waiters;
 mod work;
+mod worklist;
 
 pub use alone::mark_alone;
 pub use markers::Markers;

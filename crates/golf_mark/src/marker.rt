@@ -1,6 +1,6 @@
 //! A marker, and how it runs.
 
-ghost use Rattle.std.specs.Prelude.{◌≡◌, ◌+◌, ◌<◌, ℕ, length, All, IfSome};
+ghost use Rattle.std.specs.Prelude.{◌^◌, ◌≡◌, ◌+◌, ◌<◌, ℕ, length, All, IfSome};
 ghost use Rattle.std.specs.Thread.{IsSync};
 ghost use Rattle.golf_marks.specs.Places.{place_count};
 ghost use Rattle.golf_marks.specs.Seats.{graph_in};
@@ -213,7 +213,7 @@ pub(crate) fn run_all<G: Gate + Sync, R: Threads + Sync>(
     requires fits { All (IsMarkerOf shared.now.marks.now shared.now.pool.now) markers.old }
     requires graph { graph_in shared.now.marks.now ≡ shared.now.graph.now }
     requires waiters { IsWaiters shared.now.graph.now shared.now.waiters.now }
-    requires small { first + length markers.old < 4294967296 }
+    requires small { first + length markers.old < 2 ^ 32 }
     ensures { EachRuns shared.now.marks.now shared.now.pool.now markers.old markers.new }
 {
     if markers.is_empty() {
@@ -229,11 +229,11 @@ pub(crate) fn run_all<G: Gate + Sync, R: Threads + Sync>(
     join_mut(
         rt,
         &mut ||
-            requires { IsSync R.row × All (IsMarkerOf shared.now.marks.now shared.now.pool.now) back.now × (graph_in shared.now.marks.now ≡ shared.now.graph.now) × IsWaiters shared.now.graph.now shared.now.waiters.now × (second + length back.now < 4294967296) }
+            requires { IsSync R.row × All (IsMarkerOf shared.now.marks.now shared.now.pool.now) back.now × (graph_in shared.now.marks.now ≡ shared.now.graph.now) × IsWaiters shared.now.graph.now shared.now.waiters.now × (second + length back.now < 2 ^ 32) }
             ensures { EachRuns shared.entry.now.marks.now shared.entry.now.pool.now back.entry.now back.exit.now }
         { run_all(rt, gate, second, shared, back) },
         &mut ||
-            requires { IsSync R.row × All (IsMarkerOf shared.now.marks.now shared.now.pool.now) front.now × (graph_in shared.now.marks.now ≡ shared.now.graph.now) × IsWaiters shared.now.graph.now shared.now.waiters.now × (first + length front.now < 4294967296) }
+            requires { IsSync R.row × All (IsMarkerOf shared.now.marks.now shared.now.pool.now) front.now × (graph_in shared.now.marks.now ≡ shared.now.graph.now) × IsWaiters shared.now.graph.now shared.now.waiters.now × (first + length front.now < 2 ^ 32) }
             ensures { EachRuns shared.entry.now.marks.now shared.entry.now.pool.now front.entry.now front.exit.now }
         { run_all(rt, gate, first, shared, front) },
     );

@@ -1,6 +1,6 @@
 //! Scans a marked place: claims all that it justifies.
 
-ghost use Rattle.std.specs.Prelude.{◌≡◌, ◌+◌, ◌<◌, ℕ};
+ghost use Rattle.std.specs.Prelude.{◌^◌, ◌≡◌, ◌+◌, ◌<◌, ℕ};
 ghost use Rattle.golf_theory.specs.Membership.{In, Every};
 ghost use Rattle.golf_marks.specs.Places.{place_count, IsJustified};
 ghost use Rattle.golf_marks.specs.Seats.{graph_in, known};
@@ -8,8 +8,8 @@ ghost use Rattle.golf_mark.specs.Scanning.{IsScannerOf, Wins};
 ghost use Rattle.golf_mark.specs.Waiters.{IsWaiters};
 ghost use Rattle.golf_mark.specs.Working.{IsScanned};
 
-use crate::stack::Stack;
 use crate::waiters::Waiters;
+use crate::worklist::Worklist;
 use golf_marks::{MarkSeat, Marks};
 use golf_model::Graph;
 
@@ -17,7 +17,7 @@ use golf_model::Graph;
 #[derive(Drop)]
 pub(crate) struct Scanner {
     pub(crate) seat: MarkSeat,
-    pub(crate) won: Stack,
+    pub(crate) won: Worklist,
 }
 
 /// Claims a place. It glances first, since a glance costs less than a claim if others have marked
@@ -54,7 +54,7 @@ pub(crate) fn claim_all(marks: &Marks, scanner: &mut Scanner, places: &[u32])
 fn awaken(marks: &Marks, scanner: &mut Scanner, nodes: u32, sleepers: &[u32])
     requires fits { IsScannerOf marks.now scanner.old }
     requires places { Every (λ s. nodes + s < place_count (graph_in marks.now)) sleepers.now }
-    requires small { place_count (graph_in marks.now) < 4294967296 }
+    requires small { place_count (graph_in marks.now) < 2 ^ 32 }
     requires justified { Every (λ s. IsJustified (graph_in marks.now) (known scanner.old.seat) (nodes + s)) sleepers.now }
     ensures wins { Wins marks.now scanner.old scanner.new }
     ensures there { (s : ℕ) → In s sleepers.now → In (nodes + s) (known scanner.new.seat) }

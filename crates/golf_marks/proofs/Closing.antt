@@ -1,7 +1,8 @@
 -- The flags at the end say what was claimed: the words are read, and the seats gathered.
 -- For: `close` and `gather`, src/marks.rt.
 -- By: arithmetic and cases of the seat; no induction.
-use Rattle.std.proofs.Common.{◌≡◌, ℕ, ◌+◌, ◌<◌, ◌≤◌, ◌⊎◌, inl, inr, List, [], ◌∷◌, ◌++◌, length, get_or, false, sym, ap, ◌∙◌, subst, arith}
+use Rattle.std.proofs.Common.{◌≡◌, ℕ, ◌+◌, ◌<◌, ◌≤◌, ◌⊎◌, inl, inr, List, [], ◌∷◌, ◌++◌, length, get_or, false, sym, ap}
+use Rattle.std.proofs.Common.{◌∙◌, subst, arith}
 use Rattle.std.specs.Prelude.{◌==◌, ◌↔◌}
 use Rattle.std.specs.List.Sorted.{IsStrictlyIncreasing}
 use Rattle.std.proofs.lemmas.Bool.{eqb-true, eq-eqb}
@@ -28,7 +29,9 @@ pub record HasBits (words : List ℕ) (nodes sleepers : ℕ) (m : Marked) : Type
   pub members : (n : ℕ) → In n m.order ↔ IsSet m.flags n
 
 -- flags that say which bits are set, if the bits count
-pub HasMarked-words : (words : List ℕ) (count : ℕ → ℕ) (nodes sleepers : ℕ) (m : Marked) → ((p : ℕ) → bit_at words p ≡ count p) → ((p : ℕ) → count p ≤ 1) → HasBits words nodes sleepers m → HasMarked nodes sleepers (λ p. 0 < count p) m
+pub HasMarked-words : (words : List ℕ) (count : ℕ → ℕ) (nodes sleepers : ℕ) (m : Marked)
+    → ((p : ℕ) → bit_at words p ≡ count p) → ((p : ℕ) → count p ≤ 1) → HasBits words nodes sleepers m
+    → HasMarked nodes sleepers (λ p. 0 < count p) m
 HasMarked-words words count nodes sleepers m is once has = record {
   flag_count = has.flag_count;
   awake_count = has.awake_count;
@@ -42,8 +45,10 @@ HasMarked-words words count nodes sleepers m is once has = record {
         has.flags p h.0 ∙ eq-eqb (bit_at words (0 + p)) 1 one,
   );
   awake = λ s low. (
-    λ h. let one : bit_at words (nodes + s) ≡ 1 = eqb-true (bit_at words (nodes + s)) 1 (sym (has.awake s low) ∙ h) in omega (arith, one, is (nodes + s)),
-    λ h. let one : bit_at words (nodes + s) ≡ 1 = omega (arith, is (nodes + s), once (nodes + s), h) in has.awake s low ∙ eq-eqb (bit_at words (nodes + s)) 1 one,
+    λ h. let one : bit_at words (nodes + s) ≡ 1 =
+        eqb-true (bit_at words (nodes + s)) 1 (sym (has.awake s low) ∙ h) in omega (arith, one, is (nodes + s)),
+    λ h. let one : bit_at words (nodes + s) ≡ 1 = omega (arith, is (nodes + s), once (nodes + s), h) in has.awake s low
+        ∙ eq-eqb (bit_at words (nodes + s)) 1 one,
   );
   rising = has.rising;
   order = has.members;
@@ -61,7 +66,8 @@ pub record IsGathered (m : Marks) (all rest : List MarkSeat) (s : MarkSeat) : Ty
   pub known : (p : ℕ) (t : MarkSeat) → In t all → In p (known t) → In t rest ⊎ In p (known s)
 
 -- the last one is taken out first
-pub gathers_first : (m : Marks) (all rest : List MarkSeat) (s : MarkSeat) → Every (IsSeatOf m) all → all ≡ rest ++ s ∷ [] → IsGathered m all rest s
+pub gathers_first : (m : Marks) (all rest : List MarkSeat) (s : MarkSeat) → Every (IsSeatOf m) all → all ≡ rest ++ s
+    ∷ [] → IsGathered m all rest s
 gathers_first m all rest s seats is =
     let each = subst (λ (l : List MarkSeat). Every (IsSeatOf m) l) is seats in
     record {
@@ -83,19 +89,28 @@ pub record IsJoint (m : Marks) (s t u : MarkSeat) : Type 0 where
   pub known : known u ≡ known s ++ known t
 
 -- one more is taken in
-pub gathers_next : (m : Marks) (all old rest : List MarkSeat) (s t u : MarkSeat) → IsGathered m all old s → old ≡ rest ++ t ∷ [] → IsJoint m s t u → IsGathered m all rest u
+pub gathers_next : (m : Marks) (all old rest : List MarkSeat) (s t u : MarkSeat) → IsGathered m all old s → old ≡ rest
+    ++ t ∷ [] → IsJoint m s t u → IsGathered m all rest u
 gathers_next m all old rest s t u g is joint =
     let each = subst (λ (l : List MarkSeat). Every (IsSeatOf m) l) is g.seats in
     record {
       seats = Every-left (IsSeatOf m) rest (t ∷ []) each;
       seat = joint.seat;
       parts = omega (arith, g.parts, joint.parts, ap part_count is, sum_by_push (λ (x : MarkSeat). parts x) rest t);
-      claimed = λ p. omega (arith, g.claimed p, ap (times p) joint.claimed, times-append p (claimed s) (claimed t), ap (claim_count p) is, sum_by_push (λ (x : MarkSeat). times p (claimed x)) rest t);
+      claimed = λ p. omega (
+        arith,
+        g.claimed p,
+        ap (times p) joint.claimed,
+        times-append p (claimed s) (claimed t),
+        ap (claim_count p) is,
+        sum_by_push (λ (x : MarkSeat). times p (claimed x)) rest t,
+      );
       known = λ p x h k. elim (g.known p x h k) [
         | inl i ↦ elim (In-cases x rest (t ∷ []) (subst (λ (l : List MarkSeat). In x l) is i)) [
           | inl j ↦ inl j
           | inr j ↦ elim j [
-            | inl e ↦ inr (subst (λ (l : List ℕ). In p l) (sym joint.known) (In-right p (known s) (known t) (subst (λ (y : MarkSeat). In p (known y)) e k)))
+            | inl e ↦ inr (subst (λ (l : List ℕ). In p l) (sym joint.known)
+                (In-right p (known s) (known t) (subst (λ (y : MarkSeat). In p (known y)) e k)))
             | inr none ↦ absurd none
           ]
         ]

@@ -1,11 +1,13 @@
 -- Flags, and the numbers of those that are set.
 -- For: `numbers_of`, src/close.rt; `IsSet`, golf_marks/specs/Flags.antt.
 -- By: cases of the place of the flag; no induction.
-use Rattle.std.proofs.Common.{◌≡◌, ℕ, ◌+◌, ◌<◌, ◌⊎◌, inl, inr, List, [], ◌∷◌, ◌++◌, length, get_or, set, Bool, true, false, cond, not, sym, ap, ◌∙◌, subst, arith}
+use Rattle.std.proofs.Common.{◌≡◌, ℕ, ◌+◌, ◌<◌, ◌⊎◌, inl, inr, List, [], ◌∷◌, ◌++◌, length, get_or, set, Bool, true}
+use Rattle.std.proofs.Common.{false, cond, not, sym, ap, ◌∙◌, subst, arith}
 use Rattle.std.specs.Prelude.{count_by, ◌↔◌}
 use Rattle.std.specs.List.Sorted.{IsStrictlyIncreasing}
 use Rattle.std.proofs.lemmas.Bool.{cases_eq, cases_lt}
-use Rattle.std.proofs.lemmas.List.{get_or-set_same, get_or-set_other, get_or_past, get_or_push, get_or_append_left, length_push}
+use Rattle.std.proofs.lemmas.List.{get_or-set_same, get_or-set_other, get_or_past, get_or_push, get_or_append_left}
+use Rattle.std.proofs.lemmas.List.{length_push}
 use Rattle.std.proofs.lemmas.List.Sums.{sum_by-set}
 use Rattle.golf_theory.specs.Membership.{In}
 use Rattle.golf_theory.proofs.Lists.{In-left, In-cases, In-push, In-get_or}
@@ -15,7 +17,11 @@ pub IsSet-below : (flags : List Bool) (n : ℕ) → IsSet flags n → n < length
 IsSet-below flags n h = elim (cases_lt n (length flags)) [ inl l ↦ l | inr past ↦ cc (get_or_past flags n false past) ]
 
 pub IsSet-set : (flags : List Bool) (p q : ℕ) → p < length flags → IsSet (set flags p true) q → (q ≡ p) ⊎ IsSet flags q
-IsSet-set flags p q low h = elim (cases_eq q p) [ inl e ↦ inl e | inr n ↦ inr (sym (get_or-set_other flags p q true false n) ∙ h) ]
+IsSet-set flags p q low h = elim (cases_eq q p) [
+  | inl e ↦ inl e
+  | inr n ↦ inr
+      (sym (get_or-set_other flags p q true false n) ∙ h)
+]
 
 pub set-IsSet : (flags : List Bool) (p q : ℕ) → p < length flags → (q ≡ p) ⊎ IsSet flags q → IsSet (set flags p true) q
 set-IsSet flags p q low h = elim (cases_eq q p) [
@@ -24,16 +30,19 @@ set-IsSet flags p q low h = elim (cases_eq q p) [
 ]
 
 -- a flag that is not set is one of those that are not set
-pub unset_one : (flags : List Bool) (p : ℕ) → p < length flags → get_or flags p false ≡ false → count_by not (set flags p true) + 1 ≡ count_by not flags
+pub unset_one : (flags : List Bool) (p : ℕ) → p < length flags → get_or flags p false ≡ false
+    → count_by not (set flags p true) + 1 ≡ count_by not flags
 unset_one flags p low off =
     let e = sum_by-set (λ (x : Bool). cond (not x) 1 0) flags p true false low in
     let f = ap (λ (b : Bool). let n : ℕ = cond (not b) 1 0 in n) off in
     omega (arith, e, f)
 
 -- a larger number at the end of rising ones
-pub IsStrictlyIncreasing-push : (xs : List ℕ) (n : ℕ) → IsStrictlyIncreasing xs → ((m : ℕ) → In m xs → m < n) → IsStrictlyIncreasing (xs ++ n ∷ [])
+pub IsStrictlyIncreasing-push : (xs : List ℕ) (n : ℕ) → IsStrictlyIncreasing xs → ((m : ℕ) → In m xs → m < n)
+    → IsStrictlyIncreasing (xs ++ n ∷ [])
 IsStrictlyIncreasing-push xs n rising below k low =
-    let left : get_or (xs ++ n ∷ []) k 0 ≡ get_or xs k 0 = get_or_append_left xs (n ∷ []) 0 k (omega (arith, length_push xs n)) in
+    let left : get_or (xs ++ n ∷ []) k 0 ≡ get_or xs k 0 =
+    get_or_append_left xs (n ∷ []) 0 k (omega (arith, length_push xs n)) in
     elim (cases_lt (k + 1) (length xs)) [
       | inl l ↦ omega (arith, left, get_or_append_left xs (n ∷ []) 0 (k + 1) l, rising k l)
       | inr end ↦
@@ -45,13 +54,18 @@ IsStrictlyIncreasing-push xs n rising below k low =
 abbrev pub AreNumbers : List Bool → ℕ → List ℕ → Type 0
 AreNumbers flags i ns = IsStrictlyIncreasing ns × ((n : ℕ) → In n ns ↔ ((n < i) × IsSet flags n))
 
-pub AreNumbers-yes : (flags : List Bool) (i : ℕ) (ns : List ℕ) → IsSet flags i → AreNumbers flags i ns → AreNumbers flags (i + 1) (ns ++ i ∷ [])
+pub AreNumbers-yes : (flags : List Bool) (i : ℕ) (ns : List ℕ) → IsSet flags i → AreNumbers flags i ns
+    → AreNumbers flags (i + 1) (ns ++ i ∷ [])
 AreNumbers-yes flags i ns on a = (
   IsStrictlyIncreasing-push ns i a.0 (λ m h. ((a.1 m).0 h).0),
   λ n. (
     λ h. elim (In-cases n ns (i ∷ []) h) [
       | inl j ↦ (omega (arith, ((a.1 n).0 j).0), ((a.1 n).0 j).1)
-      | inr j ↦ elim j [ inl e ↦ (omega (arith, e), subst (λ (x : ℕ). IsSet flags x) (sym e) on) | inr none ↦ absurd none ]
+      | inr j ↦ elim j [
+        | inl e ↦ (omega (arith, e), subst (λ (x : ℕ). IsSet flags x) (sym e) on)
+        | inr none ↦
+            absurd none
+      ]
     ],
     λ h. elim (cases_eq n i) [
       | inl e ↦ subst (λ (x : ℕ). In x (ns ++ i ∷ [])) (sym e) (In-push i ns)
@@ -60,7 +74,8 @@ AreNumbers-yes flags i ns on a = (
   ),
 )
 
-pub AreNumbers-no : (flags : List Bool) (i : ℕ) (ns : List ℕ) → get_or flags i false ≡ false → AreNumbers flags i ns → AreNumbers flags (i + 1) ns
+pub AreNumbers-no : (flags : List Bool) (i : ℕ) (ns : List ℕ) → get_or flags i false ≡ false → AreNumbers flags i ns
+    → AreNumbers flags (i + 1) ns
 AreNumbers-no flags i ns off a = (
   a.0,
   λ n. (

@@ -1,5 +1,6 @@
 -- Places as bits of words.
-use Rattle.std.specs.Prelude.{ℕ, zero, suc, ◌+◌, ◌*◌, ◌/◌, ◌%◌, ◌^◌, ◌==◌, List, [], ◌∷◌, bit_and, slice_index, if◌then◌else◌}
+use Rattle.std.specs.Prelude.{ℕ, zero, suc, ◌+◌, ◌*◌, ◌/◌, ◌%◌, ◌^◌, ◌==◌, List, [], ◌∷◌, bit_and, slice_index}
+use Rattle.std.specs.Prelude.{if◌then◌else◌}
 
 -- a word has 64 places; the place p is bit p % 64 of word p / 64
 abbrev pub word_of : ℕ → ℕ
@@ -20,7 +21,8 @@ bit_at words p = bit_in p (slice_index words (word_of p))
 -- the places among the first k of a word whose bits are set in it
 abbrev pub marked_below : ℕ → ℕ → ℕ → List ℕ
 marked_below word n zero = []
-marked_below word n (suc k) = (if bit_in (64 * word + k) n == 1 then (64 * word + k) ∷ marked_below word n k else marked_below word n k)
+marked_below word n (suc k) = (if bit_in (64 * word + k) n == 1 then (64 * word + k)
+    ∷ marked_below word n k else marked_below word n k)
 
 -- all of them
 abbrev pub marked_in : ℕ → ℕ → List ℕ

@@ -8,7 +8,8 @@ use Rattle.golf_model.specs.declared.graph.Marked.{Marked}
 abbrev pub IsSet : List Bool → ℕ → Type 0
 IsSet flags n = slice_index_or flags n false ≡ true
 
--- the marking has the places of this property: a flag for each node and each sleeper, and the marked nodes, each once, in rising number
+-- the marking has the places of this property: a flag for each node and each sleeper, and the marked nodes, each once,
+-- in rising number
 pub record HasMarked (nodes sleepers : ℕ) (P : ℕ → Type 0) (m : Marked) : Type 0 where
   pub flag_count : length m.flags ≡ nodes
   pub awake_count : length m.awake ≡ sleepers

@@ -18,7 +18,8 @@ view_of g parts claimed known = record { graph = g; parts = parts; claimed = cla
 abbrev pub graph_of : Plan → GraphParts
 graph_of plan = plan.graph.value
 
--- a view without a part has claimed nothing and knows nothing; another one names the graph of the words; what it claimed it knows, and what it knows is marked
+-- a view without a part has claimed nothing and knows nothing; another one names the graph of the words; what it
+-- claimed it knows, and what it knows is marked
 pub record Fits (g : GraphParts) (words : List ℕ) (v : View) : Type 0 where
   pub idle : v.parts ≡ 0 → v.claimed ≡ []
   pub ignorant : v.parts ≡ 0 → v.known ≡ []
@@ -26,7 +27,8 @@ pub record Fits (g : GraphParts) (words : List ℕ) (v : View) : Type 0 where
   pub own : (p : ℕ) → In p v.claimed → In p v.known
   pub known : (p : ℕ) → In p v.known → bit_at words p ≡ 1
 
--- a place is claimed as often as its bit says; the parts add up to the seats; each view fits; and what is marked is a place of the least closed set
+-- a place is claimed as often as its bit says; the parts add up to the seats; each view fits; and what is marked is a
+-- place of the least closed set
 pub record Holds (plan : Plan) (s : State (Unit {0}) View) : Type 0 where
   pub size : length s.words ≡ word_count (graph_of plan)
   pub claims : (p : ℕ) → sum_by (λ v. times p v.claimed) s.views ≡ bit_at s.words p
@@ -42,7 +44,8 @@ first_view plan = view_of (graph_of plan) plan.seats [] []
 -- what a claim that found this bit tells
 pub record Claims (place : ℕ) (v : View) (bit : ℕ) (w : View) : Type 0 where
   pub small : bit ≤ 1
-  pub view : w ≡ view_of v.graph v.parts (if bit == 0 then v.claimed ++ place ∷ [] else v.claimed) (v.known ++ place ∷ [])
+  pub view : w ≡ view_of v.graph v.parts (if bit == 0 then v.claimed ++ place ∷ [] else v.claimed)
+      (v.known ++ place ∷ [])
   pub once : bit ≡ 0 → times place v.claimed ≡ 0
   pub bounded : length w.claimed ≤ place_count v.graph
 
@@ -56,10 +59,12 @@ pub record Looks (place : ℕ) (v : View) (bit : ℕ) (w : View) : Type 0 where
 
 -- the place of a step is the one of its word and of its first operand
 abbrev pub ClaimTells : Step (Unit {0}) → Me (Unit {0}) View → ℕ → Me (Unit {0}) View → Type 0
-ClaimTells step me n now = ((p : ℕ) → word_of p ≡ step.word → mask_of p ≡ step.first → Claims p me.0 (bit_in p n) now.0) × (now.1 ≡ me.1)
+ClaimTells step me n now = ((p : ℕ) → word_of p ≡ step.word → mask_of p ≡ step.first → Claims p me.0 (bit_in p n) now.0)
+    × (now.1 ≡ me.1)
 
 abbrev pub LookTells : Step (Unit {0}) → Me (Unit {0}) View → ℕ → Me (Unit {0}) View → Type 0
-LookTells step me n now = ((p : ℕ) → word_of p ≡ step.word → mask_of p ≡ step.first → Looks p me.0 (bit_in p n) now.0) × (now.1 ≡ me.1)
+LookTells step me n now = ((p : ℕ) → word_of p ≡ step.word → mask_of p ≡ step.first → Looks p me.0 (bit_in p n) now.0)
+    × (now.1 ≡ me.1)
 
 -- a glance tells all places of its word that are marked
 pub record Glances (word : ℕ) (v : View) (n : ℕ) (w : View) : Type 0 where

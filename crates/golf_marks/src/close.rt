@@ -1,6 +1,6 @@
 //! From the words to flags and numbers.
 
-ghost use Rattle.std.specs.Prelude.{◌≡◌, ◌<◌, ◌≤◌, ◌+◌, ◌*◌, ◌==◌, ◌↔◌, ℕ, [], length, slice_index_or, false};
+ghost use Rattle.std.specs.Prelude.{◌^◌, ◌≡◌, ◌<◌, ◌≤◌, ◌+◌, ◌*◌, ◌==◌, ◌↔◌, ℕ, [], length, slice_index_or, false};
 ghost use Rattle.std.specs.List.Sorted.{IsStrictlyIncreasing};
 ghost use Rattle.std.specs.Mem.Slots.{slots_items, slots_len, IsFull};
 ghost use Rattle.golf_theory.specs.Membership.{In};
@@ -15,7 +15,7 @@ use std::alloc::Global;
 // Writes which places from `first` on are marked.
 pub(crate) fn fill(closed: &Closed<(), Global>, first: usize, mut flags: List<bool>) -> List<bool>
     requires within { first + length flags ≤ 64 * slots_len closed.now.words }
-    requires small { first + length flags < 4294967296 }
+    requires small { first + length flags < 2 ^ 32 }
     requires full { IsFull closed.now.words }
     ensures length { length result ≡ length flags }
     ensures flags { (k : ℕ) → k < length flags → slice_index_or result k false ≡ (bit_at (slots_items closed.now.words) (first + k) == 1) }
@@ -31,7 +31,7 @@ pub(crate) fn fill(closed: &Closed<(), Global>, first: usize, mut flags: List<bo
 pub fn numbers_of(flags: &[bool], room: Room<u32>) -> List<u32>
     requires empty { room.items ≡ [] }
     requires room { length flags.now ≤ room.spare }
-    requires small { length flags.now < 4294967296 }
+    requires small { length flags.now < 2 ^ 32 }
     ensures rising { IsStrictlyIncreasing result }
     ensures members { (n : ℕ) → In n result ↔ IsSet flags.now n }
 {

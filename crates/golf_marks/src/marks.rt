@@ -1,6 +1,7 @@
 //! The mark words and their seats.
 
-ghost use Rattle.std.specs.Prelude.{◌≡◌, ◌<◌, ◌≤◌, ◌+◌, ◌++◌, ◌∷◌, ℕ, [], length, IfOk, IsTrue, if◌then◌else◌, false};
+ghost use Rattle.std.specs.Prelude.{◌^◌, ◌≡◌, ◌<◌, ◌≤◌, ◌+◌, ◌++◌, ◌∷◌, ℕ, [], length, IfOk, IsTrue, if◌then◌else◌};
+ghost use Rattle.std.specs.Prelude.{false};
 ghost use Rattle.golf_model.specs.Graph.{node_count, sleeper_count};
 ghost use Rattle.golf_marks.specs.Places.{place_count, word_count};
 ghost use Rattle.golf_marks.specs.Rule.{graph_of, Claims, Looks};
@@ -29,7 +30,7 @@ pub struct Marks {
     ghost awake_for_each: { length awake ≡ sleeper_count (graph_of table.shared.key) },
     ghost empty: { order.items ≡ [] },
     ghost room: { node_count (graph_of table.shared.key) ≤ order.spare },
-    ghost small: { place_count (graph_of table.shared.key) < 4294967296 },
+    ghost small: { place_count (graph_of table.shared.key) < 2 ^ 32 },
 }
 
 /// What one thread claims with and looks with. It has no bytes.

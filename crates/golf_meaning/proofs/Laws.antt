@@ -1,7 +1,8 @@
 -- Code with the same parameters, slots and body agrees with the source as well.
 -- For: `Agrees` (golf_meaning/specs/Judged.antt) and `check_body`, `check_all` (src/judging.rt)
 -- By: cases of the function that stands at a number; no induction
-use Rattle.std.proofs.Common.{◌≡◌, ◌↔◌, ℕ, zero, suc, ◌+◌, ◌-◌, ◌<◌, pos, Bool, List, [], ◌∷◌, ◌++◌, length, drop, replicate, map, refl, sym, ap, subst, ◌∙◌, slice_get, arith}
+use Rattle.std.proofs.Common.{◌≡◌, ◌↔◌, ℕ, zero, suc, ◌+◌, ◌-◌, ◌<◌, pos, Bool, List, [], ◌∷◌, ◌++◌, length, drop}
+use Rattle.std.proofs.Common.{replicate, map, refl, sym, ap, subst, ◌∙◌, slice_get, arith}
 use Rattle.std.specs.Prelude.{Option, Some, None}
 use Rattle.golf_syntax_trees.specs.declared.declarations.Decl.{Decl}
 use Rattle.golf_syntax_trees.specs.declared.declarations.Decl.TheVariants as d
@@ -17,7 +18,8 @@ use Rattle.golf_check_types.specs.Files.{facts_in}
 use Rattle.golf_check.specs.Heads.{scope_of}
 use Rattle.golf_code_of.specs.declared.tables.Tables.{Tables}
 use Rattle.golf_code_of.specs.Files.{CodeOf, function, giving, main_line, main_number, made_function}
-use Rattle.golf_code_facts.specs.Files.{past_const, past_signature, initial_by, body_by, entry_by, decls_by, file_by, tables_by}
+use Rattle.golf_code_facts.specs.Files.{past_const, past_signature, initial_by, body_by, entry_by, decls_by, file_by}
+use Rattle.golf_code_facts.specs.Files.{tables_by}
 use Rattle.golf_code_files.specs.Comparing.{HasSameBody, BeginAs}
 use Rattle.golf_meaning_flat.specs.Worlds.{Answer, Told}
 use Rattle.golf_meaning_flat.specs.Flat.{exec}
@@ -41,7 +43,8 @@ same-means gives f g s arguments answers =
     ap (λ k. means gives k g.body arguments answers) (sym s.slots)
     ∙ ap (λ ls. means gives f.slots ls arguments answers) (sym s.body)
 
-same-agrees : (file : File) (k : ℕ) (x y : Option Function) → AreSame x y → FunctionAgrees file k y → FunctionAgrees file k x
+same-agrees : (file : File) (k : ℕ) (x y : Option Function) → AreSame x y → FunctionAgrees file k y
+    → FunctionAgrees file k x
 same-agrees file k (Some f) (Some g) s h =
     λ arguments answers enough ruled.
     subst (λ (t : ℕ → Told). Agree (MeaningOf file k arguments answers) t)
@@ -55,7 +58,8 @@ file-agrees file k (lt, le) =
     subst (λ o. FunctionAgrees file k o) (sym r.1) r.2
 
 pub body-agrees : (file : File) (code : Code) (k : ℕ) → IsCodeOf file code k → IsNumbered file k → Agrees file code k
-body-agrees file code k s h = same-agrees file k (slice_get code.functions k) (slice_get (CodeOf file).functions k) s (file-agrees file k h)
+body-agrees file code k s h = same-agrees file k (slice_get code.functions k) (slice_get (CodeOf file).functions k) s
+    (file-agrees file k h)
 
 own : (file : File) (k : ℕ) (o : Option Function) → FunctionAgrees file k o → AreSame o o
 own file k (Some f) h = record { params = refl; slots = refl; body = refl }
@@ -70,17 +74,24 @@ same-as-itself file code k e h =
 
 module _ (t : Tables) (gives : List Bool) where
   -- there are as many functions as are declared
-  counted : (ss : List Signature) (g n : ℕ) (xs : List Decl) (fs : List Fact) → length (decls_by t gives ss g n xs fs).functions.own ≡ function_count xs
+  counted : (ss : List Signature) (g n : ℕ) (xs : List Decl) (fs : List Fact)
+      → length (decls_by t gives ss g n xs fs).functions.own ≡ function_count xs
   counted ss g n [] fs = refl
   counted ss g n (d.Const l m c ∷ xs) fs = counted ss g n xs (past_const c fs)
   counted ss g n (d.Var v ∷ xs) fs = counted ss (g + 1) n xs (initial_by t g v.line v.content fs).left
   counted ss g n (d.Struct l m fields ∷ xs) fs = counted ss g n xs fs
-  counted ss g n (d.Func f ∷ xs) fs = let x = body_by t n f fs in ap suc (counted (past_signature ss) g (n + length x.laid.made) xs x.left)
+  counted ss g n (d.Func f ∷ xs) fs = let x =
+      body_by t n f fs in ap suc (counted (past_signature ss) g (n + length x.laid.made) xs x.left)
 
-by-number : (fs gs more : List Function) → BeginAs fs gs ↔ ((k : ℕ) → k < length gs → AreSame (slice_get fs k) (slice_get (gs ++ more) k))
+by-number : (fs gs more : List Function) → BeginAs fs gs
+    ↔ ((k : ℕ) → k < length gs → AreSame (slice_get fs k) (slice_get (gs ++ more) k))
 by-number fs [] more = (λ t k lt. absurd (omega (arith, lt)), λ h. tt)
 by-number [] (g ∷ gs) more = (λ t. absurd t, λ h. h 0 (omega arith))
-by-number (f ∷ fs) (g ∷ gs) more = let both = by-number fs gs more in (λ t. forth t.0 (both.0 t.1), λ h. (h 0 (omega arith), both.1 (λ k lt. h (suc k) (omega (arith, lt)))))
+by-number (f ∷ fs) (g ∷ gs) more = let both =
+    by-number fs gs more in (
+      λ t. forth t.0 (both.0 t.1),
+      λ h. (h 0 (omega arith), both.1 (λ k lt. h (suc k) (omega (arith, lt)))),
+    )
   where
     forth : HasSameBody f g → ((k : ℕ) → k < length gs → AreSame (slice_get fs k) (slice_get (gs ++ more) k))
         → (k : ℕ) → k < length (g ∷ gs) → AreSame (slice_get (f ∷ fs) k) (slice_get (g ∷ (gs ++ more)) k)
@@ -92,35 +103,50 @@ past-first [] k = refl
 past-first (f ∷ fs) k = refl
 
 -- the functions and methods of a file stand after function 0
-all-same : (file : File) (code : Code) (e : Function) (gs more : List Function) → e ∷ (gs ++ more) ≡ (CodeOf file).functions → length gs ≡ function_count file.declarations
+all-same : (file : File) (code : Code) (e : Function) (gs more : List Function) → e
+    ∷ (gs ++ more) ≡ (CodeOf file).functions → length gs ≡ function_count file.declarations
     → BeginAs (drop 1 code.functions) gs ↔ AllAreCodeOf file code
-all-same file code e gs more is count = (λ t k n. subst (λ fs. AreSame (slice_get code.functions k) (slice_get fs k)) is (forth t k n), λ h. both.1 (back h))
+all-same file code e gs more is count = (
+  λ t k n. subst (λ fs. AreSame (slice_get code.functions k) (slice_get fs k)) is
+      (forth t k n),
+  λ h. both.1 (back h),
+)
   where
-    both : BeginAs (drop 1 code.functions) gs ↔ ((k : ℕ) → k < length gs → AreSame (slice_get (drop 1 code.functions) k) (slice_get (gs ++ more) k))
+    both : BeginAs (drop 1 code.functions) gs
+        ↔ ((k : ℕ) → k < length gs → AreSame (slice_get (drop 1 code.functions) k) (slice_get (gs ++ more) k))
     both = by-number (drop 1 code.functions) gs more
 
-    forth : BeginAs (drop 1 code.functions) gs → (k : ℕ) → IsNumbered file k → AreSame (slice_get code.functions k) (slice_get (e ∷ (gs ++ more)) k)
+    forth : BeginAs (drop 1 code.functions) gs → (k : ℕ) → IsNumbered file k
+        → AreSame (slice_get code.functions k) (slice_get (e ∷ (gs ++ more)) k)
     forth t zero n = absurd (omega (arith, n.0))
-    forth t (suc k) n = subst (λ o. AreSame o (slice_get (gs ++ more) k)) (past-first code.functions k) (both.0 t k (omega (arith, n.1, count)))
+    forth t (suc k) n = subst (λ o. AreSame o (slice_get (gs ++ more) k)) (past-first code.functions k)
+        (both.0 t k (omega (arith, n.1, count)))
 
-    back : AllAreCodeOf file code → (k : ℕ) → k < length gs → AreSame (slice_get (drop 1 code.functions) k) (slice_get (gs ++ more) k)
+    back : AllAreCodeOf file code → (k : ℕ) → k < length gs
+        → AreSame (slice_get (drop 1 code.functions) k) (slice_get (gs ++ more) k)
     back h k lt =
         subst (λ o. AreSame o (slice_get (gs ++ more) k)) (sym (past-first code.functions k))
-        (subst (λ fs. AreSame (slice_get code.functions (suc k)) (slice_get fs (suc k))) (sym is) (h (suc k) (omega arith, omega (arith, lt, count))))
+        (subst (λ fs. AreSame (slice_get code.functions (suc k)) (slice_get fs (suc k))) (sym is)
+        (h (suc k) (omega arith, omega (arith, lt, count))))
 
 -- the functions that the facts of a file make are its functions and methods
-pub all-by-facts : (file : File) (code : Code) (s : Scope) (xs : List Decl) (fs : List Fact) (gs : List Function) → s ≡ scope_of file → xs ≡ file.declarations → fs ≡ facts_in file → gs ≡ drop 1 code.functions
+pub all-by-facts : (file : File) (code : Code) (s : Scope) (xs : List Decl) (fs : List Fact) (gs : List Function)
+    → s ≡ scope_of file → xs ≡ file.declarations → fs ≡ facts_in file → gs ≡ drop 1 code.functions
     → BeginAs gs (file_by (tables_by xs fs) s.file xs fs).functions.own ↔ AllAreCodeOf file code
 all-by-facts file code s xs fs gs is at told past =
     let by = file_by (tables_by xs fs) s.file xs fs in
     subst (λ (hs : List Function). BeginAs hs by.functions.own ↔ AllAreCodeOf file code) (sym past)
-    (all-same file code (function (giving s.file) 0 0 (main_line xs) (entry_by (main_number s.file) (main_line xs) by.initials)) by.functions.own (map (made_function (giving s.file)) by.functions.made)
+    (all-same file code (function (giving s.file) 0 0 (main_line xs)
+    (entry_by (main_number s.file) (main_line xs) by.initials)) by.functions.own
+    (map (made_function (giving s.file)) by.functions.made)
     (ap (λ (c : Code). c.functions) (code_is file s xs fs is at told))
-    (counted (tables_by xs fs) (giving s.file) s.file.functions 0 (length s.file.functions + 1) xs fs ∙ ap function_count at))
+    (counted (tables_by xs fs) (giving s.file) s.file.functions 0 (length s.file.functions + 1) xs fs
+    ∙ ap function_count at))
 
 pub all-agree : (file : File) (code : Code) → AllAreCodeOf file code → AllAgree file code
 all-agree file code h = λ k n. body-agrees file code k (h k n) n
 
 -- the code of a file has each of its functions
 pub own-code : (file : File) (code : Code) → code ≡ CodeOf file → AllAreCodeOf file code
-own-code file code is = λ k n. subst (λ (c : Code). AreSame (slice_get code.functions k) (slice_get c.functions k)) is (same-as-itself file code k is n)
+own-code file code is = λ k n. subst (λ (c : Code). AreSame (slice_get code.functions k) (slice_get c.functions k)) is
+    (same-as-itself file code k is n)

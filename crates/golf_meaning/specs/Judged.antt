@@ -17,7 +17,8 @@ AreSame (Some f) (Some g) = HasSameBody f g
 AreSame (Some f) None = ⊥
 AreSame None o = ⊥
 
--- the code has a function of this number, and its parameters, slots and body are those that it has in the code of the file
+-- the code has a function of this number, and its parameters, slots and body are those that it has in the code of the
+-- file
 abbrev pub IsCodeOf : File → Code → ℕ → Type 0
 IsCodeOf file code k = AreSame (slice_get code.functions k) (slice_get (CodeOf file).functions k)
 
@@ -25,11 +26,13 @@ IsCodeOf file code k = AreSame (slice_get code.functions k) (slice_get (CodeOf f
 abbrev pub IsNumbered : File → ℕ → Type 0
 IsNumbered file k = (0 < k) × (k ≤ function_count file.declarations)
 
--- With as many arguments as it has parameters, and whatever the answers, the meaning of the source of this number and that of the function agree, unless the source lacks a rule: for each bound of one there is a bound of the other.
+-- With as many arguments as it has parameters, and whatever the answers, the meaning of the source of this number and
+-- that of the function agree, unless the source lacks a rule: for each bound of one there is a bound of the other.
 abbrev pub FunctionAgrees : File → ℕ → Option Function → Type 0
 FunctionAgrees file k None = ⊥
 FunctionAgrees file k (Some fn) =
-    (arguments : List Value) (answers : List Answer) → length arguments ≡ fn.params → HasRules (MeaningOf file k arguments answers)
+    (arguments : List Value) (answers : List Answer) → length arguments ≡ fn.params
+    → HasRules (MeaningOf file k arguments answers)
     → Agree (MeaningOf file k arguments answers) (CodeMeaning (giving_in file) fn arguments answers)
 
 -- the code has a function of this number, which agrees with its source

@@ -3,7 +3,7 @@
 ghost use Rattle.std.specs.Prelude.{◌≡◌, ◌↔◌, drop, slice_get, IfOk, IsTrue};
 ghost use Rattle.golf_check_types.specs.Files.{facts_in};
 ghost use Rattle.golf_check.specs.Heads.{scope_of};
-ghost use Rattle.golf_meaning_functions.specs.Files.{function_count as count_of};
+ghost use Rattle.golf_meaning_functions.specs.Files.{function_count as function_count_of};
 ghost use Rattle.golf_meaning.specs.Judged.{AreSame, IsCodeOf, IsNumbered, Agrees, AllAreCodeOf, AllAgree};
 
 use golf_base::Memory;
@@ -52,7 +52,7 @@ pub fn check_body(
 
 /// How many functions and methods these declare.
 pub fn function_count(declarations: &[Decl]) -> usize
-    ensures { result ≡ count_of declarations.now }
+    ensures { result ≡ function_count_of declarations.now }
 {
     let mut count = 0;
     for declaration in declarations {

@@ -12,13 +12,22 @@ use Rattle.golf_meaning_turns.proofs.Answering.{answers-are-typed}
 use Rattle.golf_meaning_books.specs.Books.{Call, HasLife, IsAnswered}
 use Rattle.golf_meaning_books.proofs.Others.{one-some}
 
-pub is-answered : (code : Code) (types : Typing) → HasShapes code types → (known : List (ℕ × ValueType)) (k : Call) → HasLife code (record { typing = types; known = known }) k → IsAnswered (record { typing = types; known = known }) k
+pub is-answered : (code : Code) (types : Typing) → HasShapes code types → (known : List (ℕ × ValueType)) (k : Call)
+    → HasLife code (record { typing = types; known = known }) k
+    → IsAnswered (record { typing = types; known = known }) k
 is-answered code types shapes known k (fn, is, (given, (now, life, stands))) =
     let sig = given.0 in
     let x = shapes.functions k.function sig given.1 in
     let own = x.0 in
     let same = one-some x.1 fn (sym x.3 ∙ is) in
-    let fits : FunctionFits types.of fn (with_shapes sig own) = subst (λ (f : Function). FunctionFits types.of f (with_shapes sig own)) same x.4 in
-    let there : Life fn (Some (record { types = types.of; known = known; shapes = own })) k.arguments k.shown k.got now =
-    subst (λ (ss : List Shape). Life fn (Some (record { types = types.of; known = known; shapes = ss })) k.arguments k.shown k.got now) (ap (λ (m : Option (List Shape)). unwrap_or m []) x.2) life in
-    (with_shapes sig own, given.1, answers-are-typed types.of known fn (with_shapes sig own) k.arguments k.shown k.got now fits there)
+    let fits : FunctionFits types.of fn (with_shapes sig own) =
+    subst (λ (f : Function). FunctionFits types.of f (with_shapes sig own)) same x.4 in
+    let there : Life fn (Some (record { types = types.of; known = known; shapes = own })) k.arguments k.shown k.got
+    now =
+    subst (λ (ss : List Shape). Life fn (Some (record { types = types.of; known = known; shapes = ss })) k.arguments
+    k.shown k.got now) (ap (λ (m : Option (List Shape)). unwrap_or m []) x.2) life in (
+      with_shapes sig own,
+      given.1,
+      answers-are-typed types.of known fn
+          (with_shapes sig own) k.arguments k.shown k.got now fits there,
+    )

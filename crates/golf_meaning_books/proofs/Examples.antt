@@ -9,12 +9,14 @@ use Rattle.golf_meaning_flat.specs.Worlds.{Operation, Answer, Halt}
 use Rattle.golf_meaning_turns.specs.Turning.{operation, answer}
 use Rattle.golf_meaning_books.specs.Books.{Standing, Call, fresh, book_of, left_of}
 
--- Function 0 calls `main`, which makes a channel, defers its close, starts `give` with it, and calls `get`. `give` sends 4, `get` receives it and returns it; the close has a function of its own.
+-- Function 0 calls `main`, which makes a channel, defers its close, starts `give` with it, and calls `get`. `give`
+-- sends 4, `get` receives it and returns it; the close has a function of its own.
 abbrev code : Code
 code =
     code_with []
     (function 0 0 1 (Instr.Call 1 0 ∷ Instr.Return ∷ [])
-    ∷ function 0 1 11 (new_channel 0 ++ (Instr.Store 0 ∷ Instr.Load 0 ∷ Instr.Defer 3 1 ∷ Instr.Load 0 ∷ Instr.Go 2 1 ∷ Instr.Load 0 ∷ Instr.Call 4 1 ∷ Instr.Drop ∷ Instr.Return ∷ []))
+    ∷ function 0 1 11 (new_channel 0 ++ (Instr.Store 0 ∷ Instr.Load 0 ∷ Instr.Defer 3 1 ∷ Instr.Load 0 ∷ Instr.Go 2 1
+    ∷ Instr.Load 0 ∷ Instr.Call 4 1 ∷ Instr.Drop ∷ Instr.Return ∷ []))
     ∷ function 1 1 31 (Instr.Load 0 ∷ push 4 ∷ Instr.Send ∷ Instr.Return ∷ [])
     ∷ function 1 1 41 (Instr.Load 0 ∷ Instr.Close ∷ Instr.Return ∷ [])
     ∷ function 1 1 51 (Instr.Load 0 ∷ Instr.Receive ∷ Instr.ReturnValue ∷ [])
@@ -97,7 +99,8 @@ the_channel_is_noted : book 4 1 ≡ call 1 [] (makes ∷ []) (value channel ∷ 
 the_channel_is_noted = refl
 
 -- what is deferred is not begun
-the_close_is_deferred : book 7 1 ≡ call 1 [] (makes ∷ defers ∷ []) (value channel ∷ nothing ∷ []) Standing.Goes ∷ first ∷ []
+the_close_is_deferred : book 7 1 ≡ call 1 [] (makes ∷ defers ∷ []) (value channel ∷ nothing ∷ []) Standing.Goes ∷ first
+    ∷ []
 the_close_is_deferred = refl
 
 a_goroutine_is_started : book 8 2 ≡ fresh 2 (channel ∷ []) ∷ []
@@ -131,7 +134,8 @@ give_is_written_down : left 16 ≡ give_left ∷ []
 give_is_written_down = refl
 
 abbrev get_left : Call
-get_left = call 4 (channel ∷ []) (receives ∷ []) (value (number 4) ∷ []) (Standing.Ended (Halt.Returned (Some (number 4))))
+get_left = call 4 (channel ∷ []) (receives ∷ []) (value (number 4) ∷ [])
+    (Standing.Ended (Halt.Returned (Some (number 4))))
 
 get_has_returned : left 17 ≡ give_left ∷ get_left ∷ []
 get_has_returned = refl
@@ -141,7 +145,8 @@ main_still_waits = refl
 
 -- what `main` has shown, and the answers that it got
 abbrev main_with : Standing → Call
-main_with standing = call 1 [] (makes ∷ defers ∷ starts ∷ calls_get ∷ []) (value channel ∷ nothing ∷ nothing ∷ value (number 4) ∷ []) standing
+main_with standing = call 1 [] (makes ∷ defers ∷ starts ∷ calls_get ∷ [])
+    (value channel ∷ nothing ∷ nothing ∷ value (number 4) ∷ []) standing
 
 main_is_answered : book 18 1 ≡ main_with Standing.Goes ∷ first ∷ []
 main_is_answered = refl
@@ -168,7 +173,8 @@ main_has_left = refl
 the_program_has_ended : book 25 1 ≡ []
 the_program_has_ended = refl
 
-all_have_left : left 25 ≡ give_left ∷ get_left ∷ close_left ∷ main_with returned ∷ call 0 [] (calls_main ∷ []) (nothing ∷ []) returned ∷ []
+all_have_left : left 25 ≡ give_left ∷ get_left ∷ close_left ∷ main_with returned
+    ∷ call 0 [] (calls_main ∷ []) (nothing ∷ []) returned ∷ []
 all_have_left = refl
 
 -- turns that show nothing, and before which nothing is noted, leave the book as it was

@@ -8,7 +8,8 @@ use Rattle.golf_data.specs.declared.goroutine.Mode.{Mode}
 use Rattle.golf_data.specs.declared.goroutine.Queued.{Queued}
 use Rattle.golf_model.specs.Views.{FrameView}
 use Rattle.golf_model.specs.Clearing.{cleared}
-use Rattle.golf_meaning_books.specs.Books.{RunTypes, Call, fresh, turned_call, passed, is_longer, rebooked, calls_after, left_by, HasLife, AllBelow, Matches}
+use Rattle.golf_meaning_books.specs.Books.{RunTypes, Call, fresh, turned_call, passed, is_longer, rebooked, calls_after}
+use Rattle.golf_meaning_books.specs.Books.{left_by, HasLife, AllBelow, Matches}
 
 is-same : {X : Type 0} (xs : List X) → is_longer xs xs ≡ false
 is-same [] = refl
@@ -28,48 +29,61 @@ module _ (code : Code) (f : FrameView) (k : Call) (ks : List Call) where
 
   -- as many frames
   pub rebooked-same : (g : FrameView) (callers : List FrameView) → rebooked code f callers (g ∷ callers) k ks ≡ kept
-  rebooked-same g callers = ap (λ b. cond b (fresh g.function (passed code f f.leaving) ∷ kept) (cond b ks kept)) (is-same callers)
+  rebooked-same g callers = ap (λ b. cond b (fresh g.function (passed code f f.leaving) ∷ kept) (cond b ks kept))
+      (is-same callers)
 
   -- one more
-  pub rebooked-more : (x g : FrameView) (callers : List FrameView) → rebooked code f callers (x ∷ (g ∷ callers)) k ks ≡ fresh x.function (passed code f f.leaving) ∷ kept
-  rebooked-more x g callers = ap (λ b. cond b (fresh x.function (passed code f f.leaving) ∷ kept) (cond (is_longer callers (g ∷ callers)) ks kept)) (one-longer g callers)
+  pub rebooked-more : (x g : FrameView) (callers : List FrameView)
+      → rebooked code f callers (x ∷ (g ∷ callers)) k ks ≡ fresh x.function (passed code f f.leaving) ∷ kept
+  rebooked-more x g callers = ap (λ b. cond b (fresh x.function (passed code f f.leaving) ∷ kept)
+      (cond (is_longer callers (g ∷ callers)) ks kept)) (one-longer g callers)
 
   -- one fewer
-  pub rebooked-fewer : (g h : FrameView) (callers : List FrameView) → rebooked code f (g ∷ callers) (h ∷ callers) k ks ≡ ks
+  pub rebooked-fewer : (g h : FrameView) (callers : List FrameView)
+      → rebooked code f (g ∷ callers) (h ∷ callers) k ks ≡ ks
   rebooked-fewer g h callers =
-      ap (λ b. cond b (fresh h.function (passed code f f.leaving) ∷ kept) (cond (is_longer (g ∷ callers) callers) ks kept)) (one-shorter g callers) ∙ ap (λ b. cond b ks kept) (one-longer g callers)
+      ap (λ b. cond b (fresh h.function (passed code f f.leaving) ∷ kept)
+      (cond (is_longer (g ∷ callers) callers) ks kept)) (one-shorter g callers)
+      ∙ ap (λ b. cond b ks kept) (one-longer g callers)
 
   -- only with a frame fewer the innermost call has left
 
   pub left-same : (g : FrameView) (callers : List FrameView) → left_by code (f ∷ callers) (g ∷ callers) (k ∷ ks) ≡ []
   left-same g callers = ap (λ b. cond b (turned_call code f f.leaving k ∷ []) []) (is-same callers)
 
-  pub left-more : (x g : FrameView) (callers : List FrameView) → left_by code (f ∷ callers) (x ∷ (g ∷ callers)) (k ∷ ks) ≡ []
+  pub left-more : (x g : FrameView) (callers : List FrameView)
+      → left_by code (f ∷ callers) (x ∷ (g ∷ callers)) (k ∷ ks) ≡ []
   left-more x g callers = ap (λ b. cond b (turned_call code f f.leaving k ∷ []) []) (one-shorter g callers)
 
-  pub left-fewer : (g h : FrameView) (callers : List FrameView) → left_by code (f ∷ (g ∷ callers)) (h ∷ callers) (k ∷ ks) ≡ turned_call code f f.leaving k ∷ []
+  pub left-fewer : (g h : FrameView) (callers : List FrameView)
+      → left_by code (f ∷ (g ∷ callers)) (h ∷ callers) (k ∷ ks) ≡ turned_call code f f.leaving k ∷ []
   left-fewer g h callers = ap (λ b. cond b (turned_call code f f.leaving k ∷ []) []) (one-longer g callers)
 
 -- a frame that is cleared counts as it did
-pub left-cleared : (code : Code) (frames : List FrameView) (f : FrameView) (fs : List FrameView) (ks : List Call) → left_by code frames (cleared code f ∷ fs) ks ≡ left_by code frames (f ∷ fs) ks
+pub left-cleared : (code : Code) (frames : List FrameView) (f : FrameView) (fs : List FrameView) (ks : List Call)
+    → left_by code frames (cleared code f ∷ fs) ks ≡ left_by code frames (f ∷ fs) ks
 left-cleared code [] f fs ks = refl
 left-cleared code (g ∷ callers) f fs [] = refl
 left-cleared code (g ∷ callers) f fs (k ∷ ks) = refl
 
-pub calls-cleared : (code : Code) (queue : List Queued) (frames : List FrameView) (f : FrameView) (fs : List FrameView) (ks : List Call) → calls_after code queue frames (cleared code f ∷ fs) ks ≡ calls_after code queue frames (f ∷ fs) ks
+pub calls-cleared : (code : Code) (queue : List Queued) (frames : List FrameView) (f : FrameView) (fs : List FrameView)
+    (ks : List Call) → calls_after code queue frames (cleared code f ∷ fs) ks ≡ calls_after code queue frames
+    (f ∷ fs) ks
 calls-cleared code queue [] f fs ks = refl
 calls-cleared code queue (g ∷ callers) f fs [] = refl
 calls-cleared code queue (g ∷ callers) f fs (k ∷ ks) = refl
 
 -- calls that have frames have lives
 
-pub below-live : (code : Code) (types : RunTypes) (fs : List FrameView) (ks : List Call) → AllBelow code types fs ks → Every (HasLife code types) ks
+pub below-live : (code : Code) (types : RunTypes) (fs : List FrameView) (ks : List Call) → AllBelow code types fs ks
+    → Every (HasLife code types) ks
 below-live code types [] [] h = tt
 below-live code types [] (k ∷ ks) h = absurd h
 below-live code types (f ∷ fs) [] h = tt
 below-live code types (f ∷ fs) (k ∷ ks) h = let o = h.0 in ((o.0, o.1, o.3), below-live code types fs ks h.1)
 
-pub matches-live : (code : Code) (types : RunTypes) (mode : Mode) (fs : List FrameView) (ks : List Call) → Matches code types mode fs ks → Every (HasLife code types) ks
+pub matches-live : (code : Code) (types : RunTypes) (mode : Mode) (fs : List FrameView) (ks : List Call)
+    → Matches code types mode fs ks → Every (HasLife code types) ks
 matches-live code types mode [] [] h = tt
 matches-live code types mode [] (k ∷ ks) h = absurd h
 matches-live code types mode (f ∷ fs) [] h = tt

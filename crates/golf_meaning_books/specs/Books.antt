@@ -1,5 +1,6 @@
 -- The calls of a run: what each has shown, and was answered, turn by turn; and what is to hold of them.
-use Rattle.std.specs.Prelude.{◌≡◌, ℕ, zero, suc, ◌-◌, ◌==◌, Bool, true, false, cond, List, [], ◌∷◌, ◌++◌, length, Option, Some, None, unwrap_or, slice_get}
+use Rattle.std.specs.Prelude.{◌≡◌, ℕ, zero, suc, ◌-◌, ◌==◌, Bool, true, false, cond, List, [], ◌∷◌, ◌++◌, length}
+use Rattle.std.specs.Prelude.{Option, Some, None, unwrap_or, slice_get}
 use Rattle.golf_theory.specs.Maps.{find, Entry}
 use Rattle.golf_theory.specs.Membership.{Every}
 use Rattle.golf_data.specs.declared.value.Value.{Value}
@@ -54,10 +55,16 @@ popped zero vs os = vs
 popped (suc n) vs [] = vs
 popped (suc n) vs (v ∷ os) = popped n (v ∷ vs) os
 
--- before the next turn of a call the answer to its last operation is written down: the clause whose place it stands at, and what lies on top of the operands that were left
+-- before the next turn of a call the answer to its last operation is written down: the clause whose place it stands at,
+-- and what lies on top of the operands that were left
 abbrev pub settled_by : Standing → FrameView → Call → Call
 settled_by Standing.Goes f k = k
-settled_by (Standing.Asks q) f k = record k { got = k.got ++ answer (lower q.ranks f.at) (popped (length f.operands - length q.rest) [] f.operands) ∷ []; standing = Standing.Goes }
+settled_by (Standing.Asks q) f k = record k {
+  got = k.got
+      ++ answer (lower q.ranks f.at) (popped (length f.operands - length q.rest) [] f.operands) ∷ [];
+  standing =
+      Standing.Goes;
+}
 settled_by (Standing.Ended h) f k = k
 
 -- with its turn a call shows an operation, or it ends, or it does neither
@@ -78,7 +85,8 @@ line_ends (Some l) f = ends_with l.instr f.at (frame f.slots f.operands)
 
 -- the innermost call, by how its frame is left
 abbrev pub turned_call : Code → FrameView → Leaving → Call → Call
-turned_call code f Leaving.No k = with_turn (line_shows (line_at code f.function f.at) f) (line_ends (line_at code f.function f.at) f) (settled_by k.standing f k)
+turned_call code f Leaving.No k = with_turn (line_shows (line_at code f.function f.at) f)
+    (line_ends (line_at code f.function f.at) f) (settled_by k.standing f k)
 turned_call code f (Leaving.Returning v) k = k
 turned_call code f (Leaving.Unwinding x) k = k
 
@@ -108,7 +116,9 @@ begun_in (f ∷ fs) vs = fresh f.function vs ∷ []
 
 -- a frame more is a call more, and a frame fewer one fewer
 abbrev pub rebooked : Code → FrameView → List FrameView → List FrameView → Call → List Call → List Call
-rebooked code f callers after k ks = cond (is_longer after (f ∷ callers)) (begun_in after (passed code f f.leaving) ++ turned_call code f f.leaving k ∷ ks) (cond (is_longer (f ∷ callers) after) ks (turned_call code f f.leaving k ∷ ks))
+rebooked code f callers after k ks = cond (is_longer after (f ∷ callers))
+    (begun_in after (passed code f f.leaving) ++ turned_call code f f.leaving k ∷ ks)
+    (cond (is_longer (f ∷ callers) after) ks (turned_call code f f.leaving k ∷ ks))
 
 abbrev pub queue_arguments : List Queued → List Value
 queue_arguments [] = []
@@ -163,7 +173,8 @@ book_of code es = book_from code (start code) es first_book
 
 -- with a frame fewer the innermost call has left
 abbrev pub left_by : Code → List FrameView → List FrameView → List Call → List Call
-left_by code (f ∷ callers) after (k ∷ ks) = cond (is_longer (f ∷ callers) after) (turned_call code f f.leaving k ∷ []) []
+left_by code (f ∷ callers) after (k ∷ ks) =
+    cond (is_longer (f ∷ callers) after) (turned_call code f f.leaving k ∷ []) []
 left_by code _ after _ = []
 
 abbrev pub left_at_turn : Code → State → ℕ → Option ℕ → Book → List Call
@@ -177,7 +188,8 @@ left_in false code s Event.Collect b = []
 
 abbrev pub left_from : Code → State → List Event → Book → List Call
 left_from code s [] b = []
-left_from code s (e ∷ es) b = left_in (has_ended s) code s e b ++ left_from code (happens code s e) es (booked_in (has_ended s) code s e b)
+left_from code s (e ∷ es) b = left_in (has_ended s) code s e b
+    ++ left_from code (happens code s e) es (booked_in (has_ended s) code s e b)
 
 -- those of the run from the opening state, in the order in which they left
 abbrev pub left_of : Code → List Event → List Call
@@ -192,11 +204,16 @@ pub record RunTypes : Type 0 where
 
 -- the values are of the types of the function's parameters
 abbrev pub AreArguments : RunTypes → ℕ → List Value → Type 0
-AreArguments types f vs = (sig : Signature) × (slice_get types.typing.of.functions f ≡ Some sig) × ValuesFit types.typing.of types.known vs sig.params
+AreArguments types f vs = (sig : Signature) × (slice_get types.typing.of.functions f ≡ Some sig)
+    × ValuesFit types.typing.of types.known vs sig.params
 
 -- the shapes of a function
 abbrev pub shaping : RunTypes → ℕ → Option Shaping
-shaping types f = Some (record { types = types.typing.of; known = types.known; shapes = unwrap_or (slice_get types.typing.shapes f) [] })
+shaping types f = Some (record {
+  types = types.typing.of;
+  known = types.known;
+  shapes = unwrap_or (slice_get types.typing.shapes f) [];
+})
 
 -- a frame of the function has the shape of this place
 abbrev pub Shaped : RunTypes → ℕ → ℕ → Frame → Type 0
@@ -204,7 +221,8 @@ Shaped types f at c = IsShaped (shaping types f) at c
 
 -- the function of this number may be called with them
 abbrev pub Takes : Code → RunTypes → ℕ → List Value → Type 0
-Takes code types f vs = (fn : Function) → slice_get code.functions f ≡ Some fn → (length vs ≡ fn.params) × AreArguments types f vs
+Takes code types f vs = (fn : Function) → slice_get code.functions f ≡ Some fn → (length vs ≡ fn.params)
+    × AreArguments types f vs
 
 -- a life that has come to this is that of a call that stands so
 abbrev pub StandsSo : Standing → Now → Type 0
@@ -213,27 +231,36 @@ StandsSo (Standing.Asks q) (Now.Asks at c before) = Unit {0}
 StandsSo (Standing.Ended h) (Now.Halted i) = h ≡ i
 StandsSo _ _ = ⊥
 
--- the call of the function has arguments of its types, and a life whose frames have shapes, and which has come to where the call stands
+-- the call of the function has arguments of its types, and a life whose frames have shapes, and which has come to where
+-- the call stands
 abbrev pub Lives : RunTypes → Function → Call → Type 0
-Lives types fn k = AreArguments types k.function k.arguments × ((now : Now) × Life fn (shaping types k.function) k.arguments k.shown k.got now × StandsSo k.standing now)
+Lives types fn k = AreArguments types k.function k.arguments
+    × ((now : Now) × Life fn (shaping types k.function) k.arguments k.shown k.got now × StandsSo k.standing now)
 
 abbrev pub HasLife : Code → RunTypes → Call → Type 0
 HasLife code types k = (fn : Function) × (slice_get code.functions k.function ≡ Some fn) × Lives types fn k
 
 -- with this answer to its last operation it stands there, if its frame has the shape of that place
 abbrev pub LivesAt : RunTypes → Function → Call → List ℕ → ℕ → List Value → List Value → List Value → Type 0
-LivesAt types fn k ranks to slots values rest = Shaped types k.function to (frame slots (pushed values rest)) → Life fn (shaping types k.function) k.arguments k.shown (k.got ++ answer (lower ranks to) values ∷ []) (Now.Stands to (frame slots (pushed values rest)))
+LivesAt types fn k ranks to slots values rest = Shaped types k.function to (frame slots (pushed values rest))
+    → Life fn (shaping types k.function) k.arguments k.shown (k.got ++ answer (lower ranks to) values ∷ [])
+    (Now.Stands to (frame slots (pushed values rest)))
 
 -- whatever it is served with by this wait, and if it is only woken, the call lives on
 abbrev pub MayServe : RunTypes → Function → Call → Asked → FrameView → Wait → Type 0
-MayServe types fn k q f w = ((values : List Value) → LivesAt types fn k q.ranks (unwrap_or w.target f.at) f.slots values q.rest) × (IsOfLock w.side → LivesAt types fn k q.ranks f.at f.slots [] q.rest)
+MayServe types fn k q f w = ((values : List Value)
+    → LivesAt types fn k q.ranks (unwrap_or w.target f.at) f.slots values q.rest)
+    × (IsOfLock w.side → LivesAt types fn k q.ranks f.at f.slots [] q.rest)
 
 -- the innermost frame of a goroutine, and its call: it stands at its place; it was answered; or it waits
 abbrev pub IsOnTop : RunTypes → Function → Call → FrameView → Standing → Mode → Type 0
-IsOnTop types fn k f Standing.Goes Mode.Running = Life fn (shaping types k.function) k.arguments k.shown k.got (Now.Stands f.at (frame f.slots f.operands))
+IsOnTop types fn k f Standing.Goes Mode.Running =
+    Life fn (shaping types k.function) k.arguments k.shown k.got (Now.Stands f.at (frame f.slots f.operands))
 IsOnTop types fn k f Standing.Goes (Mode.Blocked kind line waits ticket) = ⊥
-IsOnTop types fn k f (Standing.Asks q) Mode.Running = (values : List Value) × (f.operands ≡ pushed values q.rest) × LivesAt types fn k q.ranks f.at f.slots values q.rest
-IsOnTop types fn k f (Standing.Asks q) (Mode.Blocked kind line waits ticket) = (f.operands ≡ q.rest) × Every (MayServe types fn k q f) waits
+IsOnTop types fn k f (Standing.Asks q) Mode.Running = (values : List Value) × (f.operands ≡ pushed values q.rest)
+    × LivesAt types fn k q.ranks f.at f.slots values q.rest
+IsOnTop types fn k f (Standing.Asks q) (Mode.Blocked kind line waits ticket) = (f.operands ≡ q.rest)
+    × Every (MayServe types fn k q f) waits
 IsOnTop types fn k f (Standing.Ended h) mode = ⊥
 
 -- a call whose frame unwinds has divided by zero or returned, or its last operation is never answered
@@ -256,7 +283,8 @@ Top types fn k f (Leaving.Unwinding x) mode = IsLeft k (Leaving.Unwinding x)
 -- a frame below: its call waits for what the one above gives
 abbrev pub WaitsBelow : RunTypes → Function → Call → FrameView → Standing → Type 0
 WaitsBelow types fn k f Standing.Goes = ⊥
-WaitsBelow types fn k f (Standing.Asks q) = (f.operands ≡ q.rest) × ((values : List Value) → LivesAt types fn k q.ranks f.at f.slots values q.rest)
+WaitsBelow types fn k f (Standing.Asks q) = (f.operands ≡ q.rest)
+    × ((values : List Value) → LivesAt types fn k q.ranks f.at f.slots values q.rest)
 WaitsBelow types fn k f (Standing.Ended h) = ⊥
 
 abbrev pub Below : RunTypes → Function → Call → FrameView → Leaving → Type 0
@@ -266,17 +294,20 @@ Below types fn k f (Leaving.Unwinding x) = IsLeft k (Leaving.Unwinding x)
 
 -- a frame is of the function of its call
 abbrev pub Of : Code → RunTypes → Call → FrameView → (Function → Type 0) → Type 0
-Of code types k f P = (fn : Function) × (slice_get code.functions k.function ≡ Some fn) × (f.function ≡ k.function) × Lives types fn k × P fn
+Of code types k f P = (fn : Function) × (slice_get code.functions k.function ≡ Some fn) × (f.function ≡ k.function)
+    × Lives types fn k × P fn
 
 abbrev pub AllBelow : Code → RunTypes → List FrameView → List Call → Type 0
 AllBelow code types [] [] = Unit {0}
-AllBelow code types (f ∷ fs) (k ∷ ks) = Of code types k f (λ fn. Below types fn k f f.leaving) × AllBelow code types fs ks
+AllBelow code types (f ∷ fs) (k ∷ ks) = Of code types k f (λ fn. Below types fn k f f.leaving)
+    × AllBelow code types fs ks
 AllBelow code types _ _ = ⊥
 
 -- the frames of a goroutine and its calls
 abbrev pub Matches : Code → RunTypes → Mode → List FrameView → List Call → Type 0
 Matches code types mode [] [] = Unit {0}
-Matches code types mode (f ∷ fs) (k ∷ ks) = Of code types k f (λ fn. Top types fn k f f.leaving mode) × AllBelow code types fs ks
+Matches code types mode (f ∷ fs) (k ∷ ks) = Of code types k f (λ fn. Top types fn k f f.leaving mode)
+    × AllBelow code types fs ks
 Matches code types mode _ _ = ⊥
 
 -- the masks of each function are those of its body
@@ -285,7 +316,8 @@ HasMasks code = (k : ℕ) (fn : Function) → slice_get code.functions k ≡ Som
 
 -- each function has as many parameters as its type says
 abbrev pub HasParameters : Code → Typing → Type 0
-HasParameters code types = (k : ℕ) (fn : Function) (sig : Signature) → slice_get code.functions k ≡ Some fn → slice_get types.of.functions k ≡ Some sig → fn.params ≡ length sig.params
+HasParameters code types = (k : ℕ) (fn : Function) (sig : Signature) → slice_get code.functions k ≡ Some fn
+    → slice_get types.of.functions k ≡ Some sig → fn.params ≡ length sig.params
 
 -- the state is well typed, by what is known of its objects then, and later still
 abbrev pub TypedIn : Typing → List (ℕ × ValueType) → State → Type 0
@@ -299,15 +331,21 @@ TypedAlong code types later s (e ∷ es) = TypedIn types later s × TypedAlong c
 -- the states of each run are well typed, and none is stuck before its ending
 abbrev pub GoesWell : Code → Typing → Type 0
 GoesWell code types =
-    ((events : List Event) → (known : List (ℕ × ValueType)) × TypedAlong code types known (start code) events) × ((events : List Event) (c : ℕ) → ending (run code (start code) events) ≡ None → MovesOn code (run code (start code) events) c)
+    ((events : List Event) → (known : List (ℕ × ValueType)) × TypedAlong code types known (start code) events)
+    × ((events : List Event) (c : ℕ) → ending (run code (start code) events) ≡ None
+    → MovesOn code (run code (start code) events) c)
 
 -- each answer that the call got is of the types that its operation leaves, by those of a function with its signature
 abbrev pub IsAnswered : RunTypes → Call → Type 0
-IsAnswered types k = (ft : FunctionTypes) × (slice_get types.typing.of.functions k.function ≡ Some (signature ft)) × Answers (AnswerFits types.typing.of types.known ft) k.shown k.got
+IsAnswered types k = (ft : FunctionTypes) × (slice_get types.typing.of.functions k.function ≡ Some (signature ft))
+    × Answers (AnswerFits types.typing.of types.known ft) k.shown k.got
 
--- In each state of a run without an ending the frames of each goroutine match its calls, with the operations that they have shown and the answers that they got in that run. Always each call, also one that has left, has arguments of its types, a life, and answers of the types that its operations leave; and one that has left goes on no more.
+-- In each state of a run without an ending the frames of each goroutine match its calls, with the operations that they
+-- have shown and the answers that they got in that run. Always each call, also one that has left, has arguments of its
+-- types, a life, and answers of the types that its operations leave; and one that has left goes on no more.
 pub record IsBooked (code : Code) (types : RunTypes) (events : List Event) : Type 0 where
-  pub going : ending (run code (start code) events) ≡ None → (g : ℕ) (r : GoroutineView) → Entry (run code (start code) events).goroutines g r → Matches code types r.mode r.frames (book_of code events g)
+  pub going : ending (run code (start code) events) ≡ None → (g : ℕ) (r : GoroutineView)
+      → Entry (run code (start code) events).goroutines g r → Matches code types r.mode r.frames (book_of code events g)
   pub always : (g : ℕ) → Every (HasLife code types) (book_of code events g)
   pub left : Every (λ (k : Call). HasLife code types k × GoesNoMore k.standing) (left_of code events)
   pub answered : (g : ℕ) → Every (IsAnswered types) (book_of code events g)
@@ -315,4 +353,6 @@ pub record IsBooked (code : Code) (types : RunTypes) (events : List Event) : Typ
 
 -- so it is for each code with shapes that goes well, by what is known of objects in the end
 abbrev pub RunsAreBooked : Type 0
-RunsAreBooked = (code : Code) (types : Typing) → HasMasks code → HasShapes code types → HasParameters code types → GoesWell code types → (events : List Event) → (known : List (ℕ × ValueType)) × IsBooked code (record { typing = types; known = known }) events
+RunsAreBooked = (code : Code) (types : Typing) → HasMasks code → HasShapes code types → HasParameters code types
+    → GoesWell code types → (events : List Event) → (known : List (ℕ × ValueType))
+    × IsBooked code (record { typing = types; known = known }) events

@@ -11,7 +11,8 @@ clause_left k [] None = None
 clause_left k [] (Some t) = cond (t == k) (Some 0) None
 clause_left k (c ∷ cs) o = cond (c.target == k) (Some (case_left c.kind)) (clause_left k cs o)
 
--- as many as the operation leaves, if these functions give a value; of a choice, as many as the clause leaves that the answer names
+-- as many as the operation leaves, if these functions give a value; of a choice, as many as the clause leaves that the
+-- answer names
 abbrev pub answer_left : List Bool → Instr → ℕ → Option ℕ
 answer_left gives (Instr.Select cases otherwise) k = clause_left k cases otherwise
 answer_left gives i k = cond (k == 0) (Some (left gives i)) None

@@ -1,5 +1,6 @@
 -- What an instruction does in a frame.
-use Rattle.std.specs.Prelude.{ℕ, zero, suc, Bool, true, false, not, List, [], ◌∷◌, Option, Some, None, slice_get, slice_set, ℤ, int_lt, int_le}
+use Rattle.std.specs.Prelude.{ℕ, zero, suc, Bool, true, false, not, List, [], ◌∷◌, Option, Some, None, slice_get}
+use Rattle.std.specs.Prelude.{slice_set, ℤ, int_lt, int_le}
 use Rattle.golf_data.specs.declared.value.Value.{Value}
 use Rattle.golf_data.specs.declared.code.Instr.{Instr}
 use Rattle.golf_data.specs.declared.code.SelectCase.{SelectCase}
@@ -74,7 +75,8 @@ abbrev pub computed : (ℤ → ℤ → ℤ) → World → Value → Value → Pa
 computed f w x y = ints w (λ m n. Part.Gives (Value.Int (f m n)) w) x y
 
 abbrev pub divided : (ℤ → ℤ → ℤ) → World → Value → Value → Part Value
-divided f w x y = ints w (λ m n. chosen_by (is_zero n) (Part.Stops Halt.Divided w.operations) (Part.Gives (Value.Int (f m n)) w)) x y
+divided f w x y = ints w (λ m n. chosen_by (is_zero n) (Part.Stops Halt.Divided w.operations)
+    (Part.Gives (Value.Int (f m n)) w)) x y
 
 abbrev pub compared : (ℤ → ℤ → Bool) → World → Value → Value → Part Value
 compared f w x y = ints w (λ m n. Part.Gives (Value.Bool (f m n)) w) x y
@@ -91,7 +93,8 @@ abbrev pub loads : ℕ → Act
 loads i c w = on_some (λ v. goes c (v ∷ c.operands) w) w (slice_get c.slots i)
 
 abbrev pub stores : ℕ → Act
-stores i c w = one w (λ v rest. on_some (λ (old : Value). Part.Gives (record { slots = slice_set c.slots i v; operands = rest }) w) w (slice_get c.slots i)) c.operands
+stores i c w = one w (λ v rest. on_some (λ (old : Value). Part.Gives
+    (record { slots = slice_set c.slots i v; operands = rest }) w) w (slice_get c.slots i)) c.operands
 
 abbrev pub drops : Act
 drops c w = one w (λ v rest. goes c rest w) c.operands
@@ -125,13 +128,15 @@ pub data Doing : Type 0 where
   Tests : (t : ℕ) → Doing
   Chooses : (cases : List SelectCase) (otherwise : Option ℕ) → Doing
 
--- an operation is added, and takes the next answer, if this has as many values as the operation leaves where these functions give a value
+-- an operation is added, and takes the next answer, if this has as many values as the operation leaves where these
+-- functions give a value
 abbrev pub gets : List Bool → Instr → List Value → World → Part Answer
 gets gives i vs w = bind (asks i vs w) (λ a u. chosen_by (is_counted gives i a) (Part.Gives a u) (miscount u))
 
 -- a visible operation: its answer is taken as it stands
 abbrev pub shows : List Bool → Instr → Act
-shows gives i c w = some_from w (taken i) [] (λ vs rest. bind (gets gives i vs w) (λ a u. goes c (pushed a.values rest) u)) c.operands
+shows gives i c w = some_from w (taken i) []
+    (λ vs rest. bind (gets gives i vs w) (λ a u. goes c (pushed a.values rest) u)) c.operands
 
 abbrev pub doing : List Bool → Instr → Doing
 doing gives (Instr.Int n) = Doing.Acts (pushes (Value.Int n))

@@ -1,5 +1,6 @@
 -- The meaning of flat code: at most so many instructions.
-use Rattle.std.specs.Prelude.{ℕ, zero, suc, ◌+◌, ◌==◌, nat_lt, cond, Bool, List, [], ◌∷◌, map, Option, Some, None, slice_get}
+use Rattle.std.specs.Prelude.{ℕ, zero, suc, ◌+◌, ◌==◌, nat_lt, cond, Bool, List, [], ◌∷◌, map, Option, Some, None}
+use Rattle.std.specs.Prelude.{slice_get}
 use Rattle.std.specs.Option.{option_map}
 use Rattle.golf_data.specs.declared.code.Instr.{Instr}
 use Rattle.golf_data.specs.declared.code.CodeLine.{CodeLine}
@@ -42,11 +43,13 @@ abbrev pub picks : List Bool → (ℕ → ℕ) → List SelectCase → Option �
 picks gives label cs o c w =
     some_from w (cases_taken cs) [] (λ vs rest.
     bind (gets gives (Instr.Select (map (relabelled label) cs) (option_map label o)) vs w) (λ a u.
-    on_clause (λ t. Part.Gives (t, record { slots = c.slots; operands = pushed a.values rest }) u) u (clause_of label a.clause cs o))) c.operands
+    on_clause (λ t. Part.Gives (t, record { slots = c.slots; operands = pushed a.values rest }) u) u
+    (clause_of label a.clause cs o))) c.operands
 
 -- a truth value on top
 abbrev pub tests : Frame → World → Part (Bool × Frame)
-tests c w = one w (λ x rest. on_kind (λ b. Part.Gives (b, record { slots = c.slots; operands = rest }) w) w (bool_of x)) c.operands
+tests c w = one w (λ x rest. on_kind (λ b. Part.Gives (b, record { slots = c.slots; operands = rest }) w) w (bool_of x))
+    c.operands
 
 -- what comes next, from this place
 abbrev pub Next : Type 0
@@ -60,7 +63,8 @@ abbrev pub does : List Bool → Doing → Next → Next
 does gives (Doing.Acts f) next at c w = ended (f c w) (next (at + 1))
 does gives (Doing.Jumps t) next at c w = next t c w
 does gives (Doing.Tests t) next at c w = ended (tests c w) (λ r u. next (cond r.0 (at + 1) t) r.1 u)
-does gives (Doing.Chooses cs o) next at c w = ended (picks gives (lower (targets cs o)) cs o c w) (λ r u. next r.0 r.1 u)
+does gives (Doing.Chooses cs o) next at c w =
+    ended (picks gives (lower (targets cs o)) cs o c w) (λ r u. next r.0 r.1 u)
 
 abbrev pub at_line : List Bool → Option CodeLine → Next → Next
 at_line gives None next at c w = halted (Halt.Unfit Misfit.OfRule) w.operations

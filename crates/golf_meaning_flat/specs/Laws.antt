@@ -19,10 +19,12 @@ Enough (End.Halts h) n j = Unit {0}
 
 module _ (gives : List Bool) where
   -- the code goes from one place to another, by one instruction or more; or by any number
-  pub record Leads (code : List CodeLine) (at : ℕ) (c : Frame) (w : World) (to : ℕ) (d : Frame) (u : World) : Type 0 where
+  pub record Leads (code : List CodeLine) (at : ℕ) (c : Frame) (w : World) (to : ℕ) (d : Frame)
+      (u : World) : Type 0 where
     pub by : (k : ℕ) → (j : ℕ) × (k < j) × (exec gives code j at c w ≡ exec gives code k to d u)
 
-  pub record Comes (code : List CodeLine) (at : ℕ) (c : Frame) (w : World) (to : ℕ) (d : Frame) (u : World) : Type 0 where
+  pub record Comes (code : List CodeLine) (at : ℕ) (c : Frame) (w : World) (to : ℕ) (d : Frame)
+      (u : World) : Type 0 where
     pub by : (k : ℕ) → (j : ℕ) × (k ≤ j) × (exec gives code j at c w ≡ exec gives code k to d u)
 
   -- the code at a place does what the piece does
@@ -34,7 +36,9 @@ module _ (gives : List Bool) where
 
 -- placed code does what its piece does, wherever it is placed
 abbrev pub PlacedFollows : Type 0
-PlacedFollows = (gives : List Bool) (code : List CodeLine) (n : ℕ) (p : Piece) (at : ℕ) (ts : List ℕ) (c : Frame) (w : World) → Stand code at (placed p at ts) → Follows gives code n at ts (at + size p) c w (run gives n p at ts c w)
+PlacedFollows = (gives : List Bool) (code : List CodeLine) (n : ℕ) (p : Piece) (at : ℕ) (ts : List ℕ) (c : Frame)
+    (w : World) → Stand code at (placed p at ts)
+    → Follows gives code n at ts (at + size p) c w (run gives n p at ts c w)
 
 -- Two meanings by bounds: each bound of one has a bound of the other.
 
@@ -53,7 +57,8 @@ pub record Agree (f g : ℕ → Told) : Type 0 where
   pub forth : (n : ℕ) → (m : ℕ) × Within (f n) (g m)
   pub back : (m : ℕ) → (n : ℕ) × Within (g m) (f n)
 
--- Of these halts it is said that the code halts alike: not if no rule fits, and not if the source alone has looked at the kinds of an answer.
+-- Of these halts it is said that the code halts alike: not if no rule fits, and not if the source alone has looked at
+-- the kinds of an answer.
 abbrev pub Said : Halt → Type 0 → Type 0
 Said (Halt.Unfit Misfit.OfAnswer) P = Unit {0}
 Said (Halt.Unfit Misfit.OfRule) P = Unit {0}
@@ -74,4 +79,5 @@ abbrev pub HasRules : (ℕ → Told) → Type 0
 HasRules f = (n : ℕ) → IsRuled (f n).end
 
 abbrev pub BothWays : Type 0
-BothWays = (gives : List Bool) (code : List CodeLine) (c : Frame) (w : World) (f : ℕ → Told) → ((n : ℕ) → Done gives code c w n (f n) (f n).end) → HasRules f → Agree f (λ m. exec gives code m 0 c w)
+BothWays = (gives : List Bool) (code : List CodeLine) (c : Frame) (w : World) (f : ℕ → Told)
+    → ((n : ℕ) → Done gives code c w n (f n) (f n).end) → HasRules f → Agree f (λ m. exec gives code m 0 c w)

@@ -1,4 +1,5 @@
--- The meaning of structured code, by recursion over it: each block that is begun anew is gone through at most n times. The places are looked at by `select` alone.
+-- The meaning of structured code, by recursion over it: each block that is begun anew is gone through at most n times.
+-- The places are looked at by `select` alone.
 use Rattle.std.specs.Prelude.{ℕ, zero, suc, ◌+◌, Bool, true, false, List, ◌∷◌, map, Option}
 use Rattle.std.specs.Option.{option_map}
 use Rattle.golf_data.specs.declared.code.SelectCase.{SelectCase}
@@ -7,7 +8,8 @@ use Rattle.golf_meaning_flat.specs.Worlds.{Told, World, Part, halted, cut_short}
 use Rattle.golf_meaning_flat.specs.Doing.{Frame, Doing, doing}
 use Rattle.golf_meaning_flat.specs.Flat.{targets, lower, picks, tests}
 
--- how a piece is left: at its end, by a target, or with the whole meaning; nothing is said of an instruction with a target of its own
+-- how a piece is left: at its end, by a target, or with the whole meaning; nothing is said of an instruction with a
+-- target of its own
 pub data Way : Type 0 where
   Through : (c : Frame) (w : World) → Way
   Leaves : (k : ℕ) (c : Frame) (w : World) → Way
@@ -67,6 +69,7 @@ run gives n (Piece.Op i line) at ts c w = acted (doing gives i) c w
 run gives n (Piece.Then p q) at ts c w = then_way (run gives n p at ts c w) (run gives n q (at + size p) ts)
 run gives n (Piece.Exit line k) at ts c w = Way.Leaves k c w
 run gives n (Piece.Unless line k) at ts c w = unless_true (tests c w) k
-run gives n (Piece.Choose line cs o) at ts c w = picked (picks gives (λ k. lower (placed_targets cs o ts) (target ts k)) cs o c w)
+run gives n (Piece.Choose line cs o) at ts c w =
+    picked (picks gives (λ k. lower (placed_targets cs o ts) (target ts k)) cs o c w)
 run gives n (Piece.Block p) at ts c w = out_of (run gives n p at ((at + size p) ∷ ts) c w)
 run gives n (Piece.Again p) at ts c w = rounds n (run gives n p at (at ∷ ts)) c w

@@ -13,7 +13,9 @@ pub record Answer : Type 0 where
   pub clause : ℕ
   pub values : List Value
 
--- why nothing more is said: an answer has not as many values as its operation leaves; or, of a source that looks at the kinds of answers, a value of an answer is not of its type; or a value is not of the kind that it is used as; or no rule fits a number of operands or a name
+-- why nothing more is said: an answer has not as many values as its operation leaves; or, of a source that looks at the
+-- kinds of answers, a value of an answer is not of its type; or a value is not of the kind that it is used as; or no
+-- rule fits a number of operands or a name
 pub data Misfit : Type 0 where
   OfCount : Misfit
   OfAnswer : Misfit

@@ -1,7 +1,8 @@
 -- The code of a function and its source agree.
 -- For: `functions_agree`, src/lib.rt
 -- By: induction over the list of statements of the body; cases of how the body ends
-use Rattle.std.proofs.Common.{◌≡◌, ℕ, zero, suc, ◌+◌, ◌-◌, pos, List, [], ◌∷◌, ◌++◌, length, map, Option, Some, None, refl, ap, sym, ◌∙◌, subst, slice_get, arith, append_assoc, length-append}
+use Rattle.std.proofs.Common.{◌≡◌, ℕ, zero, suc, ◌+◌, ◌-◌, pos, List, [], ◌∷◌, ◌++◌, length, map, Option, Some, None}
+use Rattle.std.proofs.Common.{refl, ap, sym, ◌∙◌, subst, slice_get, arith, append_assoc, length-append}
 use Rattle.std.specs.Prelude.{replicate}
 use Rattle.golf_syntax_trees.specs.declared.statements.Stmt.{Stmt}
 use Rattle.golf_syntax_trees.specs.declared.declarations.Func.{Func}
@@ -44,10 +45,12 @@ stand-whole : (xs ys : List CodeLine) (n : ℕ) → n ≡ length xs → Stand (x
 stand-whole xs [] n e = tt
 stand-whole xs (y ∷ ys) n e = (
   at-length xs y ys n e,
-  subst (λ zs. Stand zs (n + 1) ys) (append_assoc xs (y ∷ []) ys) (stand-whole (xs ++ y ∷ []) ys (n + 1) (let f = length-append xs (y ∷ []) in omega (arith, e, f))),
+  subst (λ zs. Stand zs (n + 1) ys) (append_assoc xs (y ∷ []) ys)
+      (stand-whole (xs ++ y ∷ []) ys (n + 1) (let f = length-append xs (y ∷ []) in omega (arith, e, f))),
 )
   where
-    at-length : (xs : List CodeLine) (y : CodeLine) (ys : List CodeLine) (n : ℕ) → n ≡ length xs → slice_get (xs ++ y ∷ ys) n ≡ Some y
+    at-length : (xs : List CodeLine) (y : CodeLine) (ys : List CodeLine) (n : ℕ) → n ≡ length xs
+        → slice_get (xs ++ y ∷ ys) n ≡ Some y
     at-length [] y ys n e = subst (λ k. slice_get (y ∷ ys) k ≡ Some y) (sym e) refl
     at-length (x ∷ xs) y ys zero e = absurd (omega (arith, e))
     at-length (x ∷ xs) y ys (suc n) e = at-length xs y ys n (omega (arith, e))
@@ -73,13 +76,19 @@ module _ (taking : Taking) where
 
     parts-are : (xs : List Stmt) → parts (map (step taking t) xs) ≡ map (stmt_part t) xs
     parts-are [] = refl
-    parts-are (x ∷ xs) = ap (λ p. p ∷ parts (map (step taking t) xs)) (step-part taking t x) ∙ ap (λ ps. stmt_part t x ∷ ps) (parts-are xs)
+    parts-are (x ∷ xs) = ap (λ p. p ∷ parts (map (step taking t) xs)) (step-part taking t x)
+        ∙ ap (λ ps. stmt_part t x ∷ ps) (parts-are xs)
 
-    pub body-means : (f : Func) → StatementMeans taking (body_part t f).walk (body_part t f).lay (in_order (map (step taking t) f.body))
-    body-means f = subst (λ ps. StatementMeans taking (L.in_order ps).walk (L.in_order ps).lay (in_order (map (step taking t) f.body))) (parts-are f.body) (means-order taking (map (step taking t) f.body) (each f.body))
+    pub body-means : (f : Func) → StatementMeans taking (body_part t f).walk (body_part t f).lay
+        (in_order (map (step taking t) f.body))
+    body-means f = subst (λ ps. StatementMeans taking (L.in_order ps).walk (L.in_order ps).lay
+        (in_order (map (step taking t) f.body))) (parts-are f.body)
+        (means-order taking (map (step taking t) f.body) (each f.body))
 
   -- the return at the end
-  last-push : (l : ℕ) (v : Value) (n at : ℕ) (ts : List ℕ) (now : List Value) (u : World) → run taking.gives n (all (op l (push v) ∷ op l Instr.ReturnValue ∷ [])) at ts (frame now []) u ≡ Way.Ends (halted (Halt.Returned (Some (zero_of v))) u.operations)
+  last-push : (l : ℕ) (v : Value) (n at : ℕ) (ts : List ℕ) (now : List Value) (u : World)
+      → run taking.gives n (all (op l (push v) ∷ op l Instr.ReturnValue ∷ [])) at ts (frame now []) u ≡ Way.Ends
+      (halted (Halt.Returned (Some (zero_of v))) u.operations)
   last-push l (Value.Int k) n at ts now u = refl
   last-push l (Value.Bool b) n at ts now u = refl
   last-push l (Value.Text k) n at ts now u = refl
@@ -87,35 +96,48 @@ module _ (taking : Taking) where
   last-push l Value.Nil n at ts now u = refl
   last-push l (Value.Ref o) n at ts now u = refl
 
-  last-ends : (l : ℕ) (r : Option GoType) (n at : ℕ) (ts : List ℕ) (now : List Value) (u : World) → run taking.gives n (last_return l r) at ts (frame now []) u ≡ Way.Ends (halted (Halt.Returned (at_end r)) u.operations)
+  last-ends : (l : ℕ) (r : Option GoType) (n at : ℕ) (ts : List ℕ) (now : List Value) (u : World)
+      → run taking.gives n (last_return l r) at ts (frame now []) u ≡ Way.Ends
+      (halted (Halt.Returned (at_end r)) u.operations)
   last-ends l None n at ts now u = refl
   last-ends l (Some t) n at ts now u = last-push l (zero_value (Some t)) n at ts now u
 
   -- if the way ends as it is told, so does the code
   module _ (code : List CodeLine) (c : Frame) (w : World) (n to : ℕ) where
-    done-ends : (t : Told) (e : End) (o : Way) → EndsAlike t e o → ((r : Told) → o ≡ Way.Ends r → (j : ℕ) × Enough r.end n j × (exec taking.gives code j 0 c w ≡ r)) → t.end ≡ e → Done taking.gives code c w n t e
+    done-ends : (t : Told) (e : End) (o : Way) → EndsAlike t e o
+        → ((r : Told) → o ≡ Way.Ends r → (j : ℕ) × Enough r.end n j × (exec taking.gives code j 0 c w ≡ r)) → t.end ≡ e
+        → Done taking.gives code c w n t e
     done-ends t (End.Halts s) o h k q = said-as s _ _ h (λ e. let r = k t e in (r.0, r.2))
     done-ends t End.Short o h k q = let r = k t h in (r.0, subst (λ e. Enough e n r.0) q r.1, r.2)
 
-    from-ends : (o : Way) → Follows taking.gives code n 0 [] to c w o → (r : Told) → o ≡ Way.Ends r → (j : ℕ) × Enough r.end n j × (exec taking.gives code j 0 c w ≡ r)
+    from-ends : (o : Way) → Follows taking.gives code n 0 [] to c w o → (r : Told) → o ≡ Way.Ends r → (j : ℕ)
+        × Enough r.end n j × (exec taking.gives code j 0 c w ≡ r)
     from-ends o h r e = subst (Follows taking.gives code n 0 [] to c w) e h
 
     body-done : (l : ℕ) (r : Option GoType) (f : Flow) (o : Way) (at : ℕ) → BodyGoes f o
-        → Follows taking.gives code n 0 [] to c w (then_way o (run taking.gives n (all (last_return l r ∷ [])) at [])) → Done taking.gives code c w n (told_by r f) (told_by r f).end
+        → Follows taking.gives code n 0 [] to c w (then_way o (run taking.gives n (all (last_return l r ∷ [])) at []))
+        → Done taking.gives code c w n (told_by r f) (told_by r f).end
     body-done l r (Flow.Goes Course.On env u) o at body k =
         let h = body.goes in
-        let ways : then_way o (run taking.gives n (all (last_return l r ∷ [])) at []) ≡ Way.Ends (halted (Halt.Returned (at_end r)) u.operations) =
-        ap (λ z. then_way z (run taking.gives n (all (last_return l r ∷ [])) at [])) h.1 ∙ ap (λ z. then_way z (λ d x. Way.Through d x)) (last-ends l r n at [] h.0 u) in
-        let d = from-ends (then_way o (run taking.gives n (all (last_return l r ∷ [])) at [])) k (halted (Halt.Returned (at_end r)) u.operations) ways in
+        let ways : then_way o (run taking.gives n (all (last_return l r ∷ [])) at []) ≡ Way.Ends
+        (halted (Halt.Returned (at_end r)) u.operations) =
+        ap (λ z. then_way z (run taking.gives n (all (last_return l r ∷ [])) at [])) h.1
+        ∙ ap (λ z. then_way z (λ d x. Way.Through d x)) (last-ends l r n at [] h.0 u) in
+        let d = from-ends (then_way o (run taking.gives n (all (last_return l r ∷ [])) at [])) k
+        (halted (Halt.Returned (at_end r)) u.operations) ways in
         (d.0, d.2)
     body-done l r (Flow.Goes Course.Breaks env u) o at body k = tt
     body-done l r (Flow.Goes Course.Continues env u) o at body k = tt
     body-done l r (Flow.Goes Course.Skips env u) o at body k = tt
     body-done l r (Flow.Ends t) o at body k =
-        done-ends t t.end (then_way o (run taking.gives n (all (last_return l r ∷ [])) at [])) (through t t.end body.goes) (from-ends (then_way o (run taking.gives n (all (last_return l r ∷ [])) at [])) k) refl
+        done-ends t t.end (then_way o (run taking.gives n (all (last_return l r ∷ [])) at []))
+        (through t t.end body.goes) (from-ends
+        (then_way o (run taking.gives n (all (last_return l r ∷ [])) at [])) k) refl
       where
-        through : (t : Told) (e : End) → EndsAlike t e o → EndsAlike t e (then_way o (run taking.gives n (all (last_return l r ∷ [])) at []))
-        through t e q = Rattle.golf_meaning_statements.proofs.Flowing.ends-in t e (λ z. then_way z (run taking.gives n (all (last_return l r ∷ [])) at [])) o refl q
+        through : (t : Told) (e : End) → EndsAlike t e o
+            → EndsAlike t e (then_way o (run taking.gives n (all (last_return l r ∷ [])) at []))
+        through t e q = Rattle.golf_meaning_statements.proofs.Flowing.ends-in t e
+            (λ z. then_way z (run taking.gives n (all (last_return l r ∷ [])) at [])) o refl q
 
 pub functions-agree : FunctionsAgree
 functions-agree taking t gives names k f arguments answers enough never =
@@ -135,7 +157,9 @@ functions-agree taking t gives names k f arguments answers enough never =
     let means = body-means taking t f in
     let known = body-known names f arguments zs enough in
     both-ways taking.gives fn.body c w (Meaning taking t out k f arguments answers)
-    (λ n. body-done taking fn.body c w n (0 + size (all (body ∷ last ∷ []))) f.line r (in_order (map (step taking t) f.body) a s n (named s.locals arguments) w) (run taking.gives n body 0 [] c w) (0 + size body)
+    (λ n. body-done taking fn.body c w n (0 + size (all (body ∷ last ∷ []))) f.line r
+    (in_order (map (step taking t) f.body) a s n (named s.locals arguments) w) (run taking.gives n body 0 [] c w)
+    (0 + size body)
     (record {
       locals = s.locals;
       locals_after = (behind s ((body_part t f).walk s)).locals;
@@ -144,5 +168,6 @@ functions-agree taking t gives names k f arguments answers enough never =
       around = a;
       goes = means.goes a s n (named s.locals arguments) slots known (omega (arith, long, many, enough)) 0 [] [] w;
     })
-    (placed-follows taking.gives fn.body n (all (body ∷ last ∷ [])) 0 [] c w (stand-whole [] (placed (all (body ∷ last ∷ [])) 0 []) 0 refl)))
+    (placed-follows taking.gives fn.body n (all (body ∷ last ∷ [])) 0 [] c w
+    (stand-whole [] (placed (all (body ∷ last ∷ [])) 0 []) 0 refl)))
     never

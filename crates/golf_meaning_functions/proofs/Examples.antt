@@ -25,39 +25,71 @@ abbrev world : List Answer → World
 world answers = record { answers = answers; operations = [] }
 
 -- return 1 + 2
-three : exec [] (placed (all (op 1 (Instr.Int (pos 1)) ∷ op 1 (Instr.Int (pos 2)) ∷ op 1 Instr.Add ∷ op 1 Instr.ReturnValue ∷ [])) 0 []) 4 0 (frame [] []) (world []) ≡ record { operations = []; end = End.Halts (Halt.Returned (Some (Value.Int (pos 3)))) }
+three : exec [] (placed (all (op 1 (Instr.Int (pos 1)) ∷ op 1 (Instr.Int (pos 2)) ∷ op 1 Instr.Add
+    ∷ op 1 Instr.ReturnValue ∷ [])) 0 []) 4 0 (frame [] []) (world [])
+    ≡ record { operations = []; end = End.Halts (Halt.Returned (Some (Value.Int (pos 3)))) }
 three = refl
 
 -- with too few instructions
-short : exec [] (placed (all (op 1 (Instr.Int (pos 1)) ∷ op 1 (Instr.Int (pos 2)) ∷ op 1 Instr.Add ∷ op 1 Instr.ReturnValue ∷ [])) 0 []) 3 0 (frame [] []) (world []) ≡ record { operations = []; end = End.Short }
+short : exec [] (placed (all (op 1 (Instr.Int (pos 1)) ∷ op 1 (Instr.Int (pos 2)) ∷ op 1 Instr.Add
+    ∷ op 1 Instr.ReturnValue ∷ [])) 0 []) 3 0 (frame [] []) (world []) ≡ record { operations = []; end = End.Short }
 short = refl
 
 -- for { <-c }: each turn asks once, and waits if there is no answer
 receiving : Piece
-receiving = Piece.Block (Piece.Again (all (op 1 (Instr.Load 0) ∷ op 1 Instr.Receive ∷ op 1 Instr.Drop ∷ Piece.Exit 1 0 ∷ [])))
+receiving = Piece.Block (Piece.Again (all
+    (op 1 (Instr.Load 0) ∷ op 1 Instr.Receive ∷ op 1 Instr.Drop ∷ Piece.Exit 1 0 ∷ [])))
 
-asks_again : exec [] (placed receiving 0 []) 9 0 (frame (Value.Nil ∷ []) []) (world (record { clause = 0; values = Value.Int (pos 7) ∷ [] } ∷ []))
-    ≡ record { operations = record { instr = Instr.Receive; operands = Value.Nil ∷ [] } ∷ record { instr = Instr.Receive; operands = Value.Nil ∷ [] } ∷ []; end = End.Halts Halt.Waits }
+asks_again : exec [] (placed receiving 0 []) 9 0 (frame (Value.Nil ∷ []) [])
+    (world (record { clause = 0; values = Value.Int (pos 7) ∷ [] } ∷ []))
+    ≡ record {
+      operations = record { instr = Instr.Receive; operands = Value.Nil ∷ [] }
+          ∷ record { instr = Instr.Receive; operands = Value.Nil ∷ [] } ∷ [];
+      end = End.Halts Halt.Waits;
+    }
 unfolding receiving
 asks_again = refl
 
 -- return <-c + 1: a truth value that is received is unfit where it is added, and two values are no answer
 adding : Piece
-adding = all (op 1 (Instr.Load 0) ∷ op 1 Instr.Receive ∷ op 1 (Instr.Int (pos 1)) ∷ op 1 Instr.Add ∷ op 1 Instr.ReturnValue ∷ [])
+adding = all (op 1 (Instr.Load 0) ∷ op 1 Instr.Receive ∷ op 1 (Instr.Int (pos 1)) ∷ op 1 Instr.Add
+    ∷ op 1 Instr.ReturnValue ∷ [])
 
-unfit_where_used : exec [] (placed adding 0 []) 9 0 (frame (Value.Nil ∷ []) []) (world (record { clause = 0; values = Value.Bool true ∷ [] } ∷ []))
-    ≡ record { operations = record { instr = Instr.Receive; operands = Value.Nil ∷ [] } ∷ []; end = End.Halts (Halt.Unfit Misfit.OfKind) }
+unfit_where_used : exec [] (placed adding 0 []) 9 0 (frame (Value.Nil ∷ []) [])
+    (world (record { clause = 0; values = Value.Bool true ∷ [] } ∷ []))
+    ≡ record {
+      operations = record { instr = Instr.Receive; operands = Value.Nil ∷ [] } ∷ [];
+      end = End.Halts (Halt.Unfit Misfit.OfKind);
+    }
 unfolding adding
 unfit_where_used = refl
 
-too_many_values : exec [] (placed adding 0 []) 9 0 (frame (Value.Nil ∷ []) []) (world (record { clause = 0; values = Value.Int (pos 7) ∷ Value.Bool true ∷ [] } ∷ []))
-    ≡ record { operations = record { instr = Instr.Receive; operands = Value.Nil ∷ [] } ∷ []; end = End.Halts (Halt.Unfit Misfit.OfCount) }
+too_many_values : exec [] (placed adding 0 []) 9 0 (frame (Value.Nil ∷ []) [])
+    (world (record { clause = 0; values = Value.Int (pos 7) ∷ Value.Bool true ∷ [] } ∷ []))
+    ≡ record {
+      operations = record { instr = Instr.Receive; operands = Value.Nil ∷ [] } ∷ [];
+      end = End.Halts (Halt.Unfit Misfit.OfCount);
+    }
 unfolding adding
 too_many_values = refl
 
 -- a choice with the targets 5, 9 and, for `default`, 7: its places are 0, 2 and 1, and the answer names place 2
-chooses : exec [] (record { instr = Instr.Select (record { kind = CaseKind.Take; target = 2 } ∷ record { kind = CaseKind.Take; target = 4 } ∷ []) (Some 3); line = 1 } ∷ record { instr = Instr.Return; line = 1 } ∷ record { instr = Instr.Return; line = 1 } ∷ record { instr = Instr.Return; line = 1 } ∷ record { instr = Instr.ReturnValue; line = 1 } ∷ []) 2 0 (frame [] (Value.Nil ∷ Value.Nil ∷ [])) (world (record { clause = 2; values = Value.Int (pos 7) ∷ [] } ∷ []))
-    ≡ record { operations = record { instr = Instr.Select (record { kind = CaseKind.Take; target = 0 } ∷ record { kind = CaseKind.Take; target = 2 } ∷ []) (Some 1); operands = Value.Nil ∷ Value.Nil ∷ [] } ∷ []; end = End.Halts (Halt.Returned (Some (Value.Int (pos 7)))) }
+chooses : exec [] (record {
+  instr = Instr.Select
+      (record { kind = CaseKind.Take; target = 2 } ∷ record { kind = CaseKind.Take; target = 4 } ∷ []) (Some 3);
+  line =
+      1;
+} ∷ record { instr = Instr.Return; line = 1 } ∷ record { instr = Instr.Return; line = 1 }
+    ∷ record { instr = Instr.Return; line = 1 } ∷ record { instr = Instr.ReturnValue; line = 1 } ∷ []) 2 0
+    (frame [] (Value.Nil ∷ Value.Nil ∷ [])) (world (record { clause = 2; values = Value.Int (pos 7) ∷ [] } ∷ []))
+    ≡ record {
+      operations = record {
+        instr = Instr.Select
+            (record { kind = CaseKind.Take; target = 0 } ∷ record { kind = CaseKind.Take; target = 2 } ∷ []) (Some 1);
+        operands = Value.Nil ∷ Value.Nil ∷ [];
+      } ∷ [];
+      end = End.Halts (Halt.Returned (Some (Value.Int (pos 7))));
+    }
 chooses = refl
 
 -- 1 + 2, as its source says
@@ -69,12 +101,19 @@ module _ (taking : Taking) (t : Tables) (l : ℕ) (s : Scope) (env : Env) (w : W
   unfolding meant
   number-is digits = fold-roll-Expr Meant MeantPut (meant_step taking t) element_meant_step (F.Integer digits)
 
-  sum-is : (a b : Expr) → meant taking t (roll-Expr (F.Binary binary.Add a b)) ≡ meant_step taking t (F.Binary binary.Add (meant taking t a) (meant taking t b))
+  sum-is : (a b : Expr) → meant taking t (roll-Expr (F.Binary binary.Add a b)) ≡ meant_step taking t
+      (F.Binary binary.Add (meant taking t a) (meant taking t b))
   unfolding meant
   sum-is a b = fold-roll-Expr Meant MeantPut (meant_step taking t) element_meant_step (F.Binary binary.Add a b)
 
-  sums : ((meant taking t (roll-Expr (F.Binary binary.Add (roll-Expr (F.Integer (codes "1"))) (roll-Expr (F.Integer (codes "2")))))).does l s).value env w ≡ Part.Gives (Value.Int (pos 3) ∷ []) w
+  sums : ((meant taking t (roll-Expr (F.Binary binary.Add (roll-Expr (F.Integer (codes "1")))
+      (roll-Expr (F.Integer (codes "2")))))).does l s).value env w ≡ Part.Gives (Value.Int (pos 3) ∷ []) w
   sums =
-      ap (λ (m : Meant). (m.does l s).value env w) (sum-is (roll-Expr (F.Integer (codes "1"))) (roll-Expr (F.Integer (codes "2"))))
-      ∙ ap (λ (m : Meant). ((meant_step taking t (F.Binary binary.Add m (meant taking t (roll-Expr (F.Integer (codes "2")))))).does l s).value env w) (number-is (codes "1"))
-      ∙ ap (λ (m : Meant). ((meant_step taking t (F.Binary binary.Add (meant_step taking t (F.Integer (codes "1"))) m)).does l s).value env w) (number-is (codes "2"))
+      ap (λ (m : Meant). (m.does l s).value env w)
+      (sum-is (roll-Expr (F.Integer (codes "1"))) (roll-Expr (F.Integer (codes "2"))))
+      ∙ ap (λ (m : Meant). ((meant_step taking t
+      (F.Binary binary.Add m (meant taking t (roll-Expr (F.Integer (codes "2")))))).does l s).value env w)
+      (number-is (codes "1"))
+      ∙ ap (λ (m : Meant). ((meant_step taking t
+      (F.Binary binary.Add (meant_step taking t (F.Integer (codes "1"))) m)).does l s).value env w)
+      (number-is (codes "2"))

@@ -1,7 +1,8 @@
 -- The functions and methods of a file, by their numbers.
 -- For: `files_agree`, src/lib.rt
 -- By: induction over the list of declarations
-use Rattle.std.proofs.Common.{◌≡◌, ℕ, zero, suc, ◌+◌, ◌<◌, Bool, false, List, [], ◌∷◌, ◌++◌, length, map, Some, refl, sym, subst, slice_get, arith}
+use Rattle.std.proofs.Common.{◌≡◌, ℕ, zero, suc, ◌+◌, ◌<◌, Bool, false, List, [], ◌∷◌, ◌++◌, length, map, Some, refl}
+use Rattle.std.proofs.Common.{sym, subst, slice_get, arith}
 use Rattle.golf_syntax_trees.specs.declared.declarations.Func.{Func}
 use Rattle.golf_syntax_trees.specs.declared.declarations.Decl.{Decl}
 use Rattle.golf_syntax_trees.specs.declared.declarations.Decl.TheVariants as d
@@ -25,20 +26,46 @@ module _ (t : Tables) (gives : List Bool) (file : Scope) where
   pub record Placed (n : ℕ) (xs : List Decl) (k : ℕ) : Type 0 where
     pub function : Func
     pub functions : ℕ
-    pub code : slice_get (functions_from t gives file n xs).own k ≡ Some (function_of t gives file function (body_laid t file functions function).piece)
-    pub meaning : (taking : Taking) (arguments : List Value) (answers : List Answer) → Meaning taking t file functions function arguments answers ≡ meaning_at taking t file n xs k arguments answers
+    pub code : slice_get (functions_from t gives file n xs).own k ≡ Some
+        (function_of t gives file function (body_laid t file functions function).piece)
+    pub meaning : (taking : Taking) (arguments : List Value) (answers : List Answer)
+        → Meaning taking t file functions function arguments answers ≡ meaning_at taking t file n xs k arguments answers
 
   is-placed : (xs : List Decl) (n k : ℕ) → k < function_count xs → Placed n xs k
   is-placed [] n k h = absurd (omega (arith, h))
-  is-placed (d.Const l m c ∷ xs) n k h = let r = is-placed xs n k h in record { function = r.function; functions = r.functions; code = r.code; meaning = r.meaning }
-  is-placed (d.Var v ∷ xs) n k h = let r = is-placed xs n k h in record { function = r.function; functions = r.functions; code = r.code; meaning = r.meaning }
-  is-placed (d.Struct l m fs ∷ xs) n k h = let r = is-placed xs n k h in record { function = r.function; functions = r.functions; code = r.code; meaning = r.meaning }
-  is-placed (d.Func f ∷ xs) n zero h = record { function = f; functions = n; code = refl; meaning = λ taking arguments answers. refl }
+  is-placed (d.Const l m c ∷ xs) n k h = let r =
+      is-placed xs n k h in record {
+        function = r.function;
+        functions = r.functions;
+        code = r.code;
+        meaning = r.meaning;
+      }
+  is-placed (d.Var v ∷ xs) n k h = let r =
+      is-placed xs n k h in record {
+        function = r.function;
+        functions = r.functions;
+        code = r.code;
+        meaning = r.meaning;
+      }
+  is-placed (d.Struct l m fs ∷ xs) n k h = let r =
+      is-placed xs n k h in record {
+        function = r.function;
+        functions = r.functions;
+        code = r.code;
+        meaning = r.meaning;
+      }
+  is-placed (d.Func f ∷ xs) n zero h = record {
+    function = f;
+    functions = n;
+    code = refl;
+    meaning = λ taking arguments answers. refl;
+  }
   is-placed (d.Func f ∷ xs) n (suc k) h =
       let r = is-placed xs (n + length (body_laid t file n f).made) k (omega (arith, h)) in
       record { function = r.function; functions = r.functions; code = r.code; meaning = r.meaning }
 
-first-ones : (xs ys : List Function) (k : ℕ) (fn : Function) → slice_get xs k ≡ Some fn → slice_get (xs ++ ys) k ≡ Some fn
+first-ones : (xs ys : List Function) (k : ℕ) (fn : Function) → slice_get xs k ≡ Some fn
+    → slice_get (xs ++ ys) k ≡ Some fn
 first-ones [] ys k fn e = absurd (cc)
 first-ones (x ∷ xs) ys zero fn e = e
 first-ones (x ∷ xs) ys (suc k) fn e = first-ones xs ys k fn e
@@ -53,15 +80,27 @@ files-agree file (suc k) lt le =
     let out = outside names in
     let fs = functions_from t (giving names) out (length names.functions + 1) xs in
     let r = is-placed t (giving names) out xs (length names.functions + 1) k (omega (arith, le)) in
-    let fn = function_of t (giving names) out r.function (body_laid t out r.functions r.function).piece in
-    (fn, first-ones fs.own (map (made_function (giving names)) fs.made) k fn r.code, λ arguments answers enough ruled. agreeing file k t (giving names) r arguments answers enough ruled)
+    let fn = function_of t (giving names) out r.function (body_laid t out r.functions r.function).piece in (
+      fn,
+      first-ones fs.own (map (made_function (giving names)) fs.made) k fn r.code,
+      λ arguments answers enough ruled. agreeing file k t (giving names) r arguments answers enough ruled,
+    )
   where
-    agreeing : (file : File) (k : ℕ) (t : Tables) (gives : List Bool) (r : Placed t gives (outside (names_of file)) (length (names_of file).functions + 1) file.declarations k) (arguments : List Value) (answers : List Answer)
-        → let fn = function_of t gives (outside (names_of file)) r.function (body_laid t (outside (names_of file)) r.functions r.function).piece in
-        let told = meaning_at (taking_in file false) t (outside (names_of file)) (length (names_of file).functions + 1) file.declarations k arguments answers in length arguments ≡ fn.params → HasRules told → Agree told (CodeMeaning (giving_in file) fn arguments answers)
+    agreeing : (file : File) (k : ℕ) (t : Tables) (gives : List Bool)
+        (r : Placed t gives (outside (names_of file)) (length (names_of file).functions + 1) file.declarations k)
+        (arguments : List Value) (answers : List Answer)
+        → let fn = function_of t gives (outside (names_of file)) r.function
+        (body_laid t (outside (names_of file)) r.functions r.function).piece in
+        let told = meaning_at (taking_in file false) t (outside (names_of file))
+        (length (names_of file).functions + 1) file.declarations k arguments answers in length arguments ≡ fn.params
+        → HasRules told → Agree told (CodeMeaning (giving_in file) fn arguments answers)
     agreeing file k t gives r arguments answers enough ruled =
-        let fn = function_of t gives (outside (names_of file)) r.function (body_laid t (outside (names_of file)) r.functions r.function).piece in
-        let told = meaning_at (taking_in file false) t (outside (names_of file)) (length (names_of file).functions + 1) file.declarations k arguments answers in
+        let fn = function_of t gives (outside (names_of file)) r.function
+        (body_laid t (outside (names_of file)) r.functions r.function).piece in
+        let told = meaning_at (taking_in file false) t (outside (names_of file))
+        (length (names_of file).functions + 1) file.declarations k arguments answers in
         let own = Meaning (taking_in file false) t (outside (names_of file)) r.functions r.function arguments answers in
         let same : own ≡ told = r.meaning (taking_in file false) arguments answers in
-        subst (λ f. Agree f (CodeMeaning (giving_in file) fn arguments answers)) same (functions-agree (taking_in file false) t gives (names_of file) r.functions r.function arguments answers enough (subst HasRules (sym same) ruled))
+        subst (λ f. Agree f (CodeMeaning (giving_in file) fn arguments answers)) same
+        (functions-agree (taking_in file false) t gives
+        (names_of file) r.functions r.function arguments answers enough (subst HasRules (sym same) ruled))

@@ -16,11 +16,15 @@ use Rattle.golf_data.specs.declared.value.Value.{Value}
 use Rattle.golf_data.specs.declared.code.Instr.{Instr}
 use Rattle.golf_check_types.specs.declared.types.GoType.{GoType}
 use Rattle.golf_check_types.specs.declared.scopes.Scope.{Scope}
-use Rattle.golf_check_types.specs.Scopes.{meaning, type_name, value_name, call_name, package_name, member, is_here, is_reserved, may_be_declared}
+use Rattle.golf_check_types.specs.Scopes.{meaning, type_name, value_name, call_name, package_name, member, is_here}
+use Rattle.golf_check_types.specs.Scopes.{is_reserved, may_be_declared}
 use Rattle.golf_check_types.specs.Written.{named_base, made_base, sync_base}
-use Rattle.golf_check_types.specs.Expressions.{fmt_member, runtime_member, sync_member, condition_member, condition_method, mutex_method, group_method, read_method, write_method, field_type}
+use Rattle.golf_check_types.specs.Expressions.{fmt_member, runtime_member, sync_member, condition_member}
+use Rattle.golf_check_types.specs.Expressions.{condition_method, mutex_method, group_method, read_method, write_method}
+use Rattle.golf_check_types.specs.Expressions.{field_type}
 use Rattle.golf_check_types.specs.Statements as V
-use Rattle.golf_check_types.specs.Statements.{behind, assigned_name, kept_faults, pair_differs, put_in_faults, range_names_differ}
+use Rattle.golf_check_types.specs.Statements.{behind, assigned_name, kept_faults, pair_differs, put_in_faults}
+use Rattle.golf_check_types.specs.Statements.{range_names_differ}
 use Rattle.golf_check_types.specs.Files.{outside, result_type, all_typed_names, receiver_walk, parameter_walk}
 use Rattle.golf_code_of.specs.Table.{text_number}
 use Rattle.golf_code_of.proofs.Examples.Writing as w
@@ -31,7 +35,8 @@ use Rattle.golf_meaning_statements.specs.Statements.{step}
 use Rattle.golf_meaning_functions.specs.Functions.{named, begins, told_by, Meaning}
 use Rattle.golf_meaning_functions.specs.Files.{MeaningOf}
 use Rattle.golf_meaning_functions.proofs.Samples as s
-use Rattle.golf_meaning_functions.proofs.Samples.{strictly, Sample, StmtSample, trees, values, all-same, name, integer, binary_of, does, returns}
+use Rattle.golf_meaning_functions.proofs.Samples.{strictly, Sample, StmtSample, trees, values, all-same, name, integer}
+use Rattle.golf_meaning_functions.proofs.Samples.{binary_of, does, returns}
 use Rattle.golf_meaning_functions.proofs.Bodies.{ref, int, shown, answer, ends, gives}
 
 -- How a function is written: with what its types are and its statements mean.
@@ -55,7 +60,8 @@ typed xs = flat_map (λ (x : FieldSample). with_type (x.first ∷ x.more) (x.of_
 typed-same : (xs : List FieldSample) → all_typed_names (outside file) (fields xs) ≡ typed xs
 typed-same [] = refl
 typed-same (x ∷ xs) =
-    ap (λ y. with_type (x.first ∷ x.more) (y 0 (outside file)).type ++ all_typed_names (outside file) (fields xs)) x.of_type.same
+    ap (λ y. with_type (x.first ∷ x.more) (y 0 (outside file)).type ++ all_typed_names (outside file) (fields xs))
+    x.of_type.same
     ∙ ap (λ ys. with_type (x.first ∷ x.more) (x.of_type.value 0 (outside file)).type ++ ys) (typed-same xs)
 
 abbrev result_tree : Option WrittenType → Option TypeExpr
@@ -78,7 +84,14 @@ pub record FuncSample : Type 0 where
   pub body : List StmtSample
 
 abbrev func : FuncSample → Func
-func x = record { line = 1; receiver = x.receiver; name = x.name; parameters = fields x.parameters; result = result_tree x.result; body = trees x.body }
+func x = record {
+  line = 1;
+  receiver = x.receiver;
+  name = x.name;
+  parameters = fields x.parameters;
+  result = result_tree x.result;
+  body = trees x.body;
+}
 
 -- the scope of a body, from its receiver, the type of its result, and its parameters with their types
 abbrev scope_of : Option Receiver → Option GoType → List (List ℕ × Option GoType) → Scope
@@ -87,18 +100,24 @@ scope_of r t ps =
     let u = behind s (receiver_walk 1 (outside file) r s) in
     behind u (V.in_order (map (parameter_walk 1) ps) u)
 
-abbrev told_of : Option Receiver → Option GoType → List (List ℕ × Option GoType) → List Step → List Value → List Answer → ℕ → Told
+abbrev told_of : Option Receiver → Option GoType → List (List ℕ × Option GoType) → List Step → List Value → List Answer
+    → ℕ → Told
 told_of r t ps xs arguments answers n =
-    told_by t (in_order xs (record { breaks = 0; continues = 0; functions = 3 }) (scope_of r t ps) n (named (scope_of r t ps).locals arguments) (begins answers))
+    told_by t (in_order xs (record { breaks = 0; continues = 0; functions = 3 }) (scope_of r t ps) n
+    (named (scope_of r t ps).locals arguments) (begins answers))
 
 -- a function of the file, with three functions before the first one that is made
 abbrev means : FuncSample → List Value → List Answer → ℕ → Told
 means x arguments answers n = Meaning strictly tables (outside file) 3 (func x) arguments answers n
 
-works_out : (x : FuncSample) (arguments : List Value) (answers : List Answer) (n : ℕ) → means x arguments answers n ≡ told_of x.receiver (result_of x.result) (typed x.parameters) (values x.body) arguments answers n
+works_out : (x : FuncSample) (arguments : List Value) (answers : List Answer) (n : ℕ)
+    → means x arguments answers n ≡ told_of x.receiver (result_of x.result) (typed x.parameters)
+    (values x.body) arguments answers n
 works_out x arguments answers n =
-    ap (λ t. told_of x.receiver t (all_typed_names (outside file) (fields x.parameters)) (map (step strictly tables) (trees x.body)) arguments answers n) (result-same x.result)
-    ∙ ap (λ ps. told_of x.receiver (result_of x.result) ps (map (step strictly tables) (trees x.body)) arguments answers n) (typed-same x.parameters)
+    ap (λ t. told_of x.receiver t (all_typed_names (outside file) (fields x.parameters))
+    (map (step strictly tables) (trees x.body)) arguments answers n) (result-same x.result)
+    ∙ ap (λ ps. told_of x.receiver (result_of x.result) ps
+    (map (step strictly tables) (trees x.body)) arguments answers n) (typed-same x.parameters)
     ∙ ap (λ ys. told_of x.receiver (result_of x.result) (typed x.parameters) ys arguments answers n) (all-same x.body)
 
 abbrev k : Sample
@@ -115,10 +134,12 @@ abbrev add : FuncSample
 add = record {
   receiver = None;
   name = codes "add";
-  parameters = record { first = codes "d"; more = []; of_type = w.chan_of (w.named (codes "int")) } ∷ record { first = codes "k"; more = codes "m" ∷ []; of_type = w.named (codes "int") } ∷ [];
+  parameters = record { first = codes "d"; more = []; of_type = w.chan_of (w.named (codes "int")) }
+      ∷ record { first = codes "k"; more = codes "m" ∷ []; of_type = w.named (codes "int") } ∷ [];
   result = Some (w.named (codes "int"));
   body =
-      s.ranges_over (range.One (codes "v")) (name (codes "d")) (does (s.update_by update.Add k (binary_of binary.Multiply (name (codes "v")) (name (codes "m")))) ∷ [])
+      s.ranges_over (range.One (codes "v")) (name (codes "d"))
+      (does (s.update_by update.Add k (binary_of binary.Multiply (name (codes "v")) (name (codes "m")))) ∷ [])
       ∷ returns k
       ∷ [];
 }
@@ -127,16 +148,31 @@ abbrev received : Value → Value → Answer
 received v ok = answer (v ∷ ok ∷ [])
 
 -- two values and then no more: 1 + 2 * 10 + 3 * 10, with two turns and the one that ends the loop
-pub adds : means add (ref 0 ∷ int 1 ∷ int 10 ∷ []) (received (int 2) (Value.Bool true) ∷ received (int 3) (Value.Bool true) ∷ received (int 0) (Value.Bool false) ∷ []) 3
-    ≡ gives (shown Instr.ReceiveOk (ref 0 ∷ []) ∷ shown Instr.ReceiveOk (ref 0 ∷ []) ∷ shown Instr.ReceiveOk (ref 0 ∷ []) ∷ []) (int 51)
-unfolding meaning type_name value_name call_name package_name text_number named_base made_base sync_base member fmt_member runtime_member sync_member condition_member condition_method mutex_method group_method read_method write_method field_type is_here is_reserved may_be_declared assigned_name kept_faults pair_differs put_in_faults range_names_differ
-adds = works_out add (ref 0 ∷ int 1 ∷ int 10 ∷ []) (received (int 2) (Value.Bool true) ∷ received (int 3) (Value.Bool true) ∷ received (int 0) (Value.Bool false) ∷ []) 3
+pub adds : means add (ref 0 ∷ int 1 ∷ int 10 ∷ [])
+    (received (int 2) (Value.Bool true) ∷ received (int 3) (Value.Bool true) ∷ received (int 0) (Value.Bool false) ∷ [])
+    3
+    ≡ gives (shown Instr.ReceiveOk (ref 0 ∷ []) ∷ shown Instr.ReceiveOk (ref 0 ∷ [])
+    ∷ shown Instr.ReceiveOk (ref 0 ∷ []) ∷ []) (int 51)
+unfolding meaning type_name value_name call_name package_name text_number named_base made_base sync_base member
+    fmt_member runtime_member sync_member condition_member condition_method mutex_method group_method read_method
+    write_method field_type is_here is_reserved may_be_declared assigned_name kept_faults pair_differs put_in_faults
+    range_names_differ
+adds = works_out add (ref 0 ∷ int 1 ∷ int 10 ∷ [])
+    (received (int 2) (Value.Bool true) ∷ received (int 3) (Value.Bool true) ∷ received (int 0) (Value.Bool false) ∷ [])
+    3
 
 -- the same with two turns: it is short
-pub adds_too_often : means add (ref 0 ∷ int 1 ∷ int 10 ∷ []) (received (int 2) (Value.Bool true) ∷ received (int 3) (Value.Bool true) ∷ received (int 0) (Value.Bool false) ∷ []) 2
+pub adds_too_often : means add (ref 0 ∷ int 1 ∷ int 10 ∷ [])
+    (received (int 2) (Value.Bool true) ∷ received (int 3) (Value.Bool true) ∷ received (int 0) (Value.Bool false) ∷ [])
+    2
     ≡ ends (shown Instr.ReceiveOk (ref 0 ∷ []) ∷ shown Instr.ReceiveOk (ref 0 ∷ []) ∷ []) End.Short
-unfolding meaning type_name value_name call_name package_name text_number named_base made_base sync_base member fmt_member runtime_member sync_member condition_member condition_method mutex_method group_method read_method write_method field_type is_here is_reserved may_be_declared assigned_name kept_faults pair_differs put_in_faults range_names_differ
-adds_too_often = works_out add (ref 0 ∷ int 1 ∷ int 10 ∷ []) (received (int 2) (Value.Bool true) ∷ received (int 3) (Value.Bool true) ∷ received (int 0) (Value.Bool false) ∷ []) 2
+unfolding meaning type_name value_name call_name package_name text_number named_base made_base sync_base member
+    fmt_member runtime_member sync_member condition_member condition_method mutex_method group_method read_method
+    write_method field_type is_here is_reserved may_be_declared assigned_name kept_faults pair_differs put_in_faults
+    range_names_differ
+adds_too_often = works_out add (ref 0 ∷ int 1 ∷ int 10 ∷ [])
+    (received (int 2) (Value.Bool true) ∷ received (int 3) (Value.Bool true) ∷ received (int 0) (Value.Bool false) ∷ [])
+    2
 
 -- func (t *T) m(a int) { t.n += a; if a < 1 { return }; defer t.m(a - 1) }
 abbrev down : FuncSample
@@ -154,13 +190,21 @@ down = record {
 
 -- the receiver is the first argument, and nothing is given
 pub defers_itself : means down (ref 4 ∷ int 3 ∷ []) (answer (int 10 ∷ []) ∷ answer [] ∷ answer [] ∷ []) 0
-    ≡ ends (shown (Instr.Field 0) (ref 4 ∷ []) ∷ shown (Instr.SetField 0) (ref 4 ∷ int 13 ∷ []) ∷ shown (Instr.Defer 2 2) (ref 4 ∷ int 2 ∷ []) ∷ []) (End.Halts (Halt.Returned None))
-unfolding meaning type_name value_name call_name package_name text_number named_base made_base sync_base member fmt_member runtime_member sync_member condition_member condition_method mutex_method group_method read_method write_method field_type is_here is_reserved may_be_declared assigned_name kept_faults pair_differs put_in_faults range_names_differ
+    ≡ ends (shown (Instr.Field 0) (ref 4 ∷ []) ∷ shown (Instr.SetField 0) (ref 4 ∷ int 13 ∷ [])
+    ∷ shown (Instr.Defer 2 2) (ref 4 ∷ int 2 ∷ []) ∷ []) (End.Halts (Halt.Returned None))
+unfolding meaning type_name value_name call_name package_name text_number named_base made_base sync_base member
+    fmt_member runtime_member sync_member condition_member condition_method mutex_method group_method read_method
+    write_method field_type is_here is_reserved may_be_declared assigned_name kept_faults pair_differs put_in_faults
+    range_names_differ
 defers_itself = works_out down (ref 4 ∷ int 3 ∷ []) (answer (int 10 ∷ []) ∷ answer [] ∷ answer [] ∷ []) 0
 
 pub defers_no_more : means down (ref 4 ∷ int 0 ∷ []) (answer (int 10 ∷ []) ∷ answer [] ∷ []) 0
-    ≡ ends (shown (Instr.Field 0) (ref 4 ∷ []) ∷ shown (Instr.SetField 0) (ref 4 ∷ int 10 ∷ []) ∷ []) (End.Halts (Halt.Returned None))
-unfolding meaning type_name value_name call_name package_name text_number named_base made_base sync_base member fmt_member runtime_member sync_member condition_member condition_method mutex_method group_method read_method write_method field_type is_here is_reserved may_be_declared assigned_name kept_faults pair_differs put_in_faults range_names_differ
+    ≡ ends (shown (Instr.Field 0) (ref 4 ∷ []) ∷ shown (Instr.SetField 0) (ref 4 ∷ int 10 ∷ []) ∷ [])
+    (End.Halts (Halt.Returned None))
+unfolding meaning type_name value_name call_name package_name text_number named_base made_base sync_base member
+    fmt_member runtime_member sync_member condition_member condition_method mutex_method group_method read_method
+    write_method field_type is_here is_reserved may_be_declared assigned_name kept_faults pair_differs put_in_faults
+    range_names_differ
 defers_no_more = works_out down (ref 4 ∷ int 0 ∷ []) (answer (int 10 ∷ []) ∷ answer [] ∷ []) 0
 
 -- package main

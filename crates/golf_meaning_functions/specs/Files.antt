@@ -1,4 +1,5 @@
--- What the functions and methods of a file do, by their numbers: they have the numbers from 1 on, in source order (profile).
+-- What the functions and methods of a file do, by their numbers: they have the numbers from 1 on, in source order
+-- (profile).
 use Rattle.std.specs.Prelude.{ℕ, zero, suc, ◌+◌, Bool, true, false, is_some, List, [], ◌∷◌, ◌++◌, length, map}
 use Rattle.golf_syntax_trees.specs.declared.declarations.Decl.{Decl}
 use Rattle.golf_syntax_trees.specs.declared.declarations.Decl.TheVariants as d
@@ -23,9 +24,12 @@ function_count (x ∷ xs) = function_count xs
 -- the meaning of the function at this place among these, with so many functions before the next one that is made
 abbrev pub meaning_at : Taking → Tables → Scope → ℕ → List Decl → ℕ → List Value → List Answer → ℕ → Told
 meaning_at taking t file functions [] k arguments answers n = halted (Halt.Unfit Misfit.OfRule) []
-meaning_at taking t file functions (d.Func f ∷ xs) zero arguments answers n = Meaning taking t file functions f arguments answers n
-meaning_at taking t file functions (d.Func f ∷ xs) (suc k) arguments answers n = meaning_at taking t file (functions + length (body_laid t file functions f).made) xs k arguments answers n
-meaning_at taking t file functions (x ∷ xs) k arguments answers n = meaning_at taking t file functions xs k arguments answers n
+meaning_at taking t file functions (d.Func f ∷ xs) zero arguments answers n =
+    Meaning taking t file functions f arguments answers n
+meaning_at taking t file functions (d.Func f ∷ xs) (suc k) arguments answers n =
+    meaning_at taking t file (functions + length (body_laid t file functions f).made) xs k arguments answers n
+meaning_at taking t file functions (x ∷ xs) k arguments answers n =
+    meaning_at taking t file functions xs k arguments answers n
 
 -- the names of a file
 abbrev pub names_of : File → FileScope
@@ -39,11 +43,13 @@ results_in file (x ∷ xs) = results_in file xs
 
 -- the functions that are made for `go` and `defer`
 abbrev pub made_in : File → List Making
-made_in file = (functions_from (tables_of file.declarations) (giving (names_of file)) (outside (names_of file)) (length (names_of file).functions + 1) file.declarations).made
+made_in file = (functions_from (tables_of file.declarations) (giving (names_of file)) (outside (names_of file))
+    (length (names_of file).functions + 1) file.declarations).made
 
 -- Whether each function of the code of a file gives a value: function 0 does not, and none that is made does.
 abbrev pub giving_in : File → List Bool
-giving_in file = false ∷ (results_in (outside (names_of file)) file.declarations ++ map (λ (m : Making). false) (made_in file))
+giving_in file = false ∷ (results_in (outside (names_of file)) file.declarations
+    ++ map (λ (m : Making). false) (made_in file))
 
 abbrev pub taking_in : File → Bool → Taking
 taking_in file strict = record { gives = giving_in file; strict = strict }
@@ -51,7 +57,9 @@ taking_in file strict = record { gives = giving_in file; strict = strict }
 -- the meaning of the function of this number, from 1 on
 abbrev pub meaning_of : Bool → File → ℕ → List Value → List Answer → ℕ → Told
 meaning_of strict file zero arguments answers n = halted (Halt.Unfit Misfit.OfRule) []
-meaning_of strict file (suc k) arguments answers n = meaning_at (taking_in file strict) (tables_of file.declarations) (outside (names_of file)) (length (names_of file).functions + 1) file.declarations k arguments answers n
+meaning_of strict file (suc k) arguments answers n =
+    meaning_at (taking_in file strict) (tables_of file.declarations) (outside (names_of file))
+    (length (names_of file).functions + 1) file.declarations k arguments answers n
 
 -- The kinds of answers are not looked at: a value of another kind is unfit where it is used.
 abbrev pub MeaningOf : File → ℕ → List Value → List Answer → ℕ → Told

@@ -38,10 +38,13 @@ told_by r (Flow.Goes Course.Continues env w) = halted (Halt.Unfit Misfit.OfRule)
 told_by r (Flow.Goes Course.Skips env w) = halted (Halt.Unfit Misfit.OfRule) w.operations
 told_by r (Flow.Ends t) = t
 
--- The meaning of a function of a file, with so many functions before the next one that is made: each loop begins at most n turns, and a look at which its condition is false is a turn.
+-- The meaning of a function of a file, with so many functions before the next one that is made: each loop begins at
+-- most n turns, and a look at which its condition is false is a turn.
 abbrev pub Meaning : Taking → Tables → Scope → ℕ → Func → List Value → List Answer → ℕ → Told
 Meaning taking t file functions f arguments answers n =
-    told_by (result_type file f.result) (in_order (map (step taking t) f.body) (record { breaks = 0; continues = 0; functions = functions }) (body_scope file f) n (named (body_scope file f).locals arguments) (begins answers))
+    told_by (result_type file f.result) (in_order (map (step taking t) f.body)
+    (record { breaks = 0; continues = 0; functions = functions }) (body_scope file f) n
+    (named (body_scope file f).locals arguments) (begins answers))
 
 -- the arguments stand in the first slots, and the others hold 0 (profile); no slot is cleared
 abbrev pub filled : Function → List Value → List Value
@@ -49,4 +52,5 @@ filled fn arguments = arguments ++ replicate (fn.slots - length arguments) (Valu
 
 -- The meaning of flat code: at most n instructions of a function, if these functions give a value.
 abbrev pub CodeMeaning : List Bool → Function → List Value → List Answer → ℕ → Told
-CodeMeaning gives fn arguments answers n = exec gives fn.body n 0 (record { slots = filled fn arguments; operands = [] }) (begins answers)
+CodeMeaning gives fn arguments answers n =
+    exec gives fn.body n 0 (record { slots = filled fn arguments; operands = [] }) (begins answers)

@@ -14,13 +14,20 @@ use Rattle.golf_meaning_source.specs.Operations.{Taking}
 use Rattle.golf_meaning_functions.specs.Functions.{Meaning, CodeMeaning}
 use Rattle.golf_meaning_functions.specs.Files.{function_count, giving_in, MeaningOf}
 
--- with as many arguments as it has parameters, and for all answers, the code of a function and its source agree, both ways, if a rule fits wherever the source comes to
+-- with as many arguments as it has parameters, and for all answers, the code of a function and its source agree, both
+-- ways, if a rule fits wherever the source comes to
 abbrev pub FunctionsAgree : Type 0
-FunctionsAgree = (taking : Taking) (t : Tables) (gives : List Bool) (names : FileScope) (k : ℕ) (f : Func) (arguments : List Value) (answers : List Answer)
-    → let fn = function_of t gives (outside names) f (body_laid t (outside names) k f).piece in length arguments ≡ fn.params → HasRules (Meaning taking t (outside names) k f arguments answers)
+FunctionsAgree = (taking : Taking) (t : Tables) (gives : List Bool) (names : FileScope) (k : ℕ) (f : Func)
+    (arguments : List Value) (answers : List Answer)
+    → let fn = function_of t gives (outside names) f (body_laid t (outside names) k f).piece in length arguments
+    ≡ fn.params → HasRules (Meaning taking t (outside names) k f arguments answers)
     → Agree (Meaning taking t (outside names) k f arguments answers) (CodeMeaning taking.gives fn arguments answers)
 
--- for each number from 1 to that of the functions and methods of a file, its code has a function, and that agrees with the source
+-- for each number from 1 to that of the functions and methods of a file, its code has a function, and that agrees with
+-- the source
 abbrev pub FilesAgree : Type 0
 FilesAgree = (file : File) (k : ℕ) → 0 < k → k ≤ function_count file.declarations
-    → (fn : Function) × (slice_get (CodeOf file).functions k ≡ Some fn) × ((arguments : List Value) (answers : List Answer) → length arguments ≡ fn.params → HasRules (MeaningOf file k arguments answers) → Agree (MeaningOf file k arguments answers) (CodeMeaning (giving_in file) fn arguments answers))
+    → (fn : Function) × (slice_get (CodeOf file).functions k ≡ Some fn)
+    × ((arguments : List Value) (answers : List Answer) → length arguments ≡ fn.params
+    → HasRules (MeaningOf file k arguments answers)
+    → Agree (MeaningOf file k arguments answers) (CodeMeaning (giving_in file) fn arguments answers))

@@ -16,19 +16,26 @@ use Rattle.golf_meaning_turns.specs.Life.{Now, Life, HasShown}
 use Rattle.golf_meaning_turns.proofs.Living.{lives-mean}
 use Rattle.golf_meaning_lives.specs.Laws.{SourceMeans, LivesMeanSource}
 
-module _ (file : File) (k : ℕ) (fn : Function) (arguments : List Value) (shown : List Operation) (got : List Answer) (agree : Agree (MeaningOf file k arguments got) (CodeMeaning (giving_in file) fn arguments got)) where
-  source-means : (now : Now) → HasShown (giving_in file) fn arguments shown got now → SourceMeans file k arguments shown got now
-  source-means (Now.Stands at c) h = let b = agree.back h.0 in (b.0, subst (λ (t : Told). Within t (MeaningOf file k arguments got b.0)) h.1 b.1)
-  source-means (Now.Asks at c before) h = let b = agree.back h.0 in (b.0, subst (λ (t : Told). Within t (MeaningOf file k arguments got b.0)) h.1 b.1)
-  source-means (Now.Halted halt) h = let b = agree.back h.0 in (b.0, subst (λ (t : Told). Within t (MeaningOf file k arguments got b.0)) h.1 b.1)
+module _ (file : File) (k : ℕ) (fn : Function) (arguments : List Value) (shown : List Operation) (got : List Answer)
+    (agree : Agree (MeaningOf file k arguments got) (CodeMeaning (giving_in file) fn arguments got)) where
+  source-means : (now : Now) → HasShown (giving_in file) fn arguments shown got now
+      → SourceMeans file k arguments shown got now
+  source-means (Now.Stands at c) h = let b =
+      agree.back h.0 in (b.0, subst (λ (t : Told). Within t (MeaningOf file k arguments got b.0)) h.1 b.1)
+  source-means (Now.Asks at c before) h = let b =
+      agree.back h.0 in (b.0, subst (λ (t : Told). Within t (MeaningOf file k arguments got b.0)) h.1 b.1)
+  source-means (Now.Halted halt) h = let b =
+      agree.back h.0 in (b.0, subst (λ (t : Told). Within t (MeaningOf file k arguments got b.0)) h.1 b.1)
 
 -- a call has as many arguments as its function has parameters
-counted : (fn : Function) (shaping : Option Shaping) (arguments : List Value) (shown : List Operation) (got : List Answer) (now : Now) → Life fn shaping arguments shown got now → length arguments ≡ fn.params
+counted : (fn : Function) (shaping : Option Shaping) (arguments : List Value) (shown : List Operation)
+    (got : List Answer) (now : Now) → Life fn shaping arguments shown got now → length arguments ≡ fn.params
 counted fn shaping arguments shown got now (Life.Begins e) = e
 counted fn shaping arguments shown got now (Life.Turns l to d life is step) = counted fn shaping arguments _ _ _ life
 counted fn shaping arguments shown got now (Life.Clears slots life alike) = counted fn shaping arguments _ _ _ life
 counted fn shaping arguments shown got now (Life.Shows l o life good is step) = counted fn shaping arguments _ _ _ life
-counted fn shaping arguments shown got now (Life.Answered l a to d life good is step) = counted fn shaping arguments _ _ _ life
+counted fn shaping arguments shown got now (Life.Answered l a to d life good is step) =
+    counted fn shaping arguments _ _ _ life
 counted fn shaping arguments shown got now (Life.Halts l h life is step) = counted fn shaping arguments _ _ _ life
 
 same-function : (f g : Function) (m : Option Function) → m ≡ Some f → m ≡ Some g → f ≡ g
@@ -38,5 +45,9 @@ pub lives-mean-source : LivesMeanSource
 lives-mean-source file k fn shaping arguments shown got now lt le is gives ruled life =
     let r = files-agree file k lt le in
     let same : r.0 ≡ fn = same-function r.0 fn (slice_get (CodeOf file).functions k) r.1 is in
-    let agree = subst (λ (f : Function). length arguments ≡ f.params → HasRules (MeaningOf file k arguments got) → Agree (MeaningOf file k arguments got) (CodeMeaning (giving_in file) f arguments got)) same (r.2 arguments got) (counted fn shaping arguments shown got now life) ruled in
-    source-means file k fn arguments shown got agree now (subst (λ (bs : List Bool). HasShown bs fn arguments shown got now) gives (lives-mean fn shaping arguments shown got now life))
+    let agree = subst (λ (f : Function). length arguments ≡ f.params → HasRules (MeaningOf file k arguments got)
+    → Agree (MeaningOf file k arguments got) (CodeMeaning (giving_in file) f arguments got)) same
+    (r.2 arguments got) (counted fn shaping arguments shown got now life) ruled in
+    source-means file k fn arguments shown got agree now
+    (subst (λ (bs : List Bool). HasShown bs fn arguments shown got now) gives
+    (lives-mean fn shaping arguments shown got now life))

@@ -1,7 +1,8 @@
 -- The code of a program's functions agrees with their sources, for all answers.
 -- For: `ProgramsAgree`, golf_meaning_runs/specs/Agreeing.antt; the law `programs_agree`, src/lib.rt.
 -- By: cases of a halt; induction over lists of parameters and of declarations.
-use Rattle.std.proofs.Common.{◌≡◌, ℕ, zero, suc, ◌<◌, false, List, [], ◌∷◌, ◌++◌, length, map, Option, Some, refl, ap, sym, ◌∙◌, subst, slice_get, arith}
+use Rattle.std.proofs.Common.{◌≡◌, ℕ, zero, suc, ◌<◌, false, List, [], ◌∷◌, ◌++◌, length, map, Option, Some, refl, ap}
+use Rattle.std.proofs.Common.{sym, ◌∙◌, subst, slice_get, arith}
 use Rattle.std.proofs.lemmas.Bool.{false≢true}
 use Rattle.std.proofs.lemmas.List.{length-map}
 use Rattle.golf_theory.specs.Membership.{Every}
@@ -19,7 +20,7 @@ use Rattle.golf_code_shapes.specs.Types.{known_type}
 use Rattle.golf_code_shapes.specs.Sound.{IsKnown}
 use Rattle.golf_code_shapes.specs.FunctionLaws.{function_signature, made_signature}
 use Rattle.golf_code_shapes.specs.FileLaws.{own_signatures, made_in, scope_of}
-use Rattle.golf_code_shapes_globals.proofs.Globals.{names-fit}
+use Rattle.golf_code_shapes.proofs.Globals.{names-fit}
 use Rattle.golf_meaning_flat.specs.Worlds.{Answer, Misfit, Halt, End}
 use Rattle.golf_meaning_flat.specs.Laws.{IsRuled, HasRules}
 use Rattle.golf_meaning_functions.specs.Files.{function_count, taking_in, MeaningOf}
@@ -28,7 +29,7 @@ use Rattle.golf_meaning_typing.specs.Sound.{Held}
 use Rattle.golf_meaning_typing.specs.Flowing.{EndSound}
 use Rattle.golf_meaning_typing.specs.Laws.{ArgumentsFit}
 use Rattle.golf_meaning_typing.specs.FileLaws.{parameters_at}
-use Rattle.golf_meaning_typed_files.proofs.Files.{files-sound}
+use Rattle.golf_meaning_typing.proofs.WholeFiles.{files-sound}
 use Rattle.golf_meaning_runs.specs.Agreeing.{ProgramsAgree}
 use Rattle.golf_meaning_runs.proofs.Files.{files-have-parameters}
 use Rattle.golf_meaning_runs.proofs.Arguments.{parameters-known, signature-at}
@@ -46,16 +47,19 @@ ruled End.Short h = tt
 
 -- if kinds are not looked at, each value may be an argument of a known type
 held-any : (file : File) (o : Option GoType) (v : Value) → IsKnown o → Held (taking_in file false) o v
-held-any file o v known = subst (λ z. Held (taking_in file false) z v) (sym known.1) (λ strict. absurd (false≢true strict))
+held-any file o v known = subst (λ z. Held (taking_in file false) z v) (sym known.1)
+    (λ strict. absurd (false≢true strict))
 
-any-fit : (file : File) (os : List (Option GoType)) (vs : List Value) → Every IsKnown os → length vs ≡ length os → ArgumentsFit (taking_in file false) os vs
+any-fit : (file : File) (os : List (Option GoType)) (vs : List Value) → Every IsKnown os → length vs ≡ length os
+    → ArgumentsFit (taking_in file false) os vs
 any-fit file [] [] known e = tt
 any-fit file [] (v ∷ vs) known e = absurd (omega (arith, e))
 any-fit file (o ∷ os) [] known e = absurd (omega (arith, e))
 any-fit file (o ∷ os) (v ∷ vs) known e = (held-any file o v known.0, any-fit file os vs known.1 (omega (arith, e)))
 
 -- the function at a place among the declarations has a signature
-signed : (t : Tables) (names : FileScope) (xs : List Decl) (more : List Signature) (k : ℕ) → k < function_count xs → (sig : Signature) × (slice_get (own_signatures t (outside names) xs ++ more) k ≡ Some sig)
+signed : (t : Tables) (names : FileScope) (xs : List Decl) (more : List Signature) (k : ℕ) → k < function_count xs
+    → (sig : Signature) × (slice_get (own_signatures t (outside names) xs ++ more) k ≡ Some sig)
 signed t names [] more k less = absurd (omega (arith, less))
 signed t names (d.Func f ∷ xs) more zero less = (function_signature t (outside names) f, refl)
 signed t names (d.Func f ∷ xs) more (suc k) less = signed t names xs more k (omega (arith, less))
@@ -72,9 +76,14 @@ programs-agree file program (suc k) lt le =
     let less : k < function_count xs = omega (arith, le) in
     let agree = files-agree file (suc k) lt le in
     let sig = signed (tables_of xs) names xs (map made_signature (made_in (tables_of xs) names xs)) k less in
-    let typed = signature-at (tables_of xs) names xs (map made_signature (made_in (tables_of xs) names xs)) k sig.0 less sig.1 in
-    let many = files-have-parameters file [] (suc k) agree.0 sig.0 agree.1 sig.1 ∙ ap length typed ∙ length-map own known_type in
+    let typed = signature-at (tables_of xs) names xs
+    (map made_signature (made_in (tables_of xs) names xs)) k sig.0 less sig.1 in
+    let many = files-have-parameters file [] (suc k) agree.0 sig.0 agree.1 sig.1 ∙ ap length typed
+    ∙ length-map own known_type in
     let known = parameters-known names 0 xs k (names-fit file program.typed).declarations in
-    let rules : (arguments : List Value) (answers : List Answer) → length arguments ≡ agree.0.params → HasRules (MeaningOf file (suc k) arguments answers) =
-    λ arguments answers long n. ruled (MeaningOf file (suc k) arguments answers n).end (files-sound file program.typed program.good false k arguments answers n less (any-fit file own arguments known (long ∙ many))) in
+    let rules : (arguments : List Value) (answers : List Answer) → length arguments ≡ agree.0.params
+    → HasRules (MeaningOf file (suc k) arguments answers) =
+    λ arguments answers long n. ruled (MeaningOf file (suc k) arguments answers n).end
+    (files-sound file program.typed program.good false k arguments answers n less
+    (any-fit file own arguments known (long ∙ many))) in
     (agree.0, agree.1, λ arguments answers long. agree.2 arguments answers long (rules arguments answers long))

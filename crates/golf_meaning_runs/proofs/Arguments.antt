@@ -1,7 +1,8 @@
 -- The arguments of a call are of the types of receiver and parameters in the source.
 -- For: `ArgumentsFit`, golf_meaning_typing/specs/Laws.antt; `IsMeant`, golf_meaning_runs/specs/Laws.antt.
 -- By: cases of a value and its type; induction over lists of parameters and of declarations.
-use Rattle.std.proofs.Common.{◌≡◌, ℕ, zero, suc, ◌+◌, ◌<◌, true, List, [], ◌∷◌, ◌++◌, map, Option, Some, None, refl, ap, sym, subst, slice_get, arith}
+use Rattle.std.proofs.Common.{◌≡◌, ℕ, zero, suc, ◌+◌, ◌<◌, true, List, [], ◌∷◌, ◌++◌, map, Option, Some, None, refl, ap}
+use Rattle.std.proofs.Common.{sym, subst, slice_get, arith}
 use Rattle.golf_theory.specs.Membership.{Every}
 use Rattle.golf_syntax_trees.specs.declared.declarations.Decl.{Decl}
 use Rattle.golf_syntax_trees.specs.declared.declarations.Decl.TheVariants as d
@@ -51,9 +52,11 @@ module _ (taking : Taking) (types : Types) (known : List (ℕ × ValueType)) whe
   value-kind t (Value.Ref o) h = nilable-kind t (Value.Ref o) h.1 refl
 
   held : (o : Option GoType) (v : Value) → IsKnown o → ValueFits types known v (known_type o) → Held taking o v
-  held o v k h = subst (λ z. Held taking z v) (sym k.1) (λ strict. value-kind (value_type k.0) v (subst (λ z. ValueFits types known v (known_type z)) k.1 h))
+  held o v k h = subst (λ z. Held taking z v) (sym k.1)
+      (λ strict. value-kind (value_type k.0) v (subst (λ z. ValueFits types known v (known_type z)) k.1 h))
 
-  pub arguments-held : (os : List (Option GoType)) (vs : List Value) → Every IsKnown os → ValuesFit types known vs (known_types os) → ArgumentsFit taking os vs
+  pub arguments-held : (os : List (Option GoType)) (vs : List Value) → Every IsKnown os
+      → ValuesFit types known vs (known_types os) → ArgumentsFit taking os vs
   arguments-held [] [] k h = tt
   arguments-held [] (v ∷ vs) k h = absurd h
   arguments-held (o ∷ os) [] k h = absurd h
@@ -61,18 +64,28 @@ module _ (taking : Taking) (types : Types) (known : List (ℕ × ValueType)) whe
 
 -- receiver and parameters have types
 
-each-known : (l : ℕ) (ps : List (List ℕ × Option GoType)) (s : Scope) → Every (λ (p : List ℕ × Option GoType). IsKnown p.1) ps → Every IsKnown (W.in_order (map (parameter_walk l) ps) s).slots
+each-known : (l : ℕ) (ps : List (List ℕ × Option GoType)) (s : Scope)
+    → Every (λ (p : List ℕ × Option GoType). IsKnown p.1) ps
+    → Every IsKnown (W.in_order (map (parameter_walk l) ps) s).slots
 each-known l [] s h = tt
 each-known l (p ∷ ps) s h = (h.0, each-known l ps (behind s (parameter_walk l p s)) h.1)
 
-slots-known : (names : FileScope) (f : Func) (m : Option Receiver) → f.receiver ≡ m → ParametersAreKnown (outside names) f → Every IsKnown ((receiver_walk f.line (outside names) m (result_scope (outside names) f)).slots
-    ++ (W.in_order (map (parameter_walk f.line) (all_typed_names (outside names) f.parameters)) (behind (result_scope (outside names) f) (receiver_walk f.line (outside names) m (result_scope (outside names) f)))).slots)
+slots-known : (names : FileScope) (f : Func) (m : Option Receiver) → f.receiver ≡ m
+    → ParametersAreKnown (outside names) f
+    → Every IsKnown ((receiver_walk f.line (outside names) m (result_scope (outside names) f)).slots
+    ++ (W.in_order (map (parameter_walk f.line) (all_typed_names (outside names) f.parameters))
+    (behind (result_scope (outside names) f)
+    (receiver_walk f.line (outside names) m (result_scope (outside names) f)))).slots)
 slots-known names f None e h = each-known f.line (all_typed_names (outside names) f.parameters) _ h.parameters
-slots-known names f (Some r) e h = (h.receiver r e, each-known f.line (all_typed_names (outside names) f.parameters) _ h.parameters)
+slots-known names f (Some r) e h = (
+  h.receiver r e,
+  each-known f.line (all_typed_names (outside names) f.parameters) _ h.parameters,
+)
 
 -- of the function at a place among the declarations
 
-pub parameters-known : (names : FileScope) (g : ℕ) (xs : List Decl) (k : ℕ) → DeclarationsAreKnown names g xs → Every IsKnown (parameters_at (outside names) xs k)
+pub parameters-known : (names : FileScope) (g : ℕ) (xs : List Decl) (k : ℕ) → DeclarationsAreKnown names g xs
+    → Every IsKnown (parameters_at (outside names) xs k)
 parameters-known names g [] k h = tt
 parameters-known names g (d.Func f ∷ xs) zero h = slots-known names f f.receiver refl h.0
 parameters-known names g (d.Func f ∷ xs) (suc k) h = parameters-known names g xs k h.1
@@ -80,13 +93,16 @@ parameters-known names g (d.Var v ∷ xs) k h = parameters-known names (g + 1) x
 parameters-known names g (d.Const l x c ∷ xs) k h = parameters-known names g xs k h.1
 parameters-known names g (d.Struct l x fields ∷ xs) k h = parameters-known names g xs k h.1
 
-pub signature-at : (t : Tables) (names : FileScope) (xs : List Decl) (more : List Signature) (k : ℕ) (sig : Signature) → k < function_count xs → slice_get (own_signatures t (outside names) xs ++ more) k ≡ Some sig → sig.params ≡ known_types (parameters_at (outside names) xs k)
+pub signature-at : (t : Tables) (names : FileScope) (xs : List Decl) (more : List Signature) (k : ℕ) (sig : Signature)
+    → k < function_count xs → slice_get (own_signatures t (outside names) xs ++ more) k ≡ Some sig
+    → sig.params ≡ known_types (parameters_at (outside names) xs k)
 signature-at t names [] more k sig less e = absurd (omega (arith, less))
 signature-at t names (d.Func f ∷ xs) more zero sig less e = ap (λ (s : Signature). s.params) (sym same)
   where
     same : function_signature t (outside names) f ≡ sig
     same = cc
-signature-at t names (d.Func f ∷ xs) more (suc k) sig less e = signature-at t names xs more k sig (omega (arith, less)) e
+signature-at t names (d.Func f ∷ xs) more (suc k) sig less e =
+    signature-at t names xs more k sig (omega (arith, less)) e
 signature-at t names (d.Var v ∷ xs) more k sig less e = signature-at t names xs more k sig less e
 signature-at t names (d.Const l x c ∷ xs) more k sig less e = signature-at t names xs more k sig less e
 signature-at t names (d.Struct l x fields ∷ xs) more k sig less e = signature-at t names xs more k sig less e

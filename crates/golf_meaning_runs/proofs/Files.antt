@@ -1,7 +1,8 @@
 -- The functions of the code of a file have the masks of their bodies, and as many parameters as their types say.
 -- For: `HasMasks` and `HasParameters`, golf_meaning_books/specs/Books.antt.
 -- By: induction over the list of declarations, and over lists of functions.
-use Rattle.std.proofs.Common.{◌≡◌, ℕ, zero, suc, ◌+◌, Bool, List, [], ◌∷◌, ◌++◌, length, map, Some, refl, ap, sym, ◌∙◌, slice_get, length-append, arith}
+use Rattle.std.proofs.Common.{◌≡◌, ℕ, zero, suc, ◌+◌, Bool, List, [], ◌∷◌, ◌++◌, length, map, Some, refl, ap, sym, ◌∙◌}
+use Rattle.std.proofs.Common.{slice_get, length-append, arith}
 use Rattle.std.proofs.lemmas.List.{length-map}
 use Rattle.golf_syntax_trees.specs.declared.declarations.Decl.{Decl}
 use Rattle.golf_syntax_trees.specs.declared.declarations.Decl.TheVariants as d
@@ -18,7 +19,8 @@ use Rattle.golf_model_typing.specs.Types.{Signature}
 use Rattle.golf_model_typing.specs.Types.{Shape}
 use Rattle.golf_code_of.specs.declared.tables.Tables.{Tables}
 use Rattle.golf_code_of.specs.declared.making.Making.{Making}
-use Rattle.golf_code_of.specs.Files.{body_laid, function_of, functions_from, giving, made_function, tables_of, code_in, CodeOf}
+use Rattle.golf_code_of.specs.Files.{body_laid, function_of, functions_from, giving, made_function, tables_of, code_in}
+use Rattle.golf_code_of.specs.Files.{CodeOf}
 use Rattle.golf_code_shapes.specs.Types.{known_type, known_types}
 use Rattle.golf_code_shapes.specs.FunctionLaws.{result_scope, parameter_slots, made_signature}
 use Rattle.golf_code_shapes.specs.FileLaws.{own_signatures, types_of_code, scope_of, types_of_file}
@@ -29,7 +31,8 @@ abbrev Masked : List Function → Type 0
 Masked fs = (k : ℕ) (fn : Function) → slice_get fs k ≡ Some fn → fn.live ≡ live fn.slots fn.body
 
 one-masked : (f : Function) (fs : List Function) → f.live ≡ live f.slots f.body → Masked fs → Masked (f ∷ fs)
-one-masked f fs e h zero fn is = let same : f ≡ fn = cc in ap (λ (g : Function). g.live) (sym same) ∙ e ∙ ap (λ (g : Function). live g.slots g.body) same
+one-masked f fs e h zero fn is = let same : f ≡ fn = cc in ap (λ (g : Function). g.live) (sym same) ∙ e
+    ∙ ap (λ (g : Function). live g.slots g.body) same
 one-masked f fs e h (suc k) fn is = h k fn is
 
 none-masked : Masked []
@@ -42,11 +45,15 @@ append-masked (f ∷ fs) gs h i (suc k) fn is = append-masked fs gs (λ j g e. h
 
 made-masked : (gives : List Bool) (ms : List Making) → Masked (map (made_function gives) ms)
 made-masked gives [] = none-masked
-made-masked gives (m ∷ ms) = one-masked (made_function gives m) (map (made_function gives) ms) refl (made-masked gives ms)
+made-masked gives (m ∷ ms) = one-masked (made_function gives m) (map (made_function gives) ms) refl
+    (made-masked gives ms)
 
-own-masked : (t : Tables) (gives : List Bool) (file : Scope) (n : ℕ) (xs : List Decl) → Masked (functions_from t gives file n xs).own
+own-masked : (t : Tables) (gives : List Bool) (file : Scope) (n : ℕ) (xs : List Decl)
+    → Masked (functions_from t gives file n xs).own
 own-masked t gives file n [] = none-masked
-own-masked t gives file n (d.Func f ∷ xs) = one-masked (function_of t gives file f (body_laid t file n f).piece) _ refl (own-masked t gives file (n + length (body_laid t file n f).made) xs)
+own-masked t gives file n (d.Func f ∷ xs) =
+    one-masked (function_of t gives file f (body_laid t file n f).piece) _ refl
+    (own-masked t gives file (n + length (body_laid t file n f).made) xs)
 own-masked t gives file n (d.Const l m c ∷ xs) = own-masked t gives file n xs
 own-masked t gives file n (d.Var v ∷ xs) = own-masked t gives file n xs
 own-masked t gives file n (d.Struct l m fields ∷ xs) = own-masked t gives file n xs
@@ -54,7 +61,9 @@ own-masked t gives file n (d.Struct l m fields ∷ xs) = own-masked t gives file
 code-masked : (t : Tables) (f : FileScope) (xs : List Decl) → Masked (code_in t f xs).functions
 code-masked t f xs =
     let fs = functions_from t (giving f) (outside f) (length f.functions + 1) xs in
-    one-masked _ (fs.own ++ map (made_function (giving f)) fs.made) refl (append-masked fs.own (map (made_function (giving f)) fs.made) (own-masked t (giving f) (outside f) (length f.functions + 1) xs) (made-masked (giving f) fs.made))
+    one-masked _ (fs.own ++ map (made_function (giving f)) fs.made) refl
+    (append-masked fs.own (map (made_function (giving f)) fs.made)
+    (own-masked t (giving f) (outside f) (length f.functions + 1) xs) (made-masked (giving f) fs.made))
 
 pub files-have-masks : (file : File) → HasMasks (CodeOf file)
 unfolding CodeOf
@@ -68,13 +77,16 @@ Paired [] (g ∷ gs) = ⊥
 Paired (f ∷ fs) [] = ⊥
 Paired (f ∷ fs) (g ∷ gs) = (f.params ≡ length g.params) × Paired fs gs
 
-paired-at : (fs : List Function) (gs : List Signature) (k : ℕ) (fn : Function) (sig : Signature) → Paired fs gs → slice_get fs k ≡ Some fn → slice_get gs k ≡ Some sig → fn.params ≡ length sig.params
+paired-at : (fs : List Function) (gs : List Signature) (k : ℕ) (fn : Function) (sig : Signature) → Paired fs gs
+    → slice_get fs k ≡ Some fn → slice_get gs k ≡ Some sig → fn.params ≡ length sig.params
 paired-at [] gs k fn sig h e i = cc
 paired-at (f ∷ fs) [] k fn sig h e i = cc
-paired-at (f ∷ fs) (g ∷ gs) zero fn sig h e i = let a : f ≡ fn = cc in let b : g ≡ sig = cc in ap (λ (z : Function). z.params) (sym a) ∙ h.0 ∙ ap (λ (z : Signature). length z.params) b
+paired-at (f ∷ fs) (g ∷ gs) zero fn sig h e i = let a : f ≡ fn = cc in let b : g ≡ sig =
+    cc in ap (λ (z : Function). z.params) (sym a) ∙ h.0 ∙ ap (λ (z : Signature). length z.params) b
 paired-at (f ∷ fs) (g ∷ gs) (suc k) fn sig h e i = paired-at fs gs k fn sig h.1 e i
 
-paired-append : (fs ps : List Function) (gs qs : List Signature) → Paired fs gs → Paired ps qs → Paired (fs ++ ps) (gs ++ qs)
+paired-append : (fs ps : List Function) (gs qs : List Signature) → Paired fs gs → Paired ps qs
+    → Paired (fs ++ ps) (gs ++ qs)
 paired-append [] ps [] qs h k = k
 paired-append [] ps (g ∷ gs) qs h k = absurd h
 paired-append (f ∷ fs) ps [] qs h k = absurd h
@@ -85,7 +97,8 @@ made-paired gives [] = tt
 made-paired gives (m ∷ ms) = (sym (length-map m.parameters known_type), made-paired gives ms)
 
 -- receiver and parameters stand in the first slots
-parameters-count : (names : FileScope) (f : Func) → (body_scope (outside names) f).next ≡ length (known_types (parameter_slots (outside names) f))
+parameters-count : (names : FileScope) (f : Func)
+    → (body_scope (outside names) f).next ≡ length (known_types (parameter_slots (outside names) f))
 parameters-count names f =
     let out = outside names in
     let s = result_scope out f in
@@ -95,18 +108,29 @@ parameters-count names f =
     let same = length-map (parameter_slots out f) known_type in
     omega (arith, many, same)
 
-own-paired : (t : Tables) (gives : List Bool) (names : FileScope) (n : ℕ) (xs : List Decl) → Paired (functions_from t gives (outside names) n xs).own (own_signatures t (outside names) xs)
+own-paired : (t : Tables) (gives : List Bool) (names : FileScope) (n : ℕ) (xs : List Decl)
+    → Paired (functions_from t gives (outside names) n xs).own (own_signatures t (outside names) xs)
 own-paired t gives names n [] = tt
-own-paired t gives names n (d.Func f ∷ xs) = (parameters-count names f, own-paired t gives names (n + length (body_laid t (outside names) n f).made) xs)
+own-paired t gives names n (d.Func f ∷ xs) =
+    (parameters-count names f, own-paired t gives names (n + length (body_laid t (outside names) n f).made) xs)
 own-paired t gives names n (d.Const l m c ∷ xs) = own-paired t gives names n xs
 own-paired t gives names n (d.Var v ∷ xs) = own-paired t gives names n xs
 own-paired t gives names n (d.Struct l m fields ∷ xs) = own-paired t gives names n xs
 
-code-paired : (t : Tables) (f : FileScope) (xs : List Decl) → Paired (code_in t f xs).functions (types_of_code t f xs).functions
+code-paired : (t : Tables) (f : FileScope) (xs : List Decl)
+    → Paired (code_in t f xs).functions (types_of_code t f xs).functions
 code-paired t f xs =
-    let fs = functions_from t (giving f) (outside f) (length f.functions + 1) xs in
-    (refl, paired-append fs.own (map (made_function (giving f)) fs.made) (own_signatures t (outside f) xs) (map made_signature fs.made) (own-paired t (giving f) f (length f.functions + 1) xs) (made-paired (giving f) fs.made))
+    let fs = functions_from t (giving f) (outside f) (length f.functions + 1) xs in (
+      refl,
+      paired-append fs.own (map (made_function (giving f)) fs.made) (own_signatures t (outside f) xs)
+          (map made_signature fs.made) (own-paired t (giving f) f (length f.functions + 1) xs)
+          (made-paired (giving f) fs.made),
+    )
 
-pub files-have-parameters : (file : File) (shapes : List (List Shape)) → HasParameters (CodeOf file) (record { of = types_of_file file; shapes = shapes })
+pub files-have-parameters : (file : File) (shapes : List (List Shape))
+    → HasParameters (CodeOf file) (record { of = types_of_file file; shapes = shapes })
 unfolding CodeOf
-files-have-parameters file shapes k fn sig is typed = paired-at (code_in (tables_of file.declarations) (scope_of file) file.declarations).functions (types_of_code (tables_of file.declarations) (scope_of file) file.declarations).functions k fn sig (code-paired (tables_of file.declarations) (scope_of file) file.declarations) is typed
+files-have-parameters file shapes k fn sig is typed =
+    paired-at (code_in (tables_of file.declarations) (scope_of file) file.declarations).functions
+    (types_of_code (tables_of file.declarations) (scope_of file) file.declarations).functions k fn sig
+    (code-paired (tables_of file.declarations) (scope_of file) file.declarations) is typed

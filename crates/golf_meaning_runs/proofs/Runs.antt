@@ -1,7 +1,8 @@
 -- The sources of the functions of a program mean what its calls show in a run.
 -- For: `RunsMeanSources`, golf_meaning_runs/specs/Laws.antt; the law `runs_mean_their_sources`, src/lib.rt.
 -- By: cases of where a call stands; induction over lists of calls.
-use Rattle.std.proofs.Common.{◌≡◌, ℕ, zero, suc, Bool, false, ◌<◌, ◌≤◌, List, [], ◌∷◌, Some, map, slice_get, refl, ap, sym, ◌∙◌, subst, append-nil, arith}
+use Rattle.std.proofs.Common.{◌≡◌, ℕ, zero, suc, Bool, false, ◌<◌, ◌≤◌, List, [], ◌∷◌, Some, map, slice_get, refl, ap}
+use Rattle.std.proofs.Common.{sym, ◌∙◌, subst, append-nil, arith}
 use Rattle.golf_theory.proofs.Lists.{Every-weaker}
 use Rattle.golf_syntax_trees.specs.declared.declarations.File.{File}
 use Rattle.golf_data.specs.declared.value.Value.{Value}
@@ -16,7 +17,7 @@ use Rattle.golf_model_typing.specs.Shapes.{HasShapes}
 use Rattle.golf_code_of.specs.Files.{tables_of, CodeOf}
 use Rattle.golf_code_shapes.specs.FunctionLaws.{made_signature}
 use Rattle.golf_code_shapes.specs.FileLaws.{made_in, scope_of, types_of_file}
-use Rattle.golf_code_shapes_globals.proofs.Globals.{names-fit}
+use Rattle.golf_code_shapes.proofs.Globals.{names-fit}
 use Rattle.golf_code_never_stuck.specs.Reached.{IsProgram}
 use Rattle.golf_code_never_stuck.proofs.Plain.{Sound, sound-start, sound-event, plain-runs-go-on}
 use Rattle.golf_code_never_stuck.proofs.Reaching.{files-have-shapes}
@@ -27,11 +28,12 @@ use Rattle.golf_meaning_functions.specs.Files.{function_count, giving_in, taking
 use Rattle.golf_meaning_typing.specs.Flowing.{EndSound}
 use Rattle.golf_meaning_typing.specs.FileLaws.{parameters_at}
 use Rattle.golf_meaning_typing.proofs.Giving.{gives-are}
-use Rattle.golf_meaning_typed_files.proofs.Files.{files-sound}
+use Rattle.golf_meaning_typing.proofs.WholeFiles.{files-sound}
 use Rattle.golf_meaning_turns.specs.Shaping.{giving}
 use Rattle.golf_meaning_turns.specs.Life.{Now, HasShown}
 use Rattle.golf_meaning_turns.proofs.Living.{lives-mean}
-use Rattle.golf_meaning_books.specs.Books.{AreArguments, RunTypes, shaping, Standing, Call, book_of, left_of, StandsSo, HasLife, GoesNoMore, TypedAlong}
+use Rattle.golf_meaning_books.specs.Books.{AreArguments, RunTypes, shaping, Standing, Call, book_of, left_of, StandsSo}
+use Rattle.golf_meaning_books.specs.Books.{HasLife, GoesNoMore, TypedAlong}
 use Rattle.golf_meaning_books.proofs.Others.{one-some}
 use Rattle.golf_meaning_books.proofs.Runs.{runs-are-booked}
 use Rattle.golf_meaning_lives.specs.Laws.{SourceMeans}
@@ -60,23 +62,29 @@ module _ (meaning : ℕ → Told) (shown : List Operation) where
   says (Standing.Ended j) (Now.Asks at c before) e h = absurd e
   says (Standing.Ended j) (Now.Halted i) e h = (h.0, h.1 ∙ ap (λ z. halted z shown) (sym e))
 
-of-source : (file : File) (k : ℕ) (arguments : List Value) (shown : List Operation) (got : List Answer) (now : Now) → SourceMeans file k arguments shown got now → MeansSo (MeaningOf file k arguments got) shown now
+of-source : (file : File) (k : ℕ) (arguments : List Value) (shown : List Operation) (got : List Answer) (now : Now)
+    → SourceMeans file k arguments shown got now → MeansSo (MeaningOf file k arguments got) shown now
 unfolding MeansSo
 of-source file k arguments shown got (Now.Stands at c) h = h
 of-source file k arguments shown got (Now.Asks at c before) h = h
 of-source file k arguments shown got (Now.Halted i) h = h
 
-of-code : (gives : List Bool) (fn : Function) (arguments : List Value) (shown : List Operation) (got : List Answer) (now : Now) → HasShown gives fn arguments shown got now → MeansSo (CodeMeaning gives fn arguments got) shown now
+of-code : (gives : List Bool) (fn : Function) (arguments : List Value) (shown : List Operation) (got : List Answer)
+    (now : Now) → HasShown gives fn arguments shown got now → MeansSo (CodeMeaning gives fn arguments got) shown now
 unfolding MeansSo
-of-code gives fn arguments shown got (Now.Stands at c) h = (h.0, ([], ap (λ (t : Told). t.operations) h.1 ∙ sym (append-nil shown)))
+of-code gives fn arguments shown got (Now.Stands at c) h =
+    (h.0, ([], ap (λ (t : Told). t.operations) h.1 ∙ sym (append-nil shown)))
 of-code gives fn arguments shown got (Now.Asks at c before) h = h
 of-code gives fn arguments shown got (Now.Halted i) h = h
 
-same-function : (code : Code) (k : ℕ) (f g : Function) → slice_get code.functions k ≡ Some f → slice_get code.functions k ≡ Some g → f ≡ g
+same-function : (code : Code) (k : ℕ) (f g : Function) → slice_get code.functions k ≡ Some f
+    → slice_get code.functions k ≡ Some g → f ≡ g
 same-function code k f g a b = one-some f g (sym a ∙ b)
 
 -- the states of a run are well typed, by what is known of objects in the end
-typed-along : (code : Code) (types : Typing) (shapes : HasShapes code types) (es : List Event) (s : State) (h : Sound code types shapes s) → (later : List (ℕ × ValueType)) × Grows h.known later × TypedAlong code types later s es
+typed-along : (code : Code) (types : Typing) (shapes : HasShapes code types) (es : List Event) (s : State)
+    (h : Sound code types shapes s) → (later : List (ℕ × ValueType)) × Grows h.known later
+    × TypedAlong code types later s es
 typed-along code types shapes [] s h = (h.known, (λ o t known. known), (h.known, h.typed, λ o t known. known))
 typed-along code types shapes (e ∷ es) s h =
     let u = sound-event code types shapes s e h in
@@ -89,7 +97,8 @@ module _ (file : File) (program : IsProgram file) (shapes : List (List Shape)) (
   types = record { typing = record { of = types_of_file file; shapes = shapes }; known = known }
 
   -- with such arguments the source of a function lacks no rule
-  sound : (k : ℕ) (arguments : List Value) (got : List Answer) → 0 < k → k ≤ function_count file.declarations → AreArguments types k arguments → (n : ℕ) → EndSound false (MeaningOf file k arguments got n).end
+  sound : (k : ℕ) (arguments : List Value) (got : List Answer) → 0 < k → k ≤ function_count file.declarations
+      → AreArguments types k arguments → (n : ℕ) → EndSound false (MeaningOf file k arguments got n).end
   sound zero arguments got above in_file h n = absurd (omega (arith, above))
   sound (suc k) arguments got above in_file (sig, is, fit) n =
       let xs = file.declarations in
@@ -98,19 +107,28 @@ module _ (file : File) (program : IsProgram file) (shapes : List (List Shape)) (
       let names = names-fit file program.typed in
       let same = signature-at (tables_of xs) f xs (map made_signature (made_in (tables_of xs) f xs)) k sig less is in
       files-sound file program.typed program.good false k arguments got n less
-      (arguments-held (taking_in file false) (types_of_file file) known (parameters_at (outside f) xs k) arguments (parameters-known f 0 xs k names.declarations) (subst (λ ts. ValuesFit (types_of_file file) known arguments ts) same fit))
+      (arguments-held (taking_in file false) (types_of_file file) known (parameters_at (outside f) xs k) arguments
+      (parameters-known f 0 xs k names.declarations)
+      (subst (λ ts. ValuesFit (types_of_file file) known arguments ts) same fit))
 
   live-meant : (k : Call) → HasLife (CodeOf file) types k → IsMeant file k
   live-meant k (fn, is, (given, (now, life, stands))) = (
     λ above in_file.
-        let ruled_in = λ (n : ℕ). ruled (MeaningOf file k.function k.arguments k.got n).end (sound k.function k.arguments k.got above in_file given n) in
+        let ruled_in = λ (n : ℕ). ruled (MeaningOf file k.function k.arguments k.got n).end
+        (sound k.function k.arguments k.got above in_file given n) in
         says (MeaningOf file k.function k.arguments k.got) k.shown k.standing now stands
-        (of-source file k.function k.arguments k.shown k.got now (lives-mean-source file k.function fn (shaping types k.function) k.arguments k.shown k.got now above in_file is (sym (gives-are file)) ruled_in life)),
+        (of-source file k.function k.arguments k.shown k.got now
+        (lives-mean-source file k.function fn
+        (shaping types k.function) k.arguments k.shown k.got now above in_file is
+        (sym (gives-are file)) ruled_in life)),
     λ other found.
         let gives = giving (types_of_file file) in
-        subst (λ (f : Function). SaysOf (CodeMeaning (giving_in file) f k.arguments k.got) k.shown k.standing) (same-function (CodeOf file) k.function fn other is found)
+        subst (λ (f : Function). SaysOf (CodeMeaning (giving_in file) f k.arguments k.got) k.shown k.standing)
+        (same-function (CodeOf file) k.function fn other is found)
         (subst (λ bs. SaysOf (CodeMeaning bs fn k.arguments k.got) k.shown k.standing) (sym (gives-are file))
-        (says (CodeMeaning gives fn k.arguments k.got) k.shown k.standing now stands (of-code gives fn k.arguments k.shown k.got now (lives-mean fn (shaping types k.function) k.arguments k.shown k.got now life)))),
+        (says (CodeMeaning gives fn k.arguments k.got) k.shown k.standing now stands
+        (of-code gives fn k.arguments k.shown k.got now
+        (lives-mean fn (shaping types k.function) k.arguments k.shown k.got now life)))),
   )
 
 pub runs-mean-sources : RunsMeanSources
@@ -118,12 +136,16 @@ runs-mean-sources file program events =
     let x = files-have-shapes file program in
     let of_file : Typing = record { of = types_of_file file; shapes = x.0 } in
     let code = CodeOf file in
-    let typed : (es : List Event) → (known : List (ℕ × ValueType)) × TypedAlong code of_file known (start code) es = λ es. let t = typed-along code of_file x.1 es (start code) (sound-start code of_file x.1) in (t.0, t.2) in
-    let b = runs-are-booked code of_file (files-have-masks file) x.1 (files-have-parameters file x.0) (typed, (plain-runs-go-on file program).0) events in record {
+    let typed : (es : List Event) → (known : List (ℕ × ValueType)) × TypedAlong code of_file known (start code) es =
+    λ es. let t = typed-along code of_file x.1 es (start code) (sound-start code of_file x.1) in (t.0, t.2) in
+    let b = runs-are-booked code of_file (files-have-masks file) x.1 (files-have-parameters file x.0)
+    (typed, (plain-runs-go-on file program).0) events in record {
       types = record { typing = of_file; known = b.0 };
       of_file = refl;
       shaped = x.1;
       booked = b.1;
-      meant = λ g. Every-weaker (HasLife code (types file program x.0 b.0)) (IsMeant file) (λ k h. live-meant file program x.0 b.0 k h) (book_of code events g) (b.1.always g);
-      left_meant = Every-weaker (λ (k : Call). HasLife code (types file program x.0 b.0) k × GoesNoMore k.standing) (IsMeant file) (λ k h. live-meant file program x.0 b.0 k h.0) (left_of code events) b.1.left;
+      meant = λ g. Every-weaker (HasLife code (types file program x.0 b.0)) (IsMeant file)
+          (λ k h. live-meant file program x.0 b.0 k h) (book_of code events g) (b.1.always g);
+      left_meant = Every-weaker (λ (k : Call). HasLife code (types file program x.0 b.0) k × GoesNoMore k.standing)
+          (IsMeant file) (λ k h. live-meant file program x.0 b.0 k h.0) (left_of code events) b.1.left;
     }

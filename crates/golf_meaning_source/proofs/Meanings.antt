@@ -6,7 +6,7 @@ use Rattle.golf_syntax_trees.specs.declared.expressions.Expr.{Expr, roll-Expr}
 use Rattle.golf_syntax_trees.specs.declared.expressions.Element.{Element}
 use Rattle.golf_syntax_trees.specs.declared.expressions.Expr.TheOpen.{Expr-F}
 use Rattle.golf_syntax_trees.specs.declared.expressions.Expr.TheFolds.{fold-Element, fold-roll-Expr, map-Expr}
-use Rattle.golf_syntax_induction.proofs.Expressions.{fold-element, carried}
+use Rattle.golf_syntax_trees.proofs.ExpressionInduction.{fold-element, carried}
 use Rattle.golf_check_types.specs.Judging.{Judge, Put, judge, judge_step, element_step}
 use Rattle.golf_code_of.specs.declared.tables.Tables.{Tables}
 use Rattle.golf_meaning_source.specs.Meaning.{Meant, MeantPut, put_judge, meant, meant_step, element_meant_step}
@@ -15,7 +15,8 @@ use Rattle.golf_meaning_source.specs.Operations.{Taking}
 module _ (taking : Taking) where
   pub agree : (t : Tables) (e : Expr) → (meant taking t e).judge ≡ judge e
   unfolding meant judge
-  agree t = carried Meant MeantPut (meant_step taking t) element_meant_step Judge Put judge_step element_step (λ x. x.judge) put_judge (λ y. refl) (λ y. refl)
+  agree t = carried Meant MeantPut (meant_step taking t) element_meant_step Judge Put judge_step element_step
+      (λ x. x.judge) put_judge (λ y. refl) (λ y. refl)
 
   -- an element of a struct literal
   abbrev pub meant_put : Tables → Element → MeantPut

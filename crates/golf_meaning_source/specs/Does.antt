@@ -10,7 +10,7 @@ use Rattle.golf_meaning_flat.specs.Structured.{Way, run}
 use Rattle.golf_meaning_flat.specs.Laws.{Said}
 use Rattle.golf_meaning_source.specs.Names.{Env}
 use Rattle.golf_meaning_source.specs.Operations.{Taking, Gives}
-use Rattle.golf_meaning_source.specs.Exprs.{Place, read, store}
+use Rattle.golf_meaning_source.specs.Exprs.{Location, read, store}
 
 abbrev pub frame : List Value → List Value → Frame
 frame slots operands = record { slots = slots; operands = operands }
@@ -47,7 +47,8 @@ Kept ds next slots now = (i : ℕ) → i < next → Apart i ds → slice_get now
 
 -- it goes on with the names changed
 abbrev pub Changed : List Local → List Value → List Value → Env → World → Way → Type 0
-Changed ds slots rest env u o = (now : List Value) × (o ≡ Way.Through (frame now rest) u) × Stored ds env now × (length now ≡ length slots) × ((i : ℕ) → Apart i ds → slice_get now i ≡ slice_get slots i)
+Changed ds slots rest env u o = (now : List Value) × (o ≡ Way.Through (frame now rest) u) × Stored ds env now
+    × (length now ≡ length slots) × ((i : ℕ) → Apart i ds → slice_get now i ≡ slice_get slots i)
 
 -- the names that are known have their values
 pub record Known (ds : List Local) (next : ℕ) (env : Env) (slots : List Value) : Type 0 where
@@ -57,17 +58,26 @@ pub record Known (ds : List Local) (next : ℕ) (env : Env) (slots : List Value)
 module _ (taking : Taking) where
   -- the piece takes these operands, and gives what is said
   abbrev pub Turns : List Value → Piece → List Value → Gives → Type 0
-  Turns slots p takes f = (n at : ℕ) (ts : List ℕ) (rest : List Value) (w : World) → Sim (f w) (OnTop slots rest) (run taking.gives n p at ts (frame slots (pushed takes rest)) w)
+  Turns slots p takes f = (n at : ℕ) (ts : List ℕ) (rest : List Value) (w : World)
+      → Sim (f w) (OnTop slots rest) (run taking.gives n p at ts (frame slots (pushed takes rest)) w)
 
   -- what goes on after these operands
-  abbrev pub Tail : {B : Type 0} → List Value → List Value → Piece → List Value → (World → Part B) → (B → World → Way → Type 0) → Type 0
-  Tail slots rest q vs g L = (n at : ℕ) (ts : List ℕ) (w : World) → Sim (g w) L (run taking.gives n q at ts (frame slots (pushed vs rest)) w)
+  abbrev pub Tail : {B : Type 0} → List Value → List Value → Piece → List Value → (World → Part B)
+      → (B → World → Way → Type 0) → Type 0
+  Tail slots rest q vs g L = (n at : ℕ) (ts : List ℕ) (w : World)
+      → Sim (g w) L (run taking.gives n q at ts (frame slots (pushed vs rest)) w)
 
   -- What an expression does with these names and values is what its code does: its value, the place, and what tells it.
-  pub record Matches (ds : List Local) (slots : List Value) (env : Env) (value : Gives) (place : Place) (parts : Gives) (m : Made) : Type 0 where
+  pub record Matches (ds : List Local) (slots : List Value) (env : Env) (value : Gives) (place : Location)
+      (parts : Gives)
+      (m : Made) : Type 0 where
     pub value_turns : Turns slots m.piece [] value
     pub parts_turn : Turns slots m.parts [] parts
     -- the place is read on top of what tells it
-    pub again : (rest vs : List Value) (q : Piece) (g : List Value → World → Part Env) → ((xs : List Value) → Tail slots rest q (vs ++ xs) (g xs) (Changed ds slots rest))
-        → Tail slots rest (Piece.Then m.twice (Piece.Then m.read q)) vs (λ w. bind (read taking env place vs w) g) (Changed ds slots rest)
-    pub stores : (vs : List Value) (n at : ℕ) (ts : List ℕ) (rest : List Value) (w : World) → Sim (store taking env place vs w) (Changed ds slots rest) (run taking.gives n m.store at ts (frame slots (pushed vs rest)) w)
+    pub again : (rest vs : List Value) (q : Piece) (g : List Value → World → Part Env)
+        → ((xs : List Value) → Tail slots rest q (vs ++ xs) (g xs) (Changed ds slots rest))
+        → Tail slots rest (Piece.Then m.twice (Piece.Then m.read q)) vs (λ w. bind (read taking env place vs w) g)
+        (Changed ds slots rest)
+    pub stores : (vs : List Value) (n at : ℕ) (ts : List ℕ) (rest : List Value) (w : World)
+        → Sim (store taking env place vs w) (Changed ds slots rest)
+        (run taking.gives n m.store at ts (frame slots (pushed vs rest)) w)

@@ -1,5 +1,6 @@
 -- What each kind of expression does, by what its parts are and do (Go specification, "Expressions").
-use Rattle.std.specs.Prelude.{ℕ, ◌+◌, pos, negsuc, Bool, true, false, cond, List, [], ◌∷◌, ◌++◌, length, map, Option, Some, None}
+use Rattle.std.specs.Prelude.{ℕ, ◌+◌, pos, negsuc, Bool, true, false, cond, List, [], ◌∷◌, ◌++◌, length, map, Option}
+use Rattle.std.specs.Prelude.{Some, None}
 use Rattle.golf_syntax_trees.specs.declared.expressions.UnaryOperator.{UnaryOperator}
 use Rattle.golf_syntax_trees.specs.declared.expressions.UnaryOperator.TheVariants as unary
 use Rattle.golf_syntax_trees.specs.declared.expressions.BinaryOperator.{BinaryOperator}
@@ -26,17 +27,18 @@ use Rattle.golf_code_of.specs.Values.{constant, makes}
 use Rattle.golf_meaning_flat.specs.Worlds.{World, Part, bind}
 use Rattle.golf_meaning_flat.specs.Doing.{unfit, negated, inverted, computed, divided, compared, equated}
 use Rattle.golf_meaning_source.specs.Names.{Env, find, assign}
-use Rattle.golf_meaning_source.specs.Operations.{Taking, Gives, gives, both, then_do, in_order, visible, panicking, on_one, on_two, if_true}
+use Rattle.golf_meaning_source.specs.Operations.{Taking, Gives, gives, both, then_do, in_order, visible, panicking}
+use Rattle.golf_meaning_source.specs.Operations.{on_one, on_two, if_true}
 
 -- Left sides.
 
-pub data Place : Type 0 where
-  Nowhere : Place
-  Blank : Place
-  Local : (n : List ℕ) → Place
-  Global : (g : ℕ) (of_type : Option GoType) → Place
-  Field : (i : ℕ) (of_type : Option GoType) → Place
-  Element : (of_type : Option GoType) → Place
+pub data Location : Type 0 where
+  Nowhere : Location
+  Blank : Location
+  Local : (n : List ℕ) → Location
+  Global : (g : ℕ) (of_type : Option GoType) → Location
+  Field : (i : ℕ) (of_type : Option GoType) → Location
+  Element : (of_type : Option GoType) → Location
 
 abbrev pub found : Option Value → Gives
 found None w = unfit w
@@ -58,26 +60,27 @@ abbrev pub dropped : Env → List Value → World → Part Env
 dropped env (v ∷ []) w = Part.Gives env w
 dropped env _ w = unfit w
 
--- What an expression does with these names and values: its value, or the receiver of a method; as a left side the place, and what tells it.
+-- What an expression does with these names and values: its value, or the receiver of a method; as a left side the
+-- place, and what tells it.
 pub record Does : Type 0 where
   pub value : Env → Gives
-  pub place : Env → Place
+  pub place : Env → Location
   pub parts : Env → Gives
 
 abbrev pub only : (Env → Gives) → Does
-only f = record { value = f; place = λ env. Place.Nowhere; parts = λ env w. Part.Gives [] w }
+only f = record { value = f; place = λ env. Location.Nowhere; parts = λ env w. Part.Gives [] w }
 
 abbrev pub constant_gives : List Value → Env → Gives
 constant_gives vs env w = Part.Gives vs w
 
-abbrev pub outer_place : List ℕ → Option Operand → Place
-outer_place n (Some (operand.Variable (place.Global g) t)) = Place.Global g t
-outer_place n (Some (operand.Variable (place.Slot i) t)) = Place.Local n
-outer_place n (Some operand.Blank) = Place.Blank
-outer_place n _ = Place.Nowhere
+abbrev pub outer_place : List ℕ → Option Operand → Location
+outer_place n (Some (operand.Variable (place.Global g) t)) = Location.Global g t
+outer_place n (Some (operand.Variable (place.Slot i) t)) = Location.Local n
+outer_place n (Some operand.Blank) = Location.Blank
+outer_place n _ = Location.Nowhere
 
-abbrev pub place_of_name : List ℕ → Option Value → Option Operand → Place
-place_of_name n (Some v) outer = Place.Local n
+abbrev pub place_of_name : List ℕ → Option Value → Option Operand → Location
+place_of_name n (Some v) outer = Location.Local n
 place_of_name n None outer = outer_place n outer
 
 abbrev pub plain_type : Base → List (Option GoType)
@@ -138,24 +141,27 @@ values_of xs = in_order (map (λ x. x.value) xs)
 
 module _ (taking : Taking) where
   -- a place that these operands tell is read
-  abbrev pub read : Env → Place → List Value → Gives
-  read env Place.Nowhere vs w = if_none vs w (Part.Gives [] w)
-  read env Place.Blank vs w = if_none vs w (Part.Gives [] w)
-  read env (Place.Local n) vs w = if_none vs w (found (find env n) w)
-  read env (Place.Global g t) vs w = if_none vs w (visible taking (Instr.LoadGlobal g) (t ∷ []) [] w)
-  read env (Place.Field i t) vs w = visible taking (Instr.Field i) (t ∷ []) vs w
-  read env (Place.Element t) vs w = visible taking Instr.Index (t ∷ []) vs w
+  abbrev pub read : Env → Location → List Value → Gives
+  read env Location.Nowhere vs w = if_none vs w (Part.Gives [] w)
+  read env Location.Blank vs w = if_none vs w (Part.Gives [] w)
+  read env (Location.Local n) vs w = if_none vs w (found (find env n) w)
+  read env (Location.Global g t) vs w = if_none vs w (visible taking (Instr.LoadGlobal g) (t ∷ []) [] w)
+  read env (Location.Field i t) vs w = visible taking (Instr.Field i) (t ∷ []) vs w
+  read env (Location.Element t) vs w = visible taking Instr.Index (t ∷ []) vs w
 
   -- a value is stored, on top of the operands that tell the place
-  abbrev pub store : Env → Place → List Value → World → Part Env
-  store env Place.Nowhere vs w = unfit w
-  store env Place.Blank vs w = dropped env vs w
-  store env (Place.Local n) vs w = assigned_one env n vs w
-  store env (Place.Global g t) vs w = bind (visible taking (Instr.StoreGlobal g) [] vs w) (λ us u. if_none us u (Part.Gives env u))
-  store env (Place.Field i t) vs w = bind (visible taking (Instr.SetField i) [] vs w) (λ us u. if_none us u (Part.Gives env u))
-  store env (Place.Element t) vs w = bind (visible taking Instr.SetIndex [] vs w) (λ us u. if_none us u (Part.Gives env u))
+  abbrev pub store : Env → Location → List Value → World → Part Env
+  store env Location.Nowhere vs w = unfit w
+  store env Location.Blank vs w = dropped env vs w
+  store env (Location.Local n) vs w = assigned_one env n vs w
+  store env (Location.Global g t) vs w = bind (visible taking (Instr.StoreGlobal g) [] vs w)
+      (λ us u. if_none us u (Part.Gives env u))
+  store env (Location.Field i t) vs w = bind (visible taking (Instr.SetField i) [] vs w)
+      (λ us u. if_none us u (Part.Gives env u))
+  store env (Location.Element t) vs w = bind (visible taking Instr.SetIndex [] vs w)
+      (λ us u. if_none us u (Part.Gives env u))
 
-  abbrev pub in_place : (Env → Place) → (Env → Gives) → Does
+  abbrev pub in_place : (Env → Location) → (Env → Gives) → Does
   in_place p f = record { value = λ env. then_do (f env) (read env (p env)); place = p; parts = f }
 
   -- Names that are no locals.
@@ -175,7 +181,7 @@ module _ (taking : Taking) where
   abbrev pub name_does : Tables → Bool → List ℕ → Option Operand → Does
   name_does t blank n outer = record {
     value = λ env. cond blank (gives []) (value_of_name t (find env n) outer);
-    place = λ env. cond blank Place.Blank (place_of_name n (find env n) outer);
+    place = λ env. cond blank Location.Blank (place_of_name n (find env n) outer);
     parts = λ env. gives [];
   }
 
@@ -186,10 +192,12 @@ module _ (taking : Taking) where
 
   -- what is put in leaves the reference
   abbrev pub puts_in : Instr → List Value → Gives → List Value → Gives
-  puts_in i p e more w = bind (both (gives (p ++ more)) e w) (λ vs u. bind (visible taking i [] vs u) (λ us v. if_none us v (Part.Gives p v)))
+  puts_in i p e more w = bind (both (gives (p ++ more)) e w)
+      (λ vs u. bind (visible taking i [] vs u) (λ us v. if_none us v (Part.Gives p v)))
 
   abbrev pub puts : FileScope → Option Base → List (List ℕ) → List Gives → List Value → Gives
-  puts f b (n ∷ ns) (e ∷ es) p = then_do (one_reference p (puts_in (Instr.SetField (field_place f b n)) p e [])) (puts f b ns es)
+  puts f b (n ∷ ns) (e ∷ es) p = then_do (one_reference p (puts_in (Instr.SetField (field_place f b n)) p e []))
+      (puts f b ns es)
   puts f b _ _ p = gives p
 
   abbrev pub struct_literal : FileScope → Option Base → List (List ℕ) → List Gives → Gives
@@ -211,7 +219,8 @@ module _ (taking : Taking) where
 
   abbrev pub elements : ℕ → List Gives → List Value → Gives
   elements i [] s = gives s
-  elements i (e ∷ es) s = then_do (one_reference s (puts_in Instr.SetIndex s e (int_value i ∷ []))) (elements (i + 1) es)
+  elements i (e ∷ es) s = then_do (one_reference s (puts_in Instr.SetIndex s e (int_value i ∷ [])))
+      (elements (i + 1) es)
 
   abbrev pub slice_literal : Option GoType → List Gives → Gives
   slice_literal t es = then_do (made t (int_value (length es) ∷ [])) (elements 0 es)
@@ -219,7 +228,7 @@ module _ (taking : Taking) where
   -- Selectors and indices.
 
   abbrev pub selector : Operand → (Env → Gives) → Does
-  selector (operand.Field i t) e = in_place (λ env. Place.Field i t) e
+  selector (operand.Field i t) e = in_place (λ env. Location.Field i t) e
   selector (operand.Value t) e = only (λ env. then_do (e env) (visible taking Instr.CondMutex (plain_type base.Mutex)))
   selector (operand.Method k) e = only e
   selector (operand.BuiltIn b) e = only e
@@ -272,4 +281,5 @@ module _ (taking : Taking) where
 
   -- receiver, arguments, and the call
   abbrev pub call : Operand → Operand → Gives → List Argument → Gives
-  call f result receiver xs = cond (sets_finaliser f) (finalising xs) (then_do (both receiver (values_of xs)) (calling (length xs) f (left_types result)))
+  call f result receiver xs = cond (sets_finaliser f) (finalising xs)
+      (then_do (both receiver (values_of xs)) (calling (length xs) f (left_types result)))

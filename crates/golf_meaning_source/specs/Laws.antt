@@ -15,7 +15,8 @@ use Rattle.golf_meaning_source.specs.Does.{Matches, Known}
 module _ (taking : Taking) where
   -- wherever the names that are known have their values, the code of an expression does what the expression does
   abbrev pub ExpressionMeans : (ℕ → Scope → Does) → (ℕ → Scope → Made) → Type 0
-  ExpressionMeans d c = (l : ℕ) (s : Scope) (env : Env) (slots : List Value) → Known s.locals s.next env slots → Matches taking s.locals slots env ((d l s).value env) ((d l s).place env) ((d l s).parts env) (c l s)
+  ExpressionMeans d c = (l : ℕ) (s : Scope) (env : Env) (slots : List Value) → Known s.locals s.next env slots
+      → Matches taking s.locals slots env ((d l s).value env) ((d l s).place env) ((d l s).parts env) (c l s)
 
   abbrev pub ExpressionsMean : Type 0
   ExpressionsMean = (t : Tables) (e : Expr) → ExpressionMeans (meant taking t e).does (coded t e).code

@@ -1,5 +1,6 @@
 -- Operations of a source, and their answers.
-use Rattle.std.specs.Prelude.{◌==◌, ◌&&◌, ◌||◌, Bool, true, false, not, is_some, List, [], ◌∷◌, ◌++◌, length, Option, Some, None}
+use Rattle.std.specs.Prelude.{◌==◌, ◌&&◌, ◌||◌, Bool, true, false, not, is_some, List, [], ◌∷◌, ◌++◌, length, Option}
+use Rattle.std.specs.Prelude.{Some, None}
 use Rattle.golf_data.specs.declared.value.Value.{Value}
 use Rattle.golf_data.specs.declared.code.Instr.{Instr}
 use Rattle.golf_model.specs.Values.{int_of, bool_of, text_of}
@@ -60,7 +61,8 @@ abbrev pub in_order : List Gives → Gives
 in_order [] w = Part.Gives [] w
 in_order (f ∷ fs) w = both f (in_order fs) w
 
--- How answers are taken: as many values as operations leave if these functions give a value; and if it is strict, values of the types that the operations leave.
+-- How answers are taken: as many values as operations leave if these functions give a value; and if it is strict,
+-- values of the types that the operations leave.
 pub record Taking : Type 0 where
   pub gives : List Bool
   pub strict : Bool
@@ -92,7 +94,8 @@ if_true _ f g w = unfit w
 module _ (taking : Taking) where
   -- an operation with these operands, which leaves values of these types
   abbrev pub answered : Instr → List (Option GoType) → List Value → Gives
-  answered i leaves vs w = bind (gets taking.gives i vs w) (λ a u. chosen_by (not taking.strict || all_fit leaves a.values) (Part.Gives a.values u) (misfit u))
+  answered i leaves vs w = bind (gets taking.gives i vs w)
+      (λ a u. chosen_by (not taking.strict || all_fit leaves a.values) (Part.Gives a.values u) (misfit u))
 
   abbrev pub visible : Instr → List (Option GoType) → List Value → Gives
   visible i leaves vs w = chosen_by (length vs == taken i) (answered i leaves vs w) (unfit w)

@@ -8,8 +8,10 @@ use Rattle.golf_syntax_trees.specs.declared.statements.Stmt.{Stmt, roll-Stmt}
 use Rattle.golf_syntax_trees.specs.declared.statements.Clause.{Clause, roll-Clause}
 use Rattle.golf_syntax_trees.specs.declared.statements.Clause.TheOpen.{Stmt-F, Clause-F}
 use Rattle.golf_syntax_trees.specs.declared.statements.Clause.TheOpen as F
-use Rattle.golf_syntax_trees.specs.declared.statements.Clause.TheFolds.{fold-roll-Stmt, fold-roll-Clause, map-Stmt, map-Clause}
-use Rattle.golf_syntax_induction.proofs.Statements.{KnownClause, KnownStmt, bare_clauses, bare_stmts, ClauseLayer, StmtLayer, bare_clause, bare_stmt, every-stmt, carried}
+use Rattle.golf_syntax_trees.specs.declared.statements.Clause.TheFolds.{fold-roll-Stmt, fold-roll-Clause, map-Stmt}
+use Rattle.golf_syntax_trees.specs.declared.statements.Clause.TheFolds.{map-Clause}
+use Rattle.golf_syntax_trees.proofs.StatementInduction.{KnownClause, KnownStmt, bare_clauses, bare_stmts, ClauseLayer}
+use Rattle.golf_syntax_trees.proofs.StatementInduction.{StmtLayer, bare_clause, bare_stmt, every-stmt, carried}
 use Rattle.golf_data.specs.declared.code.Instr.{Instr}
 use Rattle.golf_check_types.specs.Statements as W
 use Rattle.golf_code_of.specs.declared.tables.Tables.{Tables}
@@ -20,11 +22,13 @@ use Rattle.golf_code_of.specs.Selects.{ClausePart}
 use Rattle.golf_code_of.specs.Laying.{stmt_part, clause_part, stmt_part_step, clause_part_step}
 use Rattle.golf_meaning_statements.specs.Selecting.{ClauseStep}
 use Rattle.golf_meaning_statements.specs.Statements.{step, clause_step, step_step, clause_step_step}
-use Rattle.golf_meaning_statements.specs.Steps.{Step, parts, in_order, block, forever, while, in_loop, stepping, optional, then_deed, for_deed}
+use Rattle.golf_meaning_statements.specs.Steps.{Step, parts, in_order, block, forever, while, in_loop, stepping}
+use Rattle.golf_meaning_statements.specs.Steps.{optional, then_deed, for_deed}
 use Rattle.golf_meaning_statements.specs.Follows.{StatementMeans}
 use Rattle.golf_meaning_statements.specs.Laws.{StatementsMean}
 use Rattle.golf_meaning_statements.proofs.Flowing.{StepMeans, EachMeans, means-order, means-block, means-then}
-use Rattle.golf_meaning_statements.proofs.Simples.{means-simple, means-var, means-return, means-begin, means-break, means-continue}
+use Rattle.golf_meaning_statements.proofs.Simples.{means-simple, means-var, means-return, means-begin, means-break}
+use Rattle.golf_meaning_statements.proofs.Simples.{means-continue}
 use Rattle.golf_meaning_statements.proofs.Conditions.{means-optional, means-if, means-else}
 use Rattle.golf_meaning_statements.proofs.Ranges.{means-range}
 use Rattle.golf_meaning_statements.proofs.Choices.{ClauseMeans, EachClause, case-means, default-means, means-select}
@@ -38,7 +42,8 @@ module _ (taking : Taking) where
     step_layer y = step_step taking t (map-Stmt Clause Stmt ClauseStep Step (clause_step taking t) (step taking t) y)
 
     abbrev pub clause_layer : Clause-F Clause Stmt → ClauseStep
-    clause_layer y = clause_step_step taking t (map-Clause Clause Stmt ClauseStep Step (clause_step taking t) (step taking t) y)
+    clause_layer y = clause_step_step taking t
+        (map-Clause Clause Stmt ClauseStep Step (clause_step taking t) (step taking t) y)
 
     pub step-rolls : (y : Stmt-F Clause Stmt) → step taking t (roll-Stmt y) ≡ step_layer y
     unfolding step clause_step
@@ -49,16 +54,21 @@ module _ (taking : Taking) where
     clause-rolls = fold-roll-Clause ClauseStep Step (clause_step_step taking t) (step_step taking t)
 
     -- a step carries along the part whose code it means
-    carries : (y : Stmt-F ClauseStep Step) → (step_step taking t y).part ≡ stmt_part_step t (map-Stmt ClauseStep Step ClausePart Part (λ c. c.part) (λ x. x.part) y)
+    carries : (y : Stmt-F ClauseStep Step)
+        → (step_step taking t y).part ≡ stmt_part_step t
+        (map-Stmt ClauseStep Step ClausePart Part (λ c. c.part) (λ x. x.part) y)
     carries y = refl
 
-    carries-clause : (y : Clause-F ClauseStep Step) → (clause_step_step taking t y).part ≡ clause_part_step t (map-Clause ClauseStep Step ClausePart Part (λ c. c.part) (λ x. x.part) y)
+    carries-clause : (y : Clause-F ClauseStep Step)
+        → (clause_step_step taking t y).part ≡ clause_part_step t
+        (map-Clause ClauseStep Step ClausePart Part (λ c. c.part) (λ x. x.part) y)
     carries-clause (F.Case k c body) = refl
     carries-clause (F.Default k body) = refl
 
     pub step-part : (x : Stmt) → (step taking t x).part ≡ stmt_part t x
     unfolding stmt_part clause_part step clause_step
-    step-part = carried ClauseStep Step (clause_step_step taking t) (step_step taking t) ClausePart Part (clause_part_step t) (stmt_part_step t) (λ c. c.part) (λ x. x.part) carries-clause carries
+    step-part = carried ClauseStep Step (clause_step_step taking t) (step_step taking t) ClausePart Part
+        (clause_part_step t) (stmt_part_step t) (λ c. c.part) (λ x. x.part) carries-clause carries
 
     abbrev P : Stmt → Type 0
     P x = StepMeans taking (step taking t x)
@@ -81,18 +91,25 @@ module _ (taking : Taking) where
     each-clause [] = tt
     each-clause (c ∷ cs) = (c.1, each-clause cs)
 
-    header-means : (l : ℕ) (h : Header) (xs : List (KnownStmt P)) → StatementMeans taking (O.for_part t l h (parts (steps_of xs))).walk (O.for_part t l h (parts (steps_of xs))).lay (for_deed taking t l h (steps_of xs))
+    header-means : (l : ℕ) (h : Header) (xs : List (KnownStmt P))
+        → StatementMeans taking (O.for_part t l h (parts (steps_of xs))).walk
+        (O.for_part t l h (parts (steps_of xs))).lay (for_deed taking t l h (steps_of xs))
     header-means l header.Forever xs =
         let p = O.forever l (O.in_loop 1 0 (L.block (parts (steps_of xs)))) in
-        means-block taking p.walk p.lay (forever (in_loop 1 0 (block (steps_of xs)))) (means-forever taking (steps_of xs) (each-means xs) l)
+        means-block taking p.walk p.lay (forever (in_loop 1 0 (block (steps_of xs))))
+        (means-forever taking (steps_of xs) (each-means xs) l)
     header-means l (header.While e) xs =
         let p = O.while t l e (O.in_loop 1 0 (L.block (parts (steps_of xs)))) in
-        means-block taking p.walk p.lay (while taking t l e (in_loop 1 0 (block (steps_of xs)))) (means-while taking (steps_of xs) (each-means xs) t l e)
+        means-block taking p.walk p.lay (while taking t l e (in_loop 1 0 (block (steps_of xs))))
+        (means-while taking (steps_of xs) (each-means xs) t l e)
     header-means l (header.Steps first test post) xs =
         let x = L.optional t first in
         let y = O.stepping t l test (L.optional t post) (O.in_loop 2 0 (L.block (parts (steps_of xs)))) in
         let d = stepping taking t l test post (in_loop 2 0 (block (steps_of xs))) in
-        means-block taking (W.then x.walk y.walk) (L.then_lay x.lay x.walk y.lay) (then_deed x (optional taking t first) d) (means-then taking x.walk y.walk x.lay y.lay (optional taking t first) d (means-optional taking t l first) (means-stepping taking (steps_of xs) (each-means xs) t l test post))
+        means-block taking (W.then x.walk y.walk) (L.then_lay x.lay x.walk y.lay)
+        (then_deed x (optional taking t first) d)
+        (means-then taking x.walk y.walk x.lay y.lay (optional taking t first) d (means-optional taking t l first)
+        (means-stepping taking (steps_of xs) (each-means xs) t l test post))
     header-means l (header.Range names e) xs = means-range taking (steps_of xs) (each-means xs) t l names e
 
     own : (y : StmtLayer Q P) → StepMeans taking (step_layer (bare_stmt Q P y))
@@ -103,9 +120,12 @@ module _ (taking : Taking) where
     own (F.Return l e) = means-return taking t l e
     own (F.Break l) = means-break taking l
     own (F.Continue l) = means-continue taking l
-    own (F.Block l body) = means-block taking (L.in_order (parts (steps_of body))).walk (L.in_order (parts (steps_of body))).lay (in_order (steps_of body)) (means-order taking (steps_of body) (each-means body))
+    own (F.Block l body) = means-block taking (L.in_order (parts (steps_of body))).walk
+        (L.in_order (parts (steps_of body))).lay (in_order (steps_of body))
+        (means-order taking (steps_of body) (each-means body))
     own (F.If l first test body) = means-if taking t l first test (steps_of body) (each-means body)
-    own (F.IfElse l first test body otherwise) = means-else taking t l first test (steps_of body) (step taking t otherwise.0) (each-means body) otherwise.1
+    own (F.IfElse l first test body otherwise) =
+        means-else taking t l first test (steps_of body) (step taking t otherwise.0) (each-means body) otherwise.1
     own (F.For l h body) = header-means l h body
     own (F.Select l cs) = means-select taking l (map (clause_step taking t) (bare_clauses Q cs)) (each-clause cs)
 
@@ -119,4 +139,5 @@ module _ (taking : Taking) where
     step-means = every-stmt Q P clause-rolled rolled
 
   pub statements-mean : StatementsMean taking
-  statements-mean t x = subst (λ (p : Part). StatementMeans taking p.walk p.lay (step taking t x).deed) (step-part t x) (step-means t x)
+  statements-mean t x = subst (λ (p : Part). StatementMeans taking p.walk p.lay (step taking t x).deed) (step-part t x)
+      (step-means t x)

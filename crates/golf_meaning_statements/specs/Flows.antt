@@ -84,7 +84,8 @@ abbrev pub tested : List Value → World → Flow → Flow → Flow
 tested (x ∷ []) w f g = by_test (bool_of x) w f g
 tested _ w f g = unfit_flow w
 
--- a turn of a loop: at its end, and at `continue`, comes the next; if its condition is false, and at `break`, the loop is left
+-- a turn of a loop: at its end, and at `continue`, comes the next; if its condition is false, and at `break`, the loop
+-- is left
 abbrev pub turned : Flow → (Env → World → Flow) → Flow
 turned (Flow.Goes Course.On env w) next = next env w
 turned (Flow.Goes Course.Continues env w) next = next env w

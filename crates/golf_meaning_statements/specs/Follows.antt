@@ -24,18 +24,26 @@ abbrev pub EndsAlike : Told → End → Way → Type 0
 EndsAlike t (End.Halts h) o = Said h (o ≡ Way.Ends t)
 EndsAlike t End.Short o = o ≡ Way.Ends t
 
--- From a scope with these locals and a frame with these slots, the way goes as the flow does. `break` and `continue` lead to their targets,
--- and past what a condition guards is target 0.
+-- From a scope with these locals and a frame with these slots, the way goes as the flow does. `break` and `continue`
+-- lead to their targets, and past what a condition guards is target 0.
 abbrev pub Goes : List Local → ℕ → List Value → List Value → List Local → Around → Flow → Way → Type 0
-Goes ds next slots rest after a (Flow.Goes Course.On env u) o = (now : List Value) × (o ≡ Way.Through (frame now rest) u) × Stands ds next slots after env now
-Goes ds next slots rest after a (Flow.Goes Course.Skips env u) o = (now : List Value) × (o ≡ Way.Leaves 0 (frame now rest) u) × Stands ds next slots after env now
-Goes ds next slots rest after a (Flow.Goes Course.Breaks env u) o = (now : List Value) × (o ≡ Way.Leaves a.breaks (frame now rest) u) × Stands ds next slots ds (take (length ds) env) now
-Goes ds next slots rest after a (Flow.Goes Course.Continues env u) o = (now : List Value) × (o ≡ Way.Leaves a.continues (frame now rest) u) × Stands ds next slots ds (take (length ds) env) now
+Goes ds next slots rest after a (Flow.Goes Course.On env u) o = (now : List Value)
+    × (o ≡ Way.Through (frame now rest) u) × Stands ds next slots after env now
+Goes ds next slots rest after a (Flow.Goes Course.Skips env u) o = (now : List Value)
+    × (o ≡ Way.Leaves 0 (frame now rest) u) × Stands ds next slots after env now
+Goes ds next slots rest after a (Flow.Goes Course.Breaks env u) o = (now : List Value)
+    × (o ≡ Way.Leaves a.breaks (frame now rest) u) × Stands ds next slots ds (take (length ds) env) now
+Goes ds next slots rest after a (Flow.Goes Course.Continues env u) o = (now : List Value)
+    × (o ≡ Way.Leaves a.continues (frame now rest) u) × Stands ds next slots ds (take (length ds) env) now
 Goes ds next slots rest after a (Flow.Ends t) o = EndsAlike t t.end o
 
 module _ (taking : Taking) where
-  -- the code of a statement does what the statement does, wherever its slots are there; what it declares has slots of its own
+  -- the code of a statement does what the statement does, wherever its slots are there; what it declares has slots of
+  -- its own
   pub record StatementMeans (w : Walk) (x : Lay) (d : Deed) : Type 0 where
     pub rises : (s : Scope) → Rising s.next (behind s (w s)).next (w s).declares
-    pub goes : (a : Around) (s : Scope) (n : ℕ) (env : Env) (slots : List Value) → Known s.locals s.next env slots → (behind s (w s)).next ≤ length slots
-        → (at : ℕ) (ts : List ℕ) (rest : List Value) (u : World) → Goes s.locals s.next slots rest (behind s (w s)).locals a (d a s n env u) (run taking.gives n (x a s).piece at ts (frame slots rest) u)
+    pub goes : (a : Around) (s : Scope) (n : ℕ) (env : Env) (slots : List Value) → Known s.locals s.next env slots
+        → (behind s (w s)).next ≤ length slots
+        → (at : ℕ) (ts : List ℕ) (rest : List Value) (u : World)
+        → Goes s.locals s.next slots rest (behind s (w s)).locals a (d a s n env u)
+        (run taking.gives n (x a s).piece at ts (frame slots rest) u)

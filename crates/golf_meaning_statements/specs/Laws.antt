@@ -8,4 +8,5 @@ use Rattle.golf_meaning_source.specs.Operations.{Taking}
 
 module _ (taking : Taking) where
   abbrev pub StatementsMean : Type 0
-  StatementsMean = (t : Tables) (x : Stmt) → StatementMeans taking (stmt_part t x).walk (stmt_part t x).lay (step taking t x).deed
+  StatementsMean = (t : Tables) (x : Stmt)
+      → StatementMeans taking (stmt_part t x).walk (stmt_part t x).lay (step taking t x).deed

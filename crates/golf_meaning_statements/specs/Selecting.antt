@@ -1,6 +1,8 @@
--- Select statements (Go specification, "Select statements"; profile): the operands of all clauses are evaluated once, in source order, and one
--- operation chooses a clause. The operation and its answer name a clause by its place in source order, from 0.
-use Rattle.std.specs.Prelude.{ℕ, zero, suc, ◌==◌, ◌&&◌, ◌||◌, not, is_some, cond, Bool, true, List, [], ◌∷◌, length, map, Option}
+-- Select statements (Go specification, "Select statements"; profile): the operands of all clauses are evaluated once,
+-- in source order, and one operation chooses a clause. The operation and its answer name a clause by its place in
+-- source order, from 0.
+use Rattle.std.specs.Prelude.{ℕ, zero, suc, ◌==◌, ◌&&◌, ◌||◌, not, is_some, cond, Bool, true, List, [], ◌∷◌, length}
+use Rattle.std.specs.Prelude.{map, Option}
 use Rattle.golf_syntax_trees.specs.declared.statements.Communication.{Communication}
 use Rattle.golf_syntax_trees.specs.declared.statements.Communication.TheVariants as comm
 use Rattle.golf_data.specs.declared.value.Value.{Value}
@@ -20,10 +22,11 @@ use Rattle.golf_meaning_source.specs.Operations as O
 use Rattle.golf_meaning_source.specs.Operations.{Taking, Gives, gives, both, all_fit}
 use Rattle.golf_meaning_source.specs.Exprs.{store, dropped}
 use Rattle.golf_meaning_statements.specs.Flows.{Course, Flow, on, after, unfit_flow, guarded, if_fits}
-use Rattle.golf_meaning_statements.specs.Steps.{Deals, Deed, Step, value_at, declared, name_place, defines_pair, then_deed, in_order, in_block, parts}
+use Rattle.golf_meaning_statements.specs.Steps.{Deals, Deed, Step, value_at, declared, name_place, defines_pair}
+use Rattle.golf_meaning_statements.specs.Steps.{then_deed, in_order, in_block, parts}
 
--- A clause beside its code, of which only the walk, the kind and the made functions are looked at: on the line of the `select` its operands, and
--- the types of what it leaves if it is chosen; and what it does with these values.
+-- A clause beside its code, of which only the walk, the kind and the made functions are looked at: on the line of the
+-- `select` its operands, and the types of what it leaves if it is chosen; and what it does with these values.
 pub record ClauseStep : Type 0 where
   pub part : ClausePart
   pub operands : ℕ → Scope → Env → Gives
@@ -108,14 +111,19 @@ module _ (taking : Taking) where
   -- the clause at this place, with these values; each clause stands in the scope after those before it
   abbrev pub chosen : ℕ → ℕ → List Value → List ClauseStep → Deed
   chosen l k vs [] a s n env w = unfit_flow w
-  chosen l zero vs (c ∷ cs) a s n env w = guarded (length vs == length (c.leaves l s)) w (if_fits (not taking.strict || all_fit (c.leaves l s) vs) w (c.deed l vs (in_clause (many cs) a) s n env w))
-  chosen l (suc k) vs (c ∷ cs) a s n env w = chosen l k vs cs (past a (c.part.lay l (in_clause (many cs) a) s)) (behind s (c.part.walk l s)) n env w
+  chosen l zero vs (c ∷ cs) a s n env w =
+      guarded (length vs == length (c.leaves l s)) w
+      (if_fits (not taking.strict || all_fit (c.leaves l s) vs) w (c.deed l vs (in_clause (many cs) a) s n env w))
+  chosen l (suc k) vs (c ∷ cs) a s n env w =
+      chosen l k vs cs (past a (c.part.lay l (in_clause (many cs) a) s)) (behind s (c.part.walk l s)) n env w
 
   -- one operation with the operands of all clauses, and then the clause that the answer names
   abbrev pub chooses : ℕ → List ClauseStep → List Value → Deed
   chooses l cs vs a s n env w =
       guarded (length vs == cases_taken (cases_from 0 (clause_parts cs))) w
-      (after (gets taking.gives (Instr.Select (cases_from 0 (clause_parts cs)) (default_from 0 (clause_parts cs))) vs w) (λ x u. out_of_select (chosen l x.clause x.values cs a s n env u)))
+      (after (gets taking.gives (Instr.Select (cases_from 0 (clause_parts cs)) (default_from 0 (clause_parts cs))) vs w)
+      (λ x u. out_of_select (chosen l x.clause x.values cs a s n env u)))
 
   abbrev pub select_deed : ℕ → List ClauseStep → Deed
-  select_deed l cs a s n env w = guarded (one_default (clause_parts cs)) w (after (O.in_order (map (λ (c : ClauseStep). c.operands l s env) cs) w) (λ vs u. chooses l cs vs a s n env u))
+  select_deed l cs a s n env w = guarded (one_default (clause_parts cs)) w
+      (after (O.in_order (map (λ (c : ClauseStep). c.operands l s env) cs) w) (λ vs u. chooses l cs vs a s n env u))

@@ -10,7 +10,8 @@ use Rattle.golf_code_of.specs.Statements.{Part}
 use Rattle.golf_code_of.specs.Selects.{ClausePart}
 use Rattle.golf_code_of.specs.Laying.{stmt_part_step}
 use Rattle.golf_meaning_statements.specs.Flows.{Course, Flow}
-use Rattle.golf_meaning_statements.specs.Steps.{Deed, Step, var_deed, simple_deed, return_deed, block, if_deed, else_deed, for_deed, begin_deed}
+use Rattle.golf_meaning_statements.specs.Steps.{Deed, Step, var_deed, simple_deed, return_deed, block, if_deed}
+use Rattle.golf_meaning_statements.specs.Steps.{else_deed, for_deed, begin_deed}
 use Rattle.golf_meaning_statements.specs.Selecting.{ClauseStep, case_step, default_step, select_deed}
 use Rattle.golf_meaning_source.specs.Operations.{Taking}
 
@@ -30,7 +31,11 @@ module _ (taking : Taking) where
   deed_step t (S.Select l clauses) = select_deed taking l clauses
 
   abbrev pub step_step : Tables → Stmt-F ClauseStep Step → Step
-  step_step t y = record { part = stmt_part_step t (map-Stmt ClauseStep Step ClausePart Part (λ c. c.part) (λ x. x.part) y); deed = deed_step t y }
+  step_step t y = record {
+    part = stmt_part_step t
+        (map-Stmt ClauseStep Step ClausePart Part (λ c. c.part) (λ x. x.part) y);
+    deed = deed_step t y;
+  }
 
   abbrev pub clause_step_step : Tables → Clause-F ClauseStep Step → ClauseStep
   clause_step_step t (S.Case k c body) = case_step taking t k c body

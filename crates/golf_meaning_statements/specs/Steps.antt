@@ -1,5 +1,6 @@
 -- What the constructs of statements do, over the scopes of the checker (Go specification, "Statements").
-use Rattle.std.specs.Prelude.{ℕ, zero, suc, ◌+◌, cond, int_lt, Bool, true, false, List, [], ◌∷◌, ◌++◌, length, map, Option, Some, None}
+use Rattle.std.specs.Prelude.{ℕ, zero, suc, ◌+◌, cond, int_lt, Bool, true, false, List, [], ◌∷◌, ◌++◌, length, map}
+use Rattle.std.specs.Prelude.{Option, Some, None}
 use Rattle.golf_syntax_trees.specs.declared.expressions.Expr.{Expr}
 use Rattle.golf_syntax_trees.specs.declared.statements.UpdateOperator.{UpdateOperator}
 use Rattle.golf_syntax_trees.specs.declared.statements.UpdateOperator.TheVariants as update
@@ -39,9 +40,12 @@ use Rattle.golf_meaning_flat.specs.Worlds.{Halt, World, bind, halted}
 use Rattle.golf_meaning_flat.specs.Doing.{unfit, computed, divided, compared}
 use Rattle.golf_meaning_source.specs.Names.{Env}
 use Rattle.golf_meaning_source.specs.Operations.{Taking, Gives, gives, both, visible, on_two}
-use Rattle.golf_meaning_source.specs.Exprs.{Does, Place, Argument, values_of, if_none, read, store, dropped, int_value, name_does}
+use Rattle.golf_meaning_source.specs.Exprs.{Does, Location, Argument, values_of, if_none, read, store, dropped}
+use Rattle.golf_meaning_source.specs.Exprs.{int_value}
+use Rattle.golf_meaning_source.specs.Exprs.{name_does}
 use Rattle.golf_meaning_source.specs.Meaning.{meant, outer}
-use Rattle.golf_meaning_statements.specs.Flows.{Course, Flow, on, after, then_flow, cut, ends_here, or_else, unfit_flow, guarded, by_test, tested, turned, turns, then_post}
+use Rattle.golf_meaning_statements.specs.Flows.{Course, Flow, on, after, then_flow, cut, ends_here, or_else, unfit_flow}
+use Rattle.golf_meaning_statements.specs.Flows.{guarded, by_test, tested, turned, turns, then_post}
 
 -- names with values, as a part
 abbrev pub Deals : Type 0
@@ -106,7 +110,9 @@ abbrev pub parts : List Step → List Part
 parts xs = map (λ (x : Step). x.part) xs
 
 abbrev pub in_loop : ℕ → ℕ → Deed → Deed
-in_loop breaks continues d a s n env w = d (record { breaks = breaks; continues = continues; functions = a.functions }) (record s { breaks = true; loops = true }) n env w
+in_loop breaks continues d a s n env w =
+    d (record { breaks = breaks; continues = continues; functions = a.functions })
+    (record s { breaks = true; loops = true }) n env w
 
 abbrev pub forever : Deed → Deed
 forever d a s n env w = turns n (d a s n) env w
@@ -128,7 +134,9 @@ named_one n v env = cond (is_blank n) env (bound env n v)
 abbrev pub ranges : ℕ → Value → (Value → Env → World → Flow) → Value → Env → World → Flow
 ranges zero long step i env w = Flow.Ends (W.cut_short w)
 ranges (suc m) long step i env w =
-    after (compared int_lt w i long) (λ b u. by_test (bool_of b) u (turned (step i env u) (λ e v. after (computed sum v i (int_value 1)) (λ k x. ranges m long step k e x))) (Flow.Goes Course.On env u))
+    after (compared int_lt w i long) (λ b u. by_test (bool_of b) u
+    (turned (step i env u) (λ e v. after (computed sum v i (int_value 1)) (λ k x. ranges m long step k e x)))
+    (Flow.Goes Course.On env u))
 
 abbrev pub measured : List Value → World → (Value → World → Flow) → Flow
 measured (v ∷ []) w f = f v w
@@ -168,15 +176,17 @@ module _ (taking : Taking) where
 
   -- `p = e`
   abbrev pub assigns : Does → Gives → Deals
-  assigns p e env w = bind (p.parts env w) (λ told u. bind (e u) (λ xs v. store taking env (p.place env) (told ++ xs) v))
+  assigns p e env w = bind (p.parts env w)
+      (λ told u. bind (e u) (λ xs v. store taking env (p.place env) (told ++ xs) v))
 
   -- a name left of `=`
-  abbrev pub name_place : Tables → Scope → List ℕ → Env → Place
+  abbrev pub name_place : Tables → Scope → List ℕ → Env → Location
   name_place t s n env = (name_does taking t (is_blank n) n (outer s n)).place env
 
   -- the value and `ok` are there: `ok` is stored first
   abbrev pub stores_pair : Tables → Scope → List ℕ → List ℕ → Env → List Value → World → W.Part Env
-  stores_pair t s n m env (v ∷ (ok ∷ [])) w = bind (store taking env (name_place t s m env) (ok ∷ []) w) (λ e u. store taking e (name_place t s n e) (v ∷ []) u)
+  stores_pair t s n m env (v ∷ (ok ∷ [])) w =
+      bind (store taking env (name_place t s m env) (ok ∷ []) w) (λ e u. store taking e (name_place t s n e) (v ∷ []) u)
   stores_pair t s n m env _ w = unfit w
 
   -- names left of `:=`: one that is there already is assigned, and another is declared
@@ -187,21 +197,28 @@ module _ (taking : Taking) where
 
   abbrev pub defines_pair : Tables → Scope → List ℕ → List ℕ → Env → List Value → World → W.Part Env
   defines_pair t s n m env (v ∷ (ok ∷ [])) w =
-      bind (stores_unless (is_new s m) t s m env ok w) (λ e u. bind (stores_unless (is_new s n) t s n e v u) (λ e2 x. W.Part.Gives (with_new (is_new s m) m ok (with_new (is_new s n) n v e2)) x))
+      bind (stores_unless (is_new s m) t s m env ok w)
+      (λ e u. bind (stores_unless (is_new s n) t s n e v u)
+      (λ e2 x. W.Part.Gives (with_new (is_new s m) m ok (with_new (is_new s n) n v e2)) x))
   defines_pair t s n m env _ w = unfit w
 
   abbrev pub simple_deals : Tables → ℕ → SimpleKind → Scope → Deals
   simple_deals t l (simple.Expression e) s env w = bind (value_at t l s e env w) (drops (judge_at l s e).meaning env)
-  simple_deals t l (simple.Send c e) s env w = bind (both (value_at t l s c env) (value_at t l s e env) w) (λ vs u. bind (visible taking Instr.Send [] vs u) (λ us v. if_none us v (W.Part.Gives env v)))
+  simple_deals t l (simple.Send c e) s env w =
+      bind (both (value_at t l s c env) (value_at t l s e env) w)
+      (λ vs u. bind (visible taking Instr.Send [] vs u) (λ us v. if_none us v (W.Part.Gives env v)))
   simple_deals t l (simple.Increment p) s env w = updates (does_at t l s p) one (computed sum) env w
   simple_deals t l (simple.Decrement p) s env w = updates (does_at t l s p) one (computed difference) env w
   simple_deals t l (simple.Assign p e) s env w = assigns (does_at t l s p) (value_at t l s e env) env w
-  simple_deals t l (simple.Update p o e) s env w = updates (does_at t l s p) (value_at t l s e env) (update_operation o) env w
+  simple_deals t l (simple.Update p o e) s env w =
+      updates (does_at t l s p) (value_at t l s e env) (update_operation o) env w
   simple_deals t l (simple.Define n e) s env w = bind (value_at t l s e env w) (declared env n)
   simple_deals t l (simple.AssignReceived n m e) s env w =
-      bind (value_at t l s e env w) (λ vs u. bind (visible taking Instr.ReceiveOk (carried l e s ∷ (bool_type ∷ [])) vs u) (stores_pair t s n m env))
+      bind (value_at t l s e env w) (λ vs u. bind
+      (visible taking Instr.ReceiveOk (carried l e s ∷ (bool_type ∷ [])) vs u) (stores_pair t s n m env))
   simple_deals t l (simple.DefineReceived n m e) s env w =
-      bind (value_at t l s e env w) (λ vs u. bind (visible taking Instr.ReceiveOk (carried l e s ∷ (bool_type ∷ [])) vs u) (defines_pair t s n m env))
+      bind (value_at t l s e env w) (λ vs u. bind
+      (visible taking Instr.ReceiveOk (carried l e s ∷ (bool_type ∷ [])) vs u) (defines_pair t s n m env))
 
   abbrev pub simple_deed : Tables → Simple → Deed
   simple_deed t x a s n env w = on (simple_deals t x.line x.kind s env w)
@@ -213,7 +230,8 @@ module _ (taking : Taking) where
   -- Variables.
 
   abbrev pub first_value : Tables → ℕ → VarContent → Scope → Env → Gives
-  first_value t l (content.Zero of_type) s env w = W.Part.Gives (zero_of (zero_value (write_at l s of_type).type) ∷ []) w
+  first_value t l (content.Zero of_type) s env w =
+      W.Part.Gives (zero_of (zero_value (write_at l s of_type).type) ∷ []) w
   first_value t l (content.Typed of_type e) s env w = value_at t l s e env w
   first_value t l (content.Untyped e) s env w = value_at t l s e env w
 
@@ -235,7 +253,8 @@ module _ (taking : Taking) where
   abbrev pub begin_deals : Tables → ℕ → (ℕ → ℕ → Instr) → Expr → List Expr → ℕ → Scope → Deals
   begin_deals t l begin f xs next s env w =
       bind (both (value_at t l s f env) (values_of (map (argument t l s env) xs)) w) (λ vs u.
-      bind (beginning begin next (judge_at l s f).meaning (map (argument_at t l s) xs) vs u) (λ us v. if_none us v (W.Part.Gives env v)))
+      bind (beginning begin next (judge_at l s f).meaning (map (argument_at t l s) xs) vs u)
+      (λ us v. if_none us v (W.Part.Gives env v)))
 
   abbrev pub begin_deed : Tables → ℕ → (ℕ → ℕ → Instr) → Expr → List Expr → Deed
   begin_deed t l begin f xs a s n env w = on (begin_deals t l begin f xs a.functions s env w)
@@ -249,18 +268,22 @@ module _ (taking : Taking) where
   -- Conditions.
 
   abbrev pub after_test : Tables → ℕ → Expr → Deed → Deed
-  after_test t l test d a s n env w = after (value_at t l s test env w) (λ vs u. tested vs u (d a s n env u) (Flow.Goes Course.Skips env u))
+  after_test t l test d a s n env w = after (value_at t l s test env w)
+      (λ vs u. tested vs u (d a s n env u) (Flow.Goes Course.Skips env u))
 
   abbrev pub then_step : Tables → ℕ → Option Simple → Expr → List Step → Deed
   then_step t l first test body = then_deed (L.optional t first) (optional t first) (after_test t l test (block body))
 
   abbrev pub if_deed : Tables → ℕ → Option Simple → Expr → List Step → Deed
-  if_deed t l first test body = in_block (λ a s n env w. ends_here (then_step t l first test body (within 1 a) s n env w))
+  if_deed t l first test body = in_block (λ a s n env w. ends_here
+      (then_step t l first test body (within 1 a) s n env w))
 
   abbrev pub else_deed : Tables → ℕ → Option Simple → Expr → List Step → Step → Deed
   else_deed t l first test body otherwise = in_block (λ a s n env w.
       let x = L.then_part t l first test (parts body) in
-      or_else (then_step t l first test body (within 2 a) s n env w) (λ env u. ends_here (otherwise.deed (within 1 (past a (x.lay (within 2 a) s))) (behind s (x.walk s)) n env u)))
+      or_else (then_step t l first test body (within 2 a) s n env w)
+      (λ env u. ends_here (otherwise.deed (within 1 (past a (x.lay (within 2 a) s)))
+      (behind s (x.walk s)) n env u)))
 
   -- Loops: at most so many turns are begun; a turn begins with the look at the condition.
 
@@ -272,15 +295,18 @@ module _ (taking : Taking) where
   after_optional t l (Some test) d = after_test t l test d
 
   abbrev pub with_post : Tables → Option Simple → Deed → Deed
-  with_post t post d a s n env w = then_post (d (past a ((L.optional t post).lay a s)) (behind s ((L.optional t post).walk s)) n env w) (optional t post a s n)
+  with_post t post d a s n env w = then_post
+      (d (past a ((L.optional t post).lay a s)) (behind s ((L.optional t post).walk s)) n env w) (optional t post a s n)
 
   abbrev pub stepping : Tables → ℕ → Option Expr → Option Simple → Deed → Deed
-  stepping t l test post d a s n env w = guarded (is_plain post) w (turns n (after_optional t l test (with_post t post d) a s n) env w)
+  stepping t l test post d a s n env w = guarded (is_plain post) w
+      (turns n (after_optional t l test (with_post t post d) a s n) env w)
 
   -- Range: a slice and its length are evaluated once.
 
   abbrev pub element_named : Option GoType → List ℕ → Value → Value → Env → World → W.Part Env
-  element_named e m x i env w = cond (is_blank m) (W.Part.Gives env w) (bind (visible taking Instr.Index (e ∷ []) (x ∷ (i ∷ [])) w) (declared env m))
+  element_named e m x i env w = cond (is_blank m) (W.Part.Gives env w)
+      (bind (visible taking Instr.Index (e ∷ []) (x ∷ (i ∷ [])) w) (declared env m))
 
   abbrev pub range_named : Option GoType → RangeNames → Value → Value → Env → World → W.Part Env
   range_named e range.Neither x i env w = W.Part.Gives env w
@@ -291,14 +317,17 @@ module _ (taking : Taking) where
   range_step e names x d i env w = cut (length env) (after (range_named e names x i env w) d)
 
   abbrev pub over_slice : ℕ → Option GoType → RangeNames → (Env → World → Flow) → Value → Env → World → Flow
-  over_slice n e names d x env w = after (visible taking Instr.Len (int_type ∷ []) (x ∷ []) w) (λ ls u. measured ls u (λ long v. ranges n long (range_step e names x d) (int_value 0) env v))
+  over_slice n e names d x env w = after (visible taking Instr.Len (int_type ∷ []) (x ∷ []) w)
+      (λ ls u. measured ls u (λ long v. ranges n long (range_step e names x d) (int_value 0) env v))
 
   -- A channel is evaluated once, and received from until it is closed.
 
   abbrev pub receives : ℕ → Option GoType → Value → (Value → Env → World → Flow) → Env → World → Flow
   receives zero e c step env w = Flow.Ends (W.cut_short w)
   receives (suc m) e c step env w =
-      after (visible taking Instr.ReceiveOk (e ∷ (bool_type ∷ [])) (c ∷ []) w) (λ vs u. received_two vs u (λ v ok y. by_test (bool_of ok) y (turned (step v env y) (receives m e c step)) (Flow.Goes Course.On env y)))
+      after (visible taking Instr.ReceiveOk (e ∷ (bool_type ∷ [])) (c ∷ []) w)
+      (λ vs u. received_two vs u (λ v ok y. by_test (bool_of ok) y (turned (step v env y) (receives m e c step))
+      (Flow.Goes Course.On env y)))
 
   abbrev pub over : Bool → ℕ → Option GoType → RangeNames → (Env → World → Flow) → Value → Env → World → Flow
   over true n e names d x env w = over_slice n e names d x env w
@@ -307,12 +336,14 @@ module _ (taking : Taking) where
   abbrev pub ranging : Tables → ℕ → RangeNames → Expr → Deed → Deed
   ranging t l names e d a s n env w =
       let v = given_by (judge_at l s e) in
-      after (value_at t l s e env w) (λ vs u. measured vs u (λ x y. over (is_outer is_slice v) n (element v) names (d a (behind s (range_slots names v s)) n) x env y))
+      after (value_at t l s e env w) (λ vs u. measured vs u
+      (λ x y. over (is_outer is_slice v) n (element v) names (d a (behind s (range_slots names v s)) n) x env y))
 
   abbrev pub header_deed : Tables → ℕ → Header → List Step → Deed
   header_deed t l header.Forever body = forever (in_loop 1 0 (block body))
   header_deed t l (header.While e) body = while t l e (in_loop 1 0 (block body))
-  header_deed t l (header.Steps first test post) body = then_deed (L.optional t first) (optional t first) (stepping t l test post (in_loop 2 0 (block body)))
+  header_deed t l (header.Steps first test post) body =
+      then_deed (L.optional t first) (optional t first) (stepping t l test post (in_loop 2 0 (block body)))
   header_deed t l (header.Range names e) body = ranging t l names e (in_loop 2 0 (block body))
 
   abbrev pub for_deed : Tables → ℕ → Header → List Step → Deed

@@ -21,12 +21,16 @@ operands_taken i = taken i
 
 -- the instruction at a place shows this operation, and an answer with this clause leads to that place
 abbrev pub LeadsTo : Instr → ℕ → Instr → ℕ → ℕ → Type 0
-LeadsTo (Instr.Select cases otherwise) at shown clause to = (shown ≡ choice_of cases otherwise) × (clause_of (lower (targets cases otherwise)) clause cases otherwise ≡ Some to)
+LeadsTo (Instr.Select cases otherwise) at shown clause to = (shown ≡ choice_of cases otherwise)
+    × (clause_of (lower (targets cases otherwise)) clause cases otherwise ≡ Some to)
 LeadsTo Instr.Panic at shown clause to = ⊥
 LeadsTo i at shown clause to = (is_inner i ≡ false) × (shown ≡ i) × (clause ≡ 0) × (to ≡ at + 1)
 
--- An operation and its answer, by these types and by what is known of objects: an instruction fits the shape of its place, which has the types of the operands, of which there are as many as it takes; the answer leads to a place whose shape has the types of its values, and below both are the same values.
-pub record AnswerFits (types : Types) (known : List (ℕ × ValueType)) (ft : FunctionTypes) (o : Operation) (a : Answer) : Type 0 where
+-- An operation and its answer, by these types and by what is known of objects: an instruction fits the shape of its
+-- place, which has the types of the operands, of which there are as many as it takes; the answer leads to a place whose
+-- shape has the types of its values, and below both are the same values.
+pub record AnswerFits (types : Types) (known : List (ℕ × ValueType)) (ft : FunctionTypes) (o : Operation)
+    (a : Answer) : Type 0 where
   pub at : ℕ
   pub instr : Instr
   pub before : Shape
@@ -49,9 +53,12 @@ Answers P (o ∷ os) (a ∷ got) = P o a × Answers P os got
 
 -- so it is of each answer that a call got whose function fits its types
 abbrev pub AnswersAreTyped : Type 0
-AnswersAreTyped = (types : Types) (known : List (ℕ × ValueType)) (fn : Function) (ft : FunctionTypes) (arguments : List Value) (os : List Operation) (got : List Answer) (now : Now) → FunctionFits types fn ft
-    → Life fn (Some (record { types = types; known = known; shapes = ft.shapes })) arguments os got now → Answers (AnswerFits types known ft) os got
+AnswersAreTyped = (types : Types) (known : List (ℕ × ValueType)) (fn : Function) (ft : FunctionTypes)
+    (arguments : List Value) (os : List Operation) (got : List Answer) (now : Now) → FunctionFits types fn ft
+    → Life fn (Some (record { types = types; known = known; shapes = ft.shapes })) arguments os got now
+    → Answers (AnswerFits types known ft) os got
 
 -- an answer that fits has as many values as its operation leaves
 abbrev pub AnswersAreCounted : Type 0
-AnswersAreCounted = (types : Types) (known : List (ℕ × ValueType)) (ft : FunctionTypes) (o : Operation) (a : Answer) → AnswerFits types known ft o a → answer_left (giving types) o.instr a.clause ≡ Some (length a.values)
+AnswersAreCounted = (types : Types) (known : List (ℕ × ValueType)) (ft : FunctionTypes) (o : Operation) (a : Answer)
+    → AnswerFits types known ft o a → answer_left (giving types) o.instr a.clause ≡ Some (length a.values)

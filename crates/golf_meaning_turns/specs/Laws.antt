@@ -23,10 +23,13 @@ abbrev pub AlikeAt : List CodeLine → ℕ → List Value → List Value → Typ
 AlikeAt body at xs ys = (length xs ≡ length ys) × ((i : ℕ) → Needed body i at → slice_get xs i ≡ slice_get ys i)
 
 abbrev pub NeededDecide : Type 0
-NeededDecide = (gives : List Bool) (body : List CodeLine) (n at : ℕ) (xs ys operands : List Value) (w : World) → AlikeAt body at xs ys → exec gives body n at (record { slots = xs; operands = operands }) w ≡ exec gives body n at (record { slots = ys; operands = operands }) w
+NeededDecide = (gives : List Bool) (body : List CodeLine) (n at : ℕ) (xs ys operands : List Value) (w : World)
+    → AlikeAt body at xs ys → exec gives body n at (record { slots = xs; operands = operands }) w ≡ exec gives body n at
+    (record { slots = ys; operands = operands }) w
 
 abbrev pub InnerTurns : Type 0
-InnerTurns = (gives : List Bool) (code : Code) (i : Instr) (a : Actor) (choice : ℕ) (s : State) → is_inner i ≡ true → IsTurn a (λ w. stepped gives (doing gives i) a.frame.at (frame_of a.frame) w) (changes code i a choice s)
+InnerTurns = (gives : List Bool) (code : Code) (i : Instr) (a : Actor) (choice : ℕ) (s : State) → is_inner i ≡ true
+    → IsTurn a (λ w. stepped gives (doing gives i) a.frame.at (frame_of a.frame) w) (changes code i a choice s)
 
 -- the place after the instruction; who waits there goes on there
 abbrev pub After : Actor → ℕ → Type 0
@@ -37,7 +40,8 @@ WaitsAfter a to ws = (to ≡ a.frame.at + 1) × GoOn ws
 
 -- what the turn of a visible instruction that has no targets comes to
 abbrev pub VisibleTurns : Type 0
-VisibleTurns = (code : Code) (i : Instr) (a : Actor) (choice : ℕ) (s : State) → is_inner i ≡ false → ((cases : List SelectCase) (otherwise : Option ℕ) → i ≡ Instr.Select cases otherwise → ⊥) → IsAwake s a.number
+VisibleTurns = (code : Code) (i : Instr) (a : Actor) (choice : ℕ) (s : State) → is_inner i ≡ false
+    → ((cases : List SelectCase) (otherwise : Option ℕ) → i ≡ Instr.Select cases otherwise → ⊥) → IsAwake s a.number
     → ComesBy code s a i (After a) (WaitsAfter a) (split_from (taken i) [] a.frame.operands) (changes code i a choice s)
 
 -- who waits for a choice goes on at the target of a case; if it stands at a target already, it goes on there
@@ -46,5 +50,8 @@ WaitsFor ts to ws = (In to ts × GoOn ws) ⊎ Chooses ts ws
 
 -- what the turn of a choice comes to: it goes on at one of the targets
 abbrev pub ChoosingTurns : Type 0
-ChoosingTurns = (code : Code) (cases : List SelectCase) (otherwise : Option ℕ) (a : Actor) (choice : ℕ) (s : State) → IsAwake s a.number
-    → ComesBy code s a (Instr.Select cases otherwise) (λ to. In to (targets cases otherwise)) (WaitsFor (targets cases otherwise)) (split_from (cases_taken cases) [] a.frame.operands) (changes code (Instr.Select cases otherwise) a choice s)
+ChoosingTurns = (code : Code) (cases : List SelectCase) (otherwise : Option ℕ) (a : Actor) (choice : ℕ) (s : State)
+    → IsAwake s a.number
+    → ComesBy code s a (Instr.Select cases otherwise) (λ to. In to (targets cases otherwise))
+    (WaitsFor (targets cases otherwise)) (split_from (cases_taken cases) [] a.frame.operands)
+    (changes code (Instr.Select cases otherwise) a choice s)

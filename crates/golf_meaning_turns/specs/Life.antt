@@ -17,7 +17,8 @@ world answers operations = record { answers = answers; operations = operations }
 abbrev pub frame : List Value → List Value → Frame
 frame slots operands = record { slots = slots; operands = operands }
 
--- a call stands at a place; or it waits for the answer to the operation at a place, before which it had shown these operations; or it has halted
+-- a call stands at a place; or it waits for the answer to the operation at a place, before which it had shown these
+-- operations; or it has halted
 pub data Now : Type 0 where
   Stands : (at : ℕ) (c : Frame) → Now
   Asks : (at : ℕ) (c : Frame) (before : List Operation) → Now
@@ -27,34 +28,56 @@ pub data Now : Type 0 where
 abbrev pub first_slots : Function → List Value → List Value
 first_slots fn arguments = arguments ++ replicate (fn.slots - length arguments) (Value.Int (pos 0))
 
--- What a call of a function with these arguments has shown, and was answered, when it stands at a place. Its frame has the shape of its place wherever it shows an operation, and wherever it goes on after an answer.
-pub data Life (fn : Function) (shaping : Option Shaping) (arguments : List Value) : List Operation → List Answer → Now → Type 0 where
+-- What a call of a function with these arguments has shown, and was answered, when it stands at a place. Its frame has
+-- the shape of its place wherever it shows an operation, and wherever it goes on after an answer.
+pub data Life (fn : Function) (shaping : Option Shaping) (arguments : List Value) : List Operation → List Answer → Now
+    → Type 0 where
   -- it begins, with as many arguments as the function has parameters
-  Begins : length arguments ≡ fn.params → Life fn shaping arguments [] [] (Now.Stands 0 (frame (first_slots fn arguments) []))
+  Begins : length arguments ≡ fn.params → Life fn shaping arguments [] []
+      (Now.Stands 0 (frame (first_slots fn arguments) []))
   -- an instruction that shows nothing
-  Turns : {os : List Operation} {got : List Answer} {at : ℕ} {c : Frame} (l : CodeLine) (to : ℕ) (d : Frame) → Life fn shaping arguments os got (Now.Stands at c) → slice_get fn.body at ≡ Some l
-      → ((w : World) → stepped (giving_by shaping) (doing (giving_by shaping) l.instr) at c w ≡ Stepped.Goes to d w) → Life fn shaping arguments os got (Now.Stands to d)
+  Turns : {os : List Operation} {got : List Answer} {at : ℕ} {c : Frame} (l : CodeLine) (to : ℕ) (d : Frame)
+      → Life fn shaping arguments os got (Now.Stands at c) → slice_get fn.body at ≡ Some l
+      → ((w : World) → stepped (giving_by shaping) (doing (giving_by shaping) l.instr) at c w ≡ Stepped.Goes to d w)
+      → Life fn shaping arguments os got (Now.Stands to d)
   -- slots that are not needed are cleared
-  Clears : {os : List Operation} {got : List Answer} {at : ℕ} {c : Frame} (slots : List Value) → Life fn shaping arguments os got (Now.Stands at c) → AlikeAt fn.body at c.slots slots → Life fn shaping arguments os got (Now.Stands at (frame slots c.operands))
+  Clears : {os : List Operation} {got : List Answer} {at : ℕ} {c : Frame} (slots : List Value)
+      → Life fn shaping arguments os got (Now.Stands at c) → AlikeAt fn.body at c.slots slots
+      → Life fn shaping arguments os got (Now.Stands at (frame slots c.operands))
   -- an operation is shown
-  Shows : {os : List Operation} {got : List Answer} {at : ℕ} {c : Frame} (l : CodeLine) (o : Operation) → Life fn shaping arguments os got (Now.Stands at c) → IsShaped shaping at c → slice_get fn.body at ≡ Some l
-      → stepped (giving_by shaping) (doing (giving_by shaping) l.instr) at c (world [] os) ≡ Stepped.Halts Halt.Waits (os ++ o ∷ []) → Life fn shaping arguments (os ++ o ∷ []) got (Now.Asks at c os)
+  Shows : {os : List Operation} {got : List Answer} {at : ℕ} {c : Frame} (l : CodeLine) (o : Operation)
+      → Life fn shaping arguments os got (Now.Stands at c) → IsShaped shaping at c → slice_get fn.body at ≡ Some l
+      → stepped (giving_by shaping) (doing (giving_by shaping) l.instr) at c (world [] os) ≡ Stepped.Halts Halt.Waits
+      (os ++ o ∷ []) → Life fn shaping arguments (os ++ o ∷ []) got (Now.Asks at c os)
   -- and is answered
-  Answered : {os before : List Operation} {got : List Answer} {at : ℕ} {c : Frame} (l : CodeLine) (a : Answer) (to : ℕ) (d : Frame) → Life fn shaping arguments os got (Now.Asks at c before) → IsShaped shaping to d → slice_get fn.body at ≡ Some l
-      → ((later : List Answer) → stepped (giving_by shaping) (doing (giving_by shaping) l.instr) at c (world (a ∷ later) before) ≡ Stepped.Goes to d (world later os)) → Life fn shaping arguments os (got ++ a ∷ []) (Now.Stands to d)
+  Answered : {os before : List Operation} {got : List Answer} {at : ℕ} {c : Frame} (l : CodeLine) (a : Answer) (to : ℕ)
+      (d : Frame) → Life fn shaping arguments os got (Now.Asks at c before) → IsShaped shaping to d
+      → slice_get fn.body at ≡ Some l
+      → ((later : List Answer) → stepped (giving_by shaping) (doing (giving_by shaping) l.instr) at c
+      (world (a ∷ later) before) ≡ Stepped.Goes to d (world later os))
+      → Life fn shaping arguments os (got ++ a ∷ []) (Now.Stands to d)
   -- it returns, or divides by zero
-  Halts : {os : List Operation} {got : List Answer} {at : ℕ} {c : Frame} (l : CodeLine) (h : Halt) → Life fn shaping arguments os got (Now.Stands at c) → slice_get fn.body at ≡ Some l
-      → ((w : World) → stepped (giving_by shaping) (doing (giving_by shaping) l.instr) at c w ≡ Stepped.Halts h w.operations) → Life fn shaping arguments os got (Now.Halted h)
+  Halts : {os : List Operation} {got : List Answer} {at : ℕ} {c : Frame} (l : CodeLine) (h : Halt)
+      → Life fn shaping arguments os got (Now.Stands at c) → slice_get fn.body at ≡ Some l
+      → ((w : World) → stepped (giving_by shaping) (doing (giving_by shaping) l.instr) at c w
+      ≡ Stepped.Halts h w.operations) → Life fn shaping arguments os got (Now.Halted h)
 
 -- the meaning of the code of a call, if these functions give a value
 abbrev pub call_means : List Bool → Function → List Value → List Answer → ℕ → Told
-call_means gives fn arguments answers n = exec gives fn.body n 0 (frame (first_slots fn arguments) []) (world answers [])
+call_means gives fn arguments answers n =
+    exec gives fn.body n 0 (frame (first_slots fn arguments) []) (world answers [])
 
--- with the answers that it got, the code means what the call has shown: it is at work after so many instructions, it waits at its last operation, or it ends so
+-- with the answers that it got, the code means what the call has shown: it is at work after so many instructions, it
+-- waits at its last operation, or it ends so
 abbrev pub HasShown : List Bool → Function → List Value → List Operation → List Answer → Now → Type 0
-HasShown gives fn arguments os got (Now.Stands at c) = (n : ℕ) × (call_means gives fn arguments got n ≡ record { operations = os; end = End.Short })
-HasShown gives fn arguments os got (Now.Asks at c before) = (n : ℕ) × (call_means gives fn arguments got n ≡ record { operations = os; end = End.Halts Halt.Waits })
-HasShown gives fn arguments os got (Now.Halted h) = (n : ℕ) × (call_means gives fn arguments got n ≡ record { operations = os; end = End.Halts h })
+HasShown gives fn arguments os got (Now.Stands at c) = (n : ℕ)
+    × (call_means gives fn arguments got n ≡ record { operations = os; end = End.Short })
+HasShown gives fn arguments os got (Now.Asks at c before) = (n : ℕ)
+    × (call_means gives fn arguments got n ≡ record { operations = os; end = End.Halts Halt.Waits })
+HasShown gives fn arguments os got (Now.Halted h) = (n : ℕ)
+    × (call_means gives fn arguments got n ≡ record { operations = os; end = End.Halts h })
 
 abbrev pub LivesMean : Type 0
-LivesMean = (fn : Function) (shaping : Option Shaping) (arguments : List Value) (os : List Operation) (got : List Answer) (now : Now) → Life fn shaping arguments os got now → HasShown (giving_by shaping) fn arguments os got now
+LivesMean = (fn : Function) (shaping : Option Shaping) (arguments : List Value) (os : List Operation)
+    (got : List Answer) (now : Now) → Life fn shaping arguments os got now
+    → HasShown (giving_by shaping) fn arguments os got now

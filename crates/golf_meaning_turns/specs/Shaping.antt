@@ -14,7 +14,8 @@ pub record Shaping : Type 0 where
 -- the operands of a frame are of the types of the shape at this place; without shapes nothing is asked
 abbrev pub IsShaped : Option Shaping → ℕ → Frame → Type 0
 IsShaped None at c = Unit {0}
-IsShaped (Some shaping) at c = (sh : Shape) × (slice_get shaping.shapes at ≡ Some sh) × ValuesFit shaping.types shaping.known c.operands sh.operands
+IsShaped (Some shaping) at c = (sh : Shape) × (slice_get shaping.shapes at ≡ Some sh)
+    × ValuesFit shaping.types shaping.known c.operands sh.operands
 
 -- the function fits these types, and has these shapes
 abbrev pub FitsShaping : Function → Option Shaping → Type 0

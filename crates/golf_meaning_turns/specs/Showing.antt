@@ -31,13 +31,16 @@ IsOfLock Side.Send = ⊥
 IsOfLock Side.Receive = ⊥
 IsOfLock _ = Unit {0}
 
--- a waiter with that side goes on as this goroutine: it was served with values, or a lock, a group or a condition released it where it stands
+-- a waiter with that side goes on as this goroutine: it was served with values, or a lock, a group or a condition
+-- released it where it stands
 abbrev pub GoesOnAs : Side → Waiter → GoroutineView → Type 0
-GoesOnAs side w r = ((values : List Value) × (r ≡ resumed w.wait values w.goroutine)) ⊎ (IsOfLock side × (r ≡ released w.goroutine))
+GoesOnAs side w r = ((values : List Value) × (r ≡ resumed w.wait values w.goroutine))
+    ⊎ (IsOfLock side × (r ≡ released w.goroutine))
 
 -- the goroutine of this number is a waiter of the state, and goes on as this one
 abbrev pub Serves : State → ℕ → GoroutineView → Type 0
-Serves s h r = (o : ℕ) × (side : Side) × (w : Waiter) × In w (waiters o side s.goroutines) × (w.number ≡ h) × GoesOnAs side w r
+Serves s h r = (o : ℕ) × (side : Side) × (w : Waiter) × In w (waiters o side s.goroutines) × (w.number ≡ h)
+    × GoesOnAs side w r
 
 -- the goroutine of this number waits on a condition
 abbrev pub WaitsOnCondition : State → ℕ → Type 0
@@ -77,20 +80,34 @@ CalledBy (Instr.Call f n) g = f ≡ g
 CalledBy (Instr.Go f n) g = f ≡ g
 CalledBy _ g = ⊥
 
--- What an operation comes to, with its operands, and with these below them. No rule fits; or it is answered at once, and the goroutine goes on at a place to which answers lead; or it waits, in queues or for the function that
--- it calls; or it starts a goroutine on the function; or the call is deferred; or it has no answer, since the goroutine panics or the program ends.
-pub data ComesTo (code : Code) (s : State) (a : Actor) (i : Instr) (operands rest : List Value) (Answering : ℕ → Type 0) (Waiting : ℕ → List Wait → Type 0) (cs : List Change) : Type 0 where
+-- What an operation comes to, with its operands, and with these below them. No rule fits; or it is answered at once,
+-- and the goroutine goes on at a place to which answers lead; or it waits, in queues or for the function that it calls;
+-- or it starts a goroutine on the function; or the call is deferred; or it has no answer, since the goroutine panics or
+-- the program ends.
+pub data ComesTo (code : Code) (s : State) (a : Actor) (i : Instr) (operands rest : List Value) (Answering : ℕ → Type 0)
+    (Waiting : ℕ → List Wait → Type 0) (cs : List Change) : Type 0 where
   NoRule : cs ≡ [] → ComesTo code s a i operands rest Answering Waiting cs
-  Answered : (to : ℕ) (values : List Value) (before later : List Change) → Answering to → cs ≡ before ++ (stands a (stood a to (pushed values rest)) ++ later) → AreOthers s a.number before → AreOthers s a.number later → ComesTo code s a i operands rest Answering Waiting cs
-  Waits : (to : ℕ) (kind : WaitKind) (waits : List Wait) (before : List Change) → Waiting to waits → cs ≡ before ++ blocks a (stood a to rest) kind waits → AreOthers s a.number before → ComesTo code s a i operands rest Answering Waiting cs
-  Calls : (to g : ℕ) (fn : Function) → Answering to → CalledBy i g → slice_get code.functions g ≡ Some fn → cs ≡ Change.Become a.number (with_frames a (opened g operands false fn ∷ (stood a to rest ∷ a.callers))) ∷ [] → ComesTo code s a i operands rest Answering Waiting cs
-  Starts : (to g : ℕ) (fn : Function) → Answering to → CalledBy i g → slice_get code.functions g ≡ Some fn → cs ≡ Change.Spawn (started_on a (opened g operands true fn)) ∷ stands a (stood a to rest) → ComesTo code s a i operands rest Answering Waiting cs
-  Defers : (to : ℕ) (d : Deferred) → Answering to → cs ≡ stands a (record a.frame { at = to; operands = rest; deferred = d ∷ a.frame.deferred }) → ComesTo code s a i operands rest Answering Waiting cs
+  Answered : (to : ℕ) (values : List Value) (before later : List Change) → Answering to → cs ≡ before
+      ++ (stands a (stood a to (pushed values rest)) ++ later) → AreOthers s a.number before
+      → AreOthers s a.number later → ComesTo code s a i operands rest Answering Waiting cs
+  Waits : (to : ℕ) (kind : WaitKind) (waits : List Wait) (before : List Change) → Waiting to waits → cs ≡ before
+      ++ blocks a (stood a to rest) kind waits → AreOthers s a.number before
+      → ComesTo code s a i operands rest Answering Waiting cs
+  Calls : (to g : ℕ) (fn : Function) → Answering to → CalledBy i g → slice_get code.functions g ≡ Some fn
+      → cs ≡ Change.Become a.number (with_frames a (opened g operands false fn ∷ (stood a to rest ∷ a.callers))) ∷ []
+      → ComesTo code s a i operands rest Answering Waiting cs
+  Starts : (to g : ℕ) (fn : Function) → Answering to → CalledBy i g → slice_get code.functions g ≡ Some fn
+      → cs ≡ Change.Spawn (started_on a (opened g operands true fn)) ∷ stands a (stood a to rest)
+      → ComesTo code s a i operands rest Answering Waiting cs
+  Defers : (to : ℕ) (d : Deferred) → Answering to
+      → cs ≡ stands a (record a.frame { at = to; operands = rest; deferred = d ∷ a.frame.deferred })
+      → ComesTo code s a i operands rest Answering Waiting cs
   Panics : (kind : PanicKind) → cs ≡ panics a kind → ComesTo code s a i operands rest Answering Waiting cs
   Dies : (kind : PanicKind) → cs ≡ dies a kind → ComesTo code s a i operands rest Answering Waiting cs
 
 -- with too few operands no rule fits
-abbrev pub ComesBy : Code → State → Actor → Instr → (ℕ → Type 0) → (ℕ → List Wait → Type 0) → Option (List Value × List Value) → List Change → Type 0
+abbrev pub ComesBy : Code → State → Actor → Instr → (ℕ → Type 0) → (ℕ → List Wait → Type 0)
+    → Option (List Value × List Value) → List Change → Type 0
 ComesBy code s a i Answering Waiting None cs = cs ≡ []
 ComesBy code s a i Answering Waiting (Some o) cs = ComesTo code s a i o.0 o.1 Answering Waiting cs
 
@@ -100,7 +117,8 @@ GoOn ws = Every (λ (w : Wait). w.target ≡ None) ws
 
 -- who is served there goes on at one of these places, and is served by a channel
 abbrev pub Chooses : List ℕ → List Wait → Type 0
-Chooses ts ws = Every (λ (w : Wait). (t : ℕ) × (w.target ≡ Some t) × In t ts × ((w.side ≡ Side.Send) ⊎ (w.side ≡ Side.Receive))) ws
+Chooses ts ws = Every (λ (w : Wait). (t : ℕ) × (w.target ≡ Some t) × In t ts
+    × ((w.side ≡ Side.Send) ⊎ (w.side ≡ Side.Receive))) ws
 
 -- the goroutine is in no queue
 abbrev pub IsAwake : State → ℕ → Type 0

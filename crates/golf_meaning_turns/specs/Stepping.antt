@@ -24,7 +24,8 @@ abbrev pub stepped : List Bool → Doing → ℕ → Frame → World → Stepped
 stepped gives (Doing.Acts f) at c w = stepped_by (f c w) (λ d u. Stepped.Goes (at + 1) d u)
 stepped gives (Doing.Jumps t) at c w = Stepped.Goes t c w
 stepped gives (Doing.Tests t) at c w = stepped_by (tests c w) (λ r u. Stepped.Goes (cond r.0 (at + 1) t) r.1 u)
-stepped gives (Doing.Chooses cs o) at c w = stepped_by (picks gives (lower (targets cs o)) cs o c w) (λ r u. Stepped.Goes r.0 r.1 u)
+stepped gives (Doing.Chooses cs o) at c w =
+    stepped_by (picks gives (lower (targets cs o)) cs o c w) (λ r u. Stepped.Goes r.0 r.1 u)
 
 abbrev pub then_next : Stepped → Next → Told
 then_next (Stepped.Goes at c w) next = next at c w
@@ -62,9 +63,15 @@ is_inner Instr.Return = true
 is_inner Instr.ReturnValue = true
 is_inner i = false
 
--- The changes of a turn are what the step says in every world, and nothing is shown: the frame goes on there; it returns that value; it panics at a zero divisor; or no rule fits.
+-- The changes of a turn are what the step says in every world, and nothing is shown: the frame goes on there; it
+-- returns that value; it panics at a zero divisor; or no rule fits.
 pub data IsTurn (a : Actor) (step : World → Stepped) (cs : List Change) : Type 0 where
-  GoesOn : (to : ℕ) (d : Frame) → ((w : World) → step w ≡ Stepped.Goes to d w) → cs ≡ stands a (record a.frame { at = to; slots = d.slots; operands = d.operands }) → IsTurn a step cs
-  Returns : (v : Option Value) (rest : List Value) → ((w : World) → step w ≡ Stepped.Halts (Halt.Returned v) w.operations) → cs ≡ returns_by a v rest a.frame.deferred → IsTurn a step cs
-  Divides : ((w : World) → step w ≡ Stepped.Halts Halt.Divided w.operations) → cs ≡ panics a PanicKind.DivideByZero → IsTurn a step cs
-  NoRule : (of : Misfit) → ((w : World) → step w ≡ Stepped.Halts (Halt.Unfit of) w.operations) → cs ≡ [] → IsTurn a step cs
+  GoesOn : (to : ℕ) (d : Frame) → ((w : World) → step w ≡ Stepped.Goes to d w)
+      → cs ≡ stands a (record a.frame { at = to; slots = d.slots; operands = d.operands }) → IsTurn a step cs
+  Returns : (v : Option Value) (rest : List Value)
+      → ((w : World) → step w ≡ Stepped.Halts (Halt.Returned v) w.operations)
+      → cs ≡ returns_by a v rest a.frame.deferred → IsTurn a step cs
+  Divides : ((w : World) → step w ≡ Stepped.Halts Halt.Divided w.operations) → cs ≡ panics a PanicKind.DivideByZero
+      → IsTurn a step cs
+  NoRule : (of : Misfit) → ((w : World) → step w ≡ Stepped.Halts (Halt.Unfit of) w.operations) → cs ≡ []
+      → IsTurn a step cs

@@ -1,7 +1,8 @@
 -- What a call gives.
 -- For: `plain_call` and `finaliser_call`, golf_check_types/specs/Calls.antt; `expressions_fit`, src/lib.rt
 -- By: induction over the list of arguments; cases of what is called
-use Rattle.std.proofs.Common.{◌≡◌, ℕ, suc, ◌+◌, ◌==◌, Bool, false, cond, List, [], ◌∷◌, ◌++◌, map, length, length-append, Option, Some, None, refl, sym, ap, ◌∙◌, subst, arith, negsuc}
+use Rattle.std.proofs.Common.{◌≡◌, ℕ, suc, ◌+◌, ◌==◌, Bool, false, cond, List, [], ◌∷◌, ◌++◌, map, length}
+use Rattle.std.proofs.Common.{length-append, Option, Some, None, refl, sym, ap, ◌∙◌, subst, arith, negsuc}
 use Rattle.std.proofs.lemmas.Bool.{eqb-true}
 use Rattle.std.specs.Prelude.{flat_map, is_some, slice_get}
 use Rattle.std.specs.Option.{option_map}
@@ -17,7 +18,9 @@ use Rattle.golf_check_types.specs.declared.scopes.Scope.{Scope}
 use Rattle.golf_check_types.specs.Faults.{broken}
 use Rattle.golf_check_types.specs.Types.{plain}
 use Rattle.golf_check_types.specs.Expressions.{Judged, used, given_by}
-use Rattle.golf_check_types.specs.Calls.{argument_faults, same_number, parameter_faults, signature_result, of_result, steady_faults, call_faults, called, plain_call, finaliser_call, called_with, sets_finaliser}
+use Rattle.golf_check_types.specs.Calls.{argument_faults, same_number, parameter_faults, signature_result, of_result}
+use Rattle.golf_check_types.specs.Calls.{steady_faults, call_faults, called, plain_call, finaliser_call, called_with}
+use Rattle.golf_check_types.specs.Calls.{sets_finaliser}
 use Rattle.golf_model_typing.specs.Types.{Types, ValueType}
 use Rattle.golf_code_of.specs.declared.tables.Tables.{Tables}
 use Rattle.golf_code_of.specs.Calls.{receiver_base}
@@ -29,7 +32,8 @@ use Rattle.golf_meaning_flat.specs.Doing.{miscount}
 use Rattle.golf_data.specs.Effects.{taken}
 use Rattle.golf_meaning_source.specs.Names.{Env}
 use Rattle.golf_meaning_source.specs.Operations.{Taking, Gives, both, then_do, visible, panicking}
-use Rattle.golf_meaning_source.specs.Exprs.{Place, Argument, left_types, operation, values_of, finaliser, finalising, call}
+use Rattle.golf_meaning_source.specs.Exprs.{Location, Argument, left_types, operation, values_of, finaliser, finalising}
+use Rattle.golf_meaning_source.specs.Exprs.{call}
 use Rattle.golf_meaning_typing.specs.Sound.{Sound, One, Yields, FileTaken}
 use Rattle.golf_meaning_typing.specs.Meets.{Many, Receives}
 use Rattle.golf_meaning_typing.proofs.Calculus.{Leaves}
@@ -56,9 +60,12 @@ length-given [] = refl
 length-given (x ∷ xs) = ap (λ n. suc n) (length-given xs)
 
 -- as many arguments as parameters
-counted : (l : ℕ) (ps : List (Option GoType)) (xs : List Arg) → parameter_faults l ps (map given_by (judgeds xs)) ≡ [] → length (arguments xs) ≡ length ps
+counted : (l : ℕ) (ps : List (Option GoType)) (xs : List Arg) → parameter_faults l ps (map given_by (judgeds xs)) ≡ []
+    → length (arguments xs) ≡ length ps
 counted l ps xs none =
-    let e = eqb-true (length ps) (length (map given_by (judgeds xs))) (kept l 11 (same_number ps (map given_by (judgeds xs))) (none-right (argument_faults l ps (map given_by (judgeds xs))) _ none)) in
+    let e = eqb-true (length ps) (length (map given_by (judgeds xs)))
+    (kept l 11 (same_number ps (map given_by (judgeds xs)))
+    (none-right (argument_faults l ps (map given_by (judgeds xs))) _ none)) in
     sym (length-given xs) ∙ sym e
 
 module _ (taking : Taking) where
@@ -67,21 +74,32 @@ module _ (taking : Taking) where
   Stands l [] = Unit {0}
   Stands l (x ∷ xs) = (used l x.judged ≡ [] → Many taking 1 x.value) × Stands l xs
 
-  each-one : (l : ℕ) (xs : List Arg) → Stands l xs → flat_map (used l) (judgeds xs) ≡ [] → EachOne taking (map (λ (a : Argument). a.value) (arguments xs))
+  each-one : (l : ℕ) (xs : List Arg) → Stands l xs → flat_map (used l) (judgeds xs) ≡ []
+      → EachOne taking (map (λ (a : Argument). a.value) (arguments xs))
   each-one l [] h u = tt
-  each-one l (x ∷ xs) h u = (h.0 (none-left (used l x.judged) _ u), each-one l xs h.1 (none-right (used l x.judged) _ u))
+  each-one l (x ∷ xs) h u = (
+    h.0 (none-left (used l x.judged) _ u),
+    each-one l xs h.1 (none-right (used l x.judged) _ u),
+  )
 
-  many-values : (l : ℕ) (xs : List Arg) → Stands l xs → flat_map (used l) (judgeds xs) ≡ [] → Many taking (length (arguments xs)) (values_of (arguments xs))
-  many-values l xs h u = subst (λ n. Many taking n (values_of (arguments xs))) (length-args xs) (many-order taking (map (λ (a : Argument). a.value) (arguments xs)) (each-one l xs h u))
+  many-values : (l : ℕ) (xs : List Arg) → Stands l xs → flat_map (used l) (judgeds xs) ≡ []
+      → Many taking (length (arguments xs)) (values_of (arguments xs))
+  many-values l xs h u = subst (λ n. Many taking n (values_of (arguments xs))) (length-args xs)
+      (many-order taking (map (λ (a : Argument). a.value) (arguments xs)) (each-one l xs h u))
 
   module _ (types : Types) (t : Tables) (s : Scope) (env : Env) (file : FileTaken taking types t s.file) where
     -- the value of a call is what the call is
     abbrev Gi : Operand → Gives → Type 0
-    Gi m f = Me taking types t s env m f Place.Nowhere (λ w. Part.Gives [] w)
+    Gi m f = Me taking types t s env m f Location.Nowhere (λ w. Part.Gives [] w)
 
     -- an operation on receiver and arguments, which leaves what its result is
-    operates : (k : ℕ) (receiver : Gives) (xs : List Arg) (g : List Value → Gives) (L : List Value → Type 0) → Many taking k receiver → Many taking (length (arguments xs)) (values_of (arguments xs)) → ((vs : List Value) → length vs ≡ k + length (arguments xs) → (w : World) → Sound taking L (g vs w)) → (w : World) → Sound taking L (then_do (both receiver (values_of (arguments xs))) g w)
-    operates k receiver xs g L hr ha h = many-then taking (k + length (arguments xs)) (both receiver (values_of (arguments xs))) g L (many-both taking k (length (arguments xs)) receiver (values_of (arguments xs)) hr ha) h
+    operates : (k : ℕ) (receiver : Gives) (xs : List Arg) (g : List Value → Gives) (L : List Value → Type 0)
+        → Many taking k receiver → Many taking (length (arguments xs)) (values_of (arguments xs))
+        → ((vs : List Value) → length vs ≡ k + length (arguments xs) → (w : World) → Sound taking L (g vs w))
+        → (w : World) → Sound taking L (then_do (both receiver (values_of (arguments xs))) g w)
+    operates k receiver xs g L hr ha h = many-then taking (k + length (arguments xs))
+        (both receiver (values_of (arguments xs))) g L
+        (many-both taking k (length (arguments xs)) receiver (values_of (arguments xs)) hr ha) h
 
     -- functions and methods of the file
 
@@ -94,67 +112,139 @@ module _ (taking : Taking) where
     as-result None f h = h
     as-result (Some e) f h = h
 
-    of-result : (r : Option GoType) (i : Instr) (vs : List Value) → length vs ≡ taken i → Leaves taking i (length (left_types (of_result r))) → (w : World) → Sound taking (Result r) (visible taking i (left_types (of_result r)) vs w)
+    of-result : (r : Option GoType) (i : Instr) (vs : List Value) → length vs ≡ taken i
+        → Leaves taking i (length (left_types (of_result r))) → (w : World)
+        → Sound taking (Result r) (visible taking i (left_types (of_result r)) vs w)
     of-result None i vs len many = none-left-over taking i vs len many
     of-result (Some e) i vs len many = one-left taking i e vs len many
 
     -- a call has as many values as its result
-    result-left : (r : Option GoType) (b : Bool) → b ≡ is_some (option_map value_type r) → (n : ℕ) → cond (n == 0) (Some (cond b 1 0)) None ≡ cond (n == 0) (Some (length (left_types (of_result r)))) None
+    result-left : (r : Option GoType) (b : Bool) → b ≡ is_some (option_map value_type r) → (n : ℕ)
+        → cond (n == 0) (Some (cond b 1 0)) None ≡ cond (n == 0) (Some (length (left_types (of_result r)))) None
     result-left None b e n = ap (λ z. cond (n == 0) (Some (cond z 1 0)) None) e
     result-left (Some t) b e n = ap (λ z. cond (n == 0) (Some (cond z 1 0)) None) e
 
-    file-call : (l k c n : ℕ) (below : List ValueType) (callee : Callee types t s.file k below) (receiver : Gives) (xs : List Arg) → Many taking c receiver → Many taking (length (arguments xs)) (values_of (arguments xs)) → n ≡ c + length (arguments xs)
-        → Gi (signature_result (slice_get s.file.functions k)) (then_do (both receiver (values_of (arguments xs))) (visible taking (Instr.Call (k + 1) n) (left_types (signature_result (slice_get s.file.functions k)))))
+    file-call : (l k c n : ℕ) (below : List ValueType) (callee : Callee types t s.file k below) (receiver : Gives)
+        (xs : List Arg) → Many taking c receiver → Many taking (length (arguments xs)) (values_of (arguments xs))
+        → n ≡ c + length (arguments xs)
+        → Gi (signature_result (slice_get s.file.functions k))
+        (then_do (both receiver (values_of (arguments xs)))
+        (visible taking (Instr.Call (k + 1) n) (left_types (signature_result (slice_get s.file.functions k)))))
     file-call l k c n below callee receiver xs hr ha count =
         let gives = file.counts (k + 1) callee.1 callee.3 ∙ ap (λ (m : Option ValueType). is_some m) callee.5 in
-        subst (λ o. Gi (signature_result o) (then_do (both receiver (values_of (arguments xs))) (visible taking (Instr.Call (k + 1) n) (left_types (signature_result o))))) (sym callee.2)
-        (as-result callee.0.result _ (operates c receiver xs _ (Result callee.0.result) hr ha (λ vs len. of-result callee.0.result (Instr.Call (k + 1) n) vs (len ∙ sym count) (result-left callee.0.result _ gives))))
+        subst (λ o. Gi (signature_result o) (then_do (both receiver (values_of (arguments xs)))
+        (visible taking (Instr.Call (k + 1) n) (left_types (signature_result o))))) (sym callee.2)
+        (as-result callee.0.result _ (operates c receiver xs _ (Result callee.0.result) hr ha
+        (λ vs len. of-result callee.0.result (Instr.Call (k + 1) n) vs (len ∙ sym count)
+        (result-left callee.0.result _ gives))))
 
-    parts : (l : ℕ) (m : Operand) (xs : List Arg) → (plain_call l s m (judgeds xs)).faults ≡ [] → (flat_map (used l) (judgeds xs) ≡ []) × (call_faults l s.file m (map given_by (judgeds xs)) ≡ [])
-    parts l m xs none = (none-left (flat_map (used l) (judgeds xs)) _ none, none-right (steady_faults l s.initialises m) _ (none-right (flat_map (used l) (judgeds xs)) _ none))
+    parts : (l : ℕ) (m : Operand) (xs : List Arg) → (plain_call l s m (judgeds xs)).faults ≡ []
+        → (flat_map (used l) (judgeds xs) ≡ []) × (call_faults l s.file m (map given_by (judgeds xs)) ≡ [])
+    parts l m xs none = (
+      none-left (flat_map (used l) (judgeds xs)) _ none,
+      none-right (steady_faults l s.initialises m) _ (none-right (flat_map (used l) (judgeds xs)) _ none),
+    )
 
     -- built-in calls
 
-    silent : (k : ℕ) (receiver : Gives) (xs : List Arg) (i : Instr) → Many taking k receiver → Many taking (length (arguments xs)) (values_of (arguments xs)) → k + length (arguments xs) ≡ taken i → Leaves taking i 0 → Many taking 0 (then_do (both receiver (values_of (arguments xs))) (visible taking i []))
-    silent k receiver xs i hr ha count many = operates k receiver xs (visible taking i []) (λ vs. length vs ≡ 0) hr ha (λ vs len. none-left-over taking i vs (len ∙ count) many)
+    silent : (k : ℕ) (receiver : Gives) (xs : List Arg) (i : Instr) → Many taking k receiver
+        → Many taking (length (arguments xs)) (values_of (arguments xs)) → k + length (arguments xs) ≡ taken i
+        → Leaves taking i 0 → Many taking 0 (then_do (both receiver (values_of (arguments xs))) (visible taking i []))
+    silent k receiver xs i hr ha count many =
+        operates k receiver xs (visible taking i []) (λ vs. length vs ≡ 0) hr ha
+        (λ vs len. none-left-over taking i vs (len ∙ count) many)
 
-    single : (k : ℕ) (receiver : Gives) (xs : List Arg) (i : Instr) (e : GoType) → Many taking k receiver → Many taking (length (arguments xs)) (values_of (arguments xs)) → k + length (arguments xs) ≡ taken i → Leaves taking i 1 → Yields taking (value_type e) (then_do (both receiver (values_of (arguments xs))) (visible taking i (Some e ∷ [])))
-    single k receiver xs i e hr ha count many = operates k receiver xs (visible taking i (Some e ∷ [])) (One taking (value_type e)) hr ha (λ vs len. one-left taking i e vs (len ∙ count) many)
+    single : (k : ℕ) (receiver : Gives) (xs : List Arg) (i : Instr) (e : GoType) → Many taking k receiver
+        → Many taking (length (arguments xs)) (values_of (arguments xs)) → k + length (arguments xs) ≡ taken i
+        → Leaves taking i 1 → Yields taking (value_type e)
+        (then_do (both receiver (values_of (arguments xs))) (visible taking i (Some e ∷ [])))
+    single k receiver xs i e hr ha count many =
+        operates k receiver xs (visible taking i (Some e ∷ [])) (One taking (value_type e)) hr ha
+        (λ vs len. one-left taking i e vs (len ∙ count) many)
 
     -- a panic has no answer
     panics : (vs : List Value) → length vs ≡ 1 → Many taking 0 (panicking vs)
     panics [] len = absurd (omega (arith, len))
     panics (v ∷ []) len = λ w. answering w.answers w
       where
-        answering : (answers : List Answer) (w : World) → Sound taking (λ (vs : List Value). length vs ≡ 0) (bind (asked answers (done w Instr.Panic (v ∷ []))) (λ a u. miscount u))
+        answering : (answers : List Answer) (w : World)
+            → Sound taking (λ (vs : List Value). length vs ≡ 0)
+            (bind (asked answers (done w Instr.Panic (v ∷ []))) (λ a u. miscount u))
         answering [] w = tt
         answering (a ∷ later) w = tt
     panics (v ∷ (x ∷ vs)) len = absurd (omega (arith, len))
 
-    on-built-in : (l : ℕ) (b : BuiltIn) (receiver : Gives) (xs : List Arg) → sets_finaliser (operand.BuiltIn b) ≡ false → Stands l xs → (plain_call l s (operand.BuiltIn b) (judgeds xs)).faults ≡ [] → Receives taking (receiver_base b) receiver
-        → Gi (called s.file (operand.BuiltIn b) (map given_by (judgeds xs))) (then_do (both receiver (values_of (arguments xs))) (operation taking (length (arguments xs)) b (left_types (called s.file (operand.BuiltIn b) (map given_by (judgeds xs))))))
-    on-built-in l built_in.Length receiver xs e hs none h = let f = parts l (operand.BuiltIn built_in.Length) xs none in single 0 receiver xs Instr.Len (plain base.Int) h (many-values l xs hs f.0) (omega (arith, counted l (None ∷ []) xs (none-right (broken l 8 _) _ f.1))) (λ n. refl)
-    on-built-in l built_in.Close receiver xs e hs none h = let f = parts l (operand.BuiltIn built_in.Close) xs none in silent 0 receiver xs Instr.Close h (many-values l xs hs f.0) (omega (arith, counted l (None ∷ []) xs (none-left (parameter_faults l (None ∷ []) (map given_by (judgeds xs))) _ f.1))) (λ n. refl)
-    on-built-in l built_in.Panic receiver xs e hs none h = let f = parts l (operand.BuiltIn built_in.Panic) xs none in operates 0 receiver xs panicking (λ vs. length vs ≡ 0) h (many-values l xs hs f.0) (λ vs len. panics vs (omega (arith, len, counted l (None ∷ []) xs f.1)))
-    on-built-in l built_in.Print receiver xs e hs none h = let f = parts l (operand.BuiltIn built_in.Print) xs none in silent 0 receiver xs (Instr.Print (length (arguments xs))) h (many-values l xs hs f.0) (omega arith) (λ n. refl)
-    on-built-in l built_in.Collect receiver xs e hs none h = let f = parts l (operand.BuiltIn built_in.Collect) xs none in silent 0 receiver xs Instr.Collect h (many-values l xs hs f.0) (omega (arith, counted l [] xs f.1)) (λ n. refl)
+    on-built-in : (l : ℕ) (b : BuiltIn) (receiver : Gives) (xs : List Arg) → sets_finaliser (operand.BuiltIn b) ≡ false
+        → Stands l xs → (plain_call l s (operand.BuiltIn b) (judgeds xs)).faults ≡ []
+        → Receives taking (receiver_base b) receiver
+        → Gi (called s.file (operand.BuiltIn b) (map given_by (judgeds xs)))
+        (then_do (both receiver (values_of (arguments xs)))
+        (operation taking (length (arguments xs)) b
+        (left_types (called s.file (operand.BuiltIn b) (map given_by (judgeds xs))))))
+    on-built-in l built_in.Length receiver xs e hs none h = let f =
+        parts l (operand.BuiltIn built_in.Length) xs none in single 0 receiver xs Instr.Len (plain base.Int) h
+        (many-values l xs hs f.0) (omega (arith, counted l (None ∷ []) xs (none-right (broken l 8 _) _ f.1)))
+        (λ n. refl)
+    on-built-in l built_in.Close receiver xs e hs none h = let f =
+        parts l (operand.BuiltIn built_in.Close) xs none in silent 0 receiver xs Instr.Close h (many-values l xs hs f.0)
+        (omega (
+          arith,
+          counted l (None ∷ []) xs
+              (none-left (parameter_faults l (None ∷ []) (map given_by (judgeds xs))) _ f.1),
+        )) (λ n. refl)
+    on-built-in l built_in.Panic receiver xs e hs none h = let f =
+        parts l (operand.BuiltIn built_in.Panic) xs none in operates 0 receiver xs panicking (λ vs. length vs ≡ 0) h
+        (many-values l xs hs f.0) (λ vs len. panics vs (omega (arith, len, counted l (None ∷ []) xs f.1)))
+    on-built-in l built_in.Print receiver xs e hs none h = let f =
+        parts l (operand.BuiltIn built_in.Print) xs none in silent 0 receiver xs (Instr.Print (length (arguments xs))) h
+        (many-values l xs hs f.0) (omega arith) (λ n. refl)
+    on-built-in l built_in.Collect receiver xs e hs none h = let f =
+        parts l (operand.BuiltIn built_in.Collect) xs none in silent 0 receiver xs Instr.Collect h
+        (many-values l xs hs f.0) (omega (arith, counted l [] xs f.1)) (λ n. refl)
     on-built-in l built_in.SetFinalizer receiver xs e hs none h = cc
-    on-built-in l built_in.NewCondition receiver xs e hs none h = let f = parts l (operand.BuiltIn built_in.NewCondition) xs none in single 0 receiver xs Instr.NewCond (plain base.Condition) h (many-values l xs hs f.0) (omega (arith, counted l (Some (plain base.Mutex) ∷ []) xs f.1)) (λ n. refl)
-    on-built-in l built_in.Add receiver xs e hs none h = let f = parts l (operand.BuiltIn built_in.Add) xs none in silent 1 receiver xs Instr.GroupAdd h (many-values l xs hs f.0) (omega (arith, counted l (Some (plain base.Int) ∷ []) xs f.1)) (λ n. refl)
+    on-built-in l built_in.NewCondition receiver xs e hs none h = let f =
+        parts l (operand.BuiltIn built_in.NewCondition) xs none in single 0 receiver xs Instr.NewCond
+        (plain base.Condition) h (many-values l xs hs f.0)
+        (omega (arith, counted l (Some (plain base.Mutex) ∷ []) xs f.1)) (λ n. refl)
+    on-built-in l built_in.Add receiver xs e hs none h = let f =
+        parts l (operand.BuiltIn built_in.Add) xs none in silent 1 receiver xs Instr.GroupAdd h
+        (many-values l xs hs f.0) (omega (arith, counted l (Some (plain base.Int) ∷ []) xs f.1)) (λ n. refl)
     on-built-in l built_in.Done receiver xs e hs none h =
         let f = parts l (operand.BuiltIn built_in.Done) xs none in
-        operates 1 receiver xs (λ vs. visible taking Instr.GroupAdd [] (vs ++ Value.Int (negsuc 0) ∷ [])) (λ vs. length vs ≡ 0) h (many-values l xs hs f.0)
-        (λ vs len. none-left-over taking Instr.GroupAdd (vs ++ Value.Int (negsuc 0) ∷ []) (omega (arith, length-append vs (Value.Int (negsuc 0) ∷ []), len, counted l [] xs f.1)) (λ n. refl))
-    on-built-in l built_in.Lock receiver xs e hs none h = let f = parts l (operand.BuiltIn built_in.Lock) xs none in silent 1 receiver xs Instr.Lock h (many-values l xs hs f.0) (omega (arith, counted l [] xs f.1)) (λ n. refl)
-    on-built-in l built_in.Unlock receiver xs e hs none h = let f = parts l (operand.BuiltIn built_in.Unlock) xs none in silent 1 receiver xs Instr.Unlock h (many-values l xs hs f.0) (omega (arith, counted l [] xs f.1)) (λ n. refl)
-    on-built-in l built_in.WaitGroup receiver xs e hs none h = let f = parts l (operand.BuiltIn built_in.WaitGroup) xs none in silent 1 receiver xs Instr.GroupWait h (many-values l xs hs f.0) (omega (arith, counted l [] xs f.1)) (λ n. refl)
-    on-built-in l built_in.WriteLock receiver xs e hs none h = let f = parts l (operand.BuiltIn built_in.WriteLock) xs none in silent 1 receiver xs Instr.RwLock h (many-values l xs hs f.0) (omega (arith, counted l [] xs f.1)) (λ n. refl)
-    on-built-in l built_in.WriteUnlock receiver xs e hs none h = let f = parts l (operand.BuiltIn built_in.WriteUnlock) xs none in silent 1 receiver xs Instr.RwUnlock h (many-values l xs hs f.0) (omega (arith, counted l [] xs f.1)) (λ n. refl)
-    on-built-in l built_in.ReadLock receiver xs e hs none h = let f = parts l (operand.BuiltIn built_in.ReadLock) xs none in silent 1 receiver xs Instr.ReadLock h (many-values l xs hs f.0) (omega (arith, counted l [] xs f.1)) (λ n. refl)
-    on-built-in l built_in.ReadUnlock receiver xs e hs none h = let f = parts l (operand.BuiltIn built_in.ReadUnlock) xs none in silent 1 receiver xs Instr.ReadUnlock h (many-values l xs hs f.0) (omega (arith, counted l [] xs f.1)) (λ n. refl)
-    on-built-in l built_in.WaitCondition receiver xs e hs none h = let f = parts l (operand.BuiltIn built_in.WaitCondition) xs none in silent 1 receiver xs Instr.CondWait h (many-values l xs hs f.0) (omega (arith, counted l [] xs f.1)) (λ n. refl)
-    on-built-in l built_in.Signal receiver xs e hs none h = let f = parts l (operand.BuiltIn built_in.Signal) xs none in silent 1 receiver xs Instr.CondSignal h (many-values l xs hs f.0) (omega (arith, counted l [] xs f.1)) (λ n. refl)
-    on-built-in l built_in.Broadcast receiver xs e hs none h = let f = parts l (operand.BuiltIn built_in.Broadcast) xs none in silent 1 receiver xs Instr.CondBroadcast h (many-values l xs hs f.0) (omega (arith, counted l [] xs f.1)) (λ n. refl)
+        operates 1 receiver xs (λ vs. visible taking Instr.GroupAdd [] (vs ++ Value.Int (negsuc 0) ∷ []))
+        (λ vs. length vs ≡ 0) h (many-values l xs hs f.0)
+        (λ vs len. none-left-over taking Instr.GroupAdd (vs ++ Value.Int (negsuc 0) ∷ [])
+        (omega (arith, length-append vs (Value.Int (negsuc 0) ∷ []), len, counted l [] xs f.1)) (λ n. refl))
+    on-built-in l built_in.Lock receiver xs e hs none h = let f =
+        parts l (operand.BuiltIn built_in.Lock) xs none in silent 1 receiver xs Instr.Lock h (many-values l xs hs f.0)
+        (omega (arith, counted l [] xs f.1)) (λ n. refl)
+    on-built-in l built_in.Unlock receiver xs e hs none h = let f =
+        parts l (operand.BuiltIn built_in.Unlock) xs none in silent 1 receiver xs Instr.Unlock h
+        (many-values l xs hs f.0) (omega (arith, counted l [] xs f.1)) (λ n. refl)
+    on-built-in l built_in.WaitGroup receiver xs e hs none h = let f =
+        parts l (operand.BuiltIn built_in.WaitGroup) xs none in silent 1 receiver xs Instr.GroupWait h
+        (many-values l xs hs f.0) (omega (arith, counted l [] xs f.1)) (λ n. refl)
+    on-built-in l built_in.WriteLock receiver xs e hs none h = let f =
+        parts l (operand.BuiltIn built_in.WriteLock) xs none in silent 1 receiver xs Instr.RwLock h
+        (many-values l xs hs f.0) (omega (arith, counted l [] xs f.1)) (λ n. refl)
+    on-built-in l built_in.WriteUnlock receiver xs e hs none h = let f =
+        parts l (operand.BuiltIn built_in.WriteUnlock) xs none in silent 1 receiver xs Instr.RwUnlock h
+        (many-values l xs hs f.0) (omega (arith, counted l [] xs f.1)) (λ n. refl)
+    on-built-in l built_in.ReadLock receiver xs e hs none h = let f =
+        parts l (operand.BuiltIn built_in.ReadLock) xs none in silent 1 receiver xs Instr.ReadLock h
+        (many-values l xs hs f.0) (omega (arith, counted l [] xs f.1)) (λ n. refl)
+    on-built-in l built_in.ReadUnlock receiver xs e hs none h = let f =
+        parts l (operand.BuiltIn built_in.ReadUnlock) xs none in silent 1 receiver xs Instr.ReadUnlock h
+        (many-values l xs hs f.0) (omega (arith, counted l [] xs f.1)) (λ n. refl)
+    on-built-in l built_in.WaitCondition receiver xs e hs none h = let f =
+        parts l (operand.BuiltIn built_in.WaitCondition) xs none in silent 1 receiver xs Instr.CondWait h
+        (many-values l xs hs f.0) (omega (arith, counted l [] xs f.1)) (λ n. refl)
+    on-built-in l built_in.Signal receiver xs e hs none h = let f =
+        parts l (operand.BuiltIn built_in.Signal) xs none in silent 1 receiver xs Instr.CondSignal h
+        (many-values l xs hs f.0) (omega (arith, counted l [] xs f.1)) (λ n. refl)
+    on-built-in l built_in.Broadcast receiver xs e hs none h = let f =
+        parts l (operand.BuiltIn built_in.Broadcast) xs none in silent 1 receiver xs Instr.CondBroadcast h
+        (many-values l xs hs f.0) (omega (arith, counted l [] xs f.1)) (λ n. refl)
 
     -- finalisers
 
@@ -177,37 +267,53 @@ module _ (taking : Taking) where
     sets operand.TypeName vs len = none-left-over taking Instr.ClearFinalizer vs len (λ n. refl)
     sets operand.Unknown vs len = none-left-over taking Instr.ClearFinalizer vs len (λ n. refl)
 
-    on-finaliser : (l : ℕ) (f : Operand) (xs : List Arg) → Stands l xs → (finaliser_call l s f (judgeds xs)).faults ≡ [] → Gi (finaliser_call l s f (judgeds xs)).meaning (finalising taking (arguments xs))
-    on-finaliser l f (x ∷ (y ∷ ys)) hs none = many-then taking 1 x.value (finaliser taking y.judged.meaning) (λ vs. length vs ≡ 0) (hs.0 (none-left (used l x.judged) _ none)) (sets y.judged.meaning)
-    on-finaliser l f [] hs none = let e = none-right (steady_faults l s.initialises f) _ (none-right (flat_map (used l) (judgeds [])) _ none) in cc
-    on-finaliser l f (x ∷ []) hs none = let e = none-right (steady_faults l s.initialises f) _ (none-right (flat_map (used l) (judgeds (x ∷ []))) _ none) in cc
+    on-finaliser : (l : ℕ) (f : Operand) (xs : List Arg) → Stands l xs → (finaliser_call l s f (judgeds xs)).faults ≡ []
+        → Gi (finaliser_call l s f (judgeds xs)).meaning (finalising taking (arguments xs))
+    on-finaliser l f (x ∷ (y ∷ ys)) hs none =
+        many-then taking 1 x.value (finaliser taking y.judged.meaning) (λ vs. length vs ≡ 0)
+        (hs.0 (none-left (used l x.judged) _ none)) (sets y.judged.meaning)
+    on-finaliser l f [] hs none = let e = none-right (steady_faults l s.initialises f) _
+        (none-right (flat_map (used l) (judgeds [])) _ none) in cc
+    on-finaliser l f (x ∷ []) hs none = let e =
+        none-right (steady_faults l s.initialises f) _ (none-right (flat_map (used l) (judgeds (x ∷ []))) _ none) in cc
 
     -- any call
 
-    module _ (l : ℕ) (receiver : Gives) (p : Place) (q : Gives) (xs : List Arg) (hs : Stands l xs) where
+    module _ (l : ℕ) (receiver : Gives) (p : Location) (q : Gives) (xs : List Arg) (hs : Stands l xs) where
       abbrev Calls : Operand → Type 0
-      Calls m = (called_with l s m (judgeds xs)).faults ≡ [] → Me taking types t s env m receiver p q → Gi (called_with l s m (judgeds xs)).meaning (call taking m (called_with l s m (judgeds xs)).meaning receiver (arguments xs))
+      Calls m = (called_with l s m (judgeds xs)).faults ≡ [] → Me taking types t s env m receiver p q
+          → Gi (called_with l s m (judgeds xs)).meaning
+          (call taking m (called_with l s m (judgeds xs)).meaning receiver (arguments xs))
 
       pub on-call : (m : Operand) → Calls m
-      on-call (operand.Function k) none h = let f = parts l (operand.Function k) xs none in file-call l k 0 (length (arguments xs)) [] h.1 receiver xs h.0 (many-values l xs hs f.0) (omega arith)
-      on-call (operand.Method k) none h = let f = parts l (operand.Method k) xs none in file-call l k 1 (length (arguments xs) + 1) (ValueType.Struct h.0 ∷ []) h.2 receiver xs h.1 (many-values l xs hs f.0) (omega arith)
-      on-call (operand.BuiltIn built_in.SetFinalizer) none h = on-finaliser l (operand.BuiltIn built_in.SetFinalizer) xs hs none
+      on-call (operand.Function k) none h = let f =
+          parts l (operand.Function k) xs none in file-call l k 0 (length (arguments xs)) [] h.1 receiver xs h.0
+          (many-values l xs hs f.0) (omega arith)
+      on-call (operand.Method k) none h = let f =
+          parts l (operand.Method k) xs none in file-call l k 1 (length (arguments xs) + 1)
+          (ValueType.Struct h.0 ∷ []) h.2 receiver xs h.1 (many-values l xs hs f.0) (omega arith)
+      on-call (operand.BuiltIn built_in.SetFinalizer) none h =
+          on-finaliser l (operand.BuiltIn built_in.SetFinalizer) xs hs none
       on-call (operand.BuiltIn built_in.Length) none h = on-built-in l built_in.Length receiver xs refl hs none h
       on-call (operand.BuiltIn built_in.Close) none h = on-built-in l built_in.Close receiver xs refl hs none h
       on-call (operand.BuiltIn built_in.Panic) none h = on-built-in l built_in.Panic receiver xs refl hs none h
       on-call (operand.BuiltIn built_in.Print) none h = on-built-in l built_in.Print receiver xs refl hs none h
       on-call (operand.BuiltIn built_in.Collect) none h = on-built-in l built_in.Collect receiver xs refl hs none h
-      on-call (operand.BuiltIn built_in.NewCondition) none h = on-built-in l built_in.NewCondition receiver xs refl hs none h
+      on-call (operand.BuiltIn built_in.NewCondition) none h =
+          on-built-in l built_in.NewCondition receiver xs refl hs none h
       on-call (operand.BuiltIn built_in.Lock) none h = on-built-in l built_in.Lock receiver xs refl hs none h
       on-call (operand.BuiltIn built_in.Unlock) none h = on-built-in l built_in.Unlock receiver xs refl hs none h
       on-call (operand.BuiltIn built_in.Add) none h = on-built-in l built_in.Add receiver xs refl hs none h
       on-call (operand.BuiltIn built_in.Done) none h = on-built-in l built_in.Done receiver xs refl hs none h
       on-call (operand.BuiltIn built_in.WaitGroup) none h = on-built-in l built_in.WaitGroup receiver xs refl hs none h
       on-call (operand.BuiltIn built_in.WriteLock) none h = on-built-in l built_in.WriteLock receiver xs refl hs none h
-      on-call (operand.BuiltIn built_in.WriteUnlock) none h = on-built-in l built_in.WriteUnlock receiver xs refl hs none h
+      on-call (operand.BuiltIn built_in.WriteUnlock) none h =
+          on-built-in l built_in.WriteUnlock receiver xs refl hs none h
       on-call (operand.BuiltIn built_in.ReadLock) none h = on-built-in l built_in.ReadLock receiver xs refl hs none h
-      on-call (operand.BuiltIn built_in.ReadUnlock) none h = on-built-in l built_in.ReadUnlock receiver xs refl hs none h
-      on-call (operand.BuiltIn built_in.WaitCondition) none h = on-built-in l built_in.WaitCondition receiver xs refl hs none h
+      on-call (operand.BuiltIn built_in.ReadUnlock) none h =
+          on-built-in l built_in.ReadUnlock receiver xs refl hs none h
+      on-call (operand.BuiltIn built_in.WaitCondition) none h =
+          on-built-in l built_in.WaitCondition receiver xs refl hs none h
       on-call (operand.BuiltIn built_in.Signal) none h = on-built-in l built_in.Signal receiver xs refl hs none h
       on-call (operand.BuiltIn built_in.Broadcast) none h = on-built-in l built_in.Broadcast receiver xs refl hs none h
       on-call (operand.Value e) none h = let e = (parts l (operand.Value e) xs none).1 in cc

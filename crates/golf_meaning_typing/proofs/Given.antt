@@ -40,35 +40,43 @@ zero-fits (layer.ReceiveChan ∷ xs) b = refl
 
 module _ (taking : Taking) where
   -- what is assignable to a type gives a value of it
-  pub assigned-to : (g : Given) (e : GoType) (f : Gives) → assignable g (Some e) ≡ true → YieldsBy taking g f → Yields taking (value_type e) f
+  pub assigned-to : (g : Given) (e : GoType) (f : Gives) → assignable g (Some e) ≡ true → YieldsBy taking g f
+      → Yields taking (value_type e) f
   assigned-to (given_as.Typed a) e f holds h = subst (λ u. Yields taking u f) (assigned-value a e holds) h
   assigned-to given_as.Nil e f holds h = h (value_type e) (nilable e.layers e.base holds)
   assigned-to given_as.Unknown e f holds h = absurd h
 
   -- what is not nil has a type
-  pub typed : (g : Given) (f : Gives) → not (is_nil g) ≡ true → YieldsBy taking g f → (e : GoType) × (type_given g ≡ Some e) × Yields taking (value_type e) f
+  pub typed : (g : Given) (f : Gives) → not (is_nil g) ≡ true → YieldsBy taking g f → (e : GoType)
+      × (type_given g ≡ Some e) × Yields taking (value_type e) f
   typed (given_as.Typed e) f holds h = (e, refl, h)
   typed given_as.Nil f holds h = cc
   typed given_as.Unknown f holds h = absurd h
 
   -- one value, and two
-  pub at-one : (u : ValueType) (P : List Value → Type 0) → ((v : Value) → IsOf taking u v → P (v ∷ [])) → (vs : List Value) → One taking u vs → P vs
+  pub at-one : (u : ValueType) (P : List Value → Type 0) → ((v : Value) → IsOf taking u v → P (v ∷ []))
+      → (vs : List Value) → One taking u vs → P vs
   at-one u P h [] q = absurd q
   at-one u P h (v ∷ []) q = h v q
   at-one u P h (v ∷ (x ∷ vs)) q = absurd q
 
-  pub at-two : (u t : ValueType) (P : List Value → Type 0) → ((v x : Value) → IsOf taking u v → IsOf taking t x → P (v ∷ (x ∷ []))) → (vs : List Value) → Two taking u t vs → P vs
+  pub at-two : (u t : ValueType) (P : List Value → Type 0)
+      → ((v x : Value) → IsOf taking u v → IsOf taking t x → P (v ∷ (x ∷ []))) → (vs : List Value) → Two taking u t vs
+      → P vs
   at-two u t P h [] q = absurd q
   at-two u t P h (v ∷ []) q = absurd q
   at-two u t P h (v ∷ (x ∷ [])) q = h v x q.0 q.1
   at-two u t P h (v ∷ (x ∷ (y ∷ vs))) q = absurd q
 
   -- what an answer leaves is two values of these types
-  pub two-fit : (e d : GoType) (vs : List Value) → AllFit taking (Some e ∷ (Some d ∷ [])) vs → Two taking (value_type e) (value_type d) vs
+  pub two-fit : (e d : GoType) (vs : List Value) → AllFit taking (Some e ∷ (Some d ∷ [])) vs
+      → Two taking (value_type e) (value_type d) vs
   two-fit e d [] h = let n = h.0 in absurd (omega (arith, n))
   two-fit e d (v ∷ []) h = let n = h.0 in absurd (omega (arith, n))
   two-fit e d (v ∷ (x ∷ [])) h = (
-    λ strict. sym (fits-kind e.layers e.base v) ∙ (and_parts (fits (Some e) v) (fits (Some d) x && true) (h.1 strict)).0,
-    λ strict. sym (fits-kind d.layers d.base x) ∙ (and_parts (fits (Some d) x) true (and_parts (fits (Some e) v) (fits (Some d) x && true) (h.1 strict)).1).0,
+    λ strict. sym (fits-kind e.layers e.base v)
+        ∙ (and_parts (fits (Some e) v) (fits (Some d) x && true) (h.1 strict)).0,
+    λ strict. sym (fits-kind d.layers d.base x)
+        ∙ (and_parts (fits (Some d) x) true (and_parts (fits (Some e) v) (fits (Some d) x && true) (h.1 strict)).1).0,
   )
   two-fit e d (v ∷ (x ∷ (y ∷ vs))) h = let n = h.0 in absurd (omega (arith, n))

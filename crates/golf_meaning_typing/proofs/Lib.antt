@@ -22,3 +22,4 @@ pub mod Statements
 pub mod Functions
 pub mod Giving
 pub mod Files
+pub mod WholeFiles

@@ -20,7 +20,8 @@ use Rattle.golf_check_types.specs.declared.scopes.FileScope.{FileScope}
 use Rattle.golf_check_types.specs.declared.scopes.Scope.{Scope}
 use Rattle.golf_check_types.specs.Names.{is_blank, look}
 use Rattle.golf_check_types.specs.Types.{given, given_type}
-use Rattle.golf_check_types.specs.Scopes.{or_else, type_name, value_name, call_name, package_name, predeclared, file_operand, local_operand, meaning}
+use Rattle.golf_check_types.specs.Scopes.{or_else, type_name, value_name, call_name, package_name, predeclared}
+use Rattle.golf_check_types.specs.Scopes.{file_operand, local_operand, meaning}
 use Rattle.golf_check_types.specs.Expressions.{leaf, used, given_by, value_faults, known_name}
 use Rattle.golf_code_of.specs.declared.tables.Tables.{Tables}
 use Rattle.golf_code_of.specs.Values.{constant}
@@ -63,7 +64,8 @@ module _ (taking : Taking) where
   Paired (Some d) None = ⊥
   Paired (Some d) (Some v) = Held taking d.of_type v
 
-  one-paired : (b : Bool) (d : Local) (v : Value) (a : Option Local) (o : Option Value) → Held taking d.of_type v → Paired a o → Paired (first_some a (here b d)) (first_some o (here b v))
+  one-paired : (b : Bool) (d : Local) (v : Value) (a : Option Local) (o : Option Value) → Held taking d.of_type v
+      → Paired a o → Paired (first_some a (here b d)) (first_some o (here b v))
   one-paired true d v None None e h = e
   one-paired false d v None None e h = tt
   one-paired b d v None (Some y) e h = absurd h
@@ -75,7 +77,8 @@ module _ (taking : Taking) where
   paired [] (x ∷ xs) n h = absurd h
   paired (d ∷ ds) [] n h = absurd h
   paired (d ∷ ds) (x ∷ xs) n h =
-      subst (λ m. Paired (first_some (last ds n) (here (bytes_eq n d.name) d)) (first_some (find xs n) (here (bytes_eq n m) x.value))) (sym h.0)
+      subst (λ m. Paired (first_some (last ds n) (here (bytes_eq n d.name) d))
+      (first_some (find xs n) (here (bytes_eq n m) x.value))) (sym h.0)
       (one-paired (bytes_eq n d.name) d x.value (last ds n) (find xs n) h.1 (paired ds xs n h.2))
 
   -- values of tables
@@ -86,17 +89,20 @@ module _ (taking : Taking) where
     Outer m = value_faults l m ≡ [] → YieldsBy taking (given m) (outer_value taking t (Some m))
 
     from-file : (f : FileScope) (m : Operand) → NameFits types t f m → Outer m
-    from-file f (operand.Variable (place.Global g) (Some e)) h none = yields-visible taking (Instr.LoadGlobal g) e [] refl (λ k. refl)
+    from-file f (operand.Variable (place.Global g) (Some e)) h none =
+        yields-visible taking (Instr.LoadGlobal g) e [] refl (λ k. refl)
     from-file f (operand.Constant k b) h none = λ w strict. zero-is types (constant t k) (base_type b) h
     from-file f (operand.Function k) h none = cc
     from-file f (operand.Struct k) h none = cc
     from-file f _ h none = absurd h
 
-    either-name : (a b : Option Operand) → ((m : Operand) → a ≡ Some m → Outer m) → ((m : Operand) → b ≡ Some m → Outer m) → (m : Operand) → or_else a b ≡ Some m → Outer m
+    either-name : (a b : Option Operand) → ((m : Operand) → a ≡ Some m → Outer m)
+        → ((m : Operand) → b ≡ Some m → Outer m) → (m : Operand) → or_else a b ≡ Some m → Outer m
     either-name None b h k m e = k m e
     either-name (Some x) b h k m e = h m e
 
-    tried : (test : Bool) (x : Operand) (rest : Option Operand) → Outer x → ((m : Operand) → rest ≡ Some m → Outer m) → (m : Operand) → cond test (Some x) rest ≡ Some m → Outer m
+    tried : (test : Bool) (x : Operand) (rest : Option Operand) → Outer x → ((m : Operand) → rest ≡ Some m → Outer m)
+        → (m : Operand) → cond test (Some x) rest ≡ Some m → Outer m
     tried true x rest h k m e = let same : x ≡ m = cc in subst Outer same h
     tried false x rest h k m e = k m e
 
@@ -105,45 +111,70 @@ module _ (taking : Taking) where
 
     is-type : (n : List ℕ) (m : Operand) → type_name n ≡ Some m → Outer m
     unfolding type_name
-    is-type n = tried (bytes_eq n (codes "int")) operand.TypeName _ (λ none. cc) (tried (bytes_eq n (codes "bool")) operand.TypeName _ (λ none. cc) (tried (bytes_eq n (codes "string")) operand.TypeName None (λ none. cc) no-name))
+    is-type n = tried (bytes_eq n (codes "int")) operand.TypeName _ (λ none. cc)
+        (tried (bytes_eq n (codes "bool")) operand.TypeName _ (λ none. cc)
+        (tried (bytes_eq n (codes "string")) operand.TypeName None (λ none. cc) no-name))
 
     is-value : (n : List ℕ) (m : Operand) → value_name n ≡ Some m → Outer m
     unfolding value_name
-    is-value n = tried _ (operand.Truth true) _ (λ none w strict. refl) (tried _ (operand.Truth false) _ (λ none w strict. refl) (tried _ operand.Nil None (λ none u nil w strict. nil-is u nil) no-name))
+    is-value n = tried _ (operand.Truth true) _ (λ none w strict. refl)
+        (tried _ (operand.Truth false) _ (λ none w strict. refl)
+        (tried _ operand.Nil None (λ none u nil w strict. nil-is u nil) no-name))
 
     is-call : (n : List ℕ) (m : Operand) → call_name n ≡ Some m → Outer m
     unfolding call_name
-    is-call n = tried _ (operand.BuiltIn built_in.Length) _ (λ none. cc) (tried _ (operand.BuiltIn built_in.Close) _ (λ none. cc) (tried _ (operand.BuiltIn built_in.Panic) _ (λ none. cc) (tried _ operand.TypeName _ (λ none. cc) (tried _ operand.TypeName None (λ none. cc) no-name))))
+    is-call n = tried _ (operand.BuiltIn built_in.Length) _ (λ none. cc)
+        (tried _ (operand.BuiltIn built_in.Close) _ (λ none. cc)
+        (tried _ (operand.BuiltIn built_in.Panic) _ (λ none. cc)
+        (tried _ operand.TypeName _ (λ none. cc) (tried _ operand.TypeName None (λ none. cc) no-name))))
 
     is-package : (i : Imports) (n : List ℕ) (m : Operand) → package_name i n ≡ Some m → Outer m
     unfolding package_name
-    is-package i n = tried _ (operand.Package packages.Fmt) _ (λ none. cc) (tried _ (operand.Package packages.Runtime) _ (λ none. cc) (tried _ (operand.Package packages.Sync) None (λ none. cc) no-name))
+    is-package i n = tried _ (operand.Package packages.Fmt) _ (λ none. cc)
+        (tried _ (operand.Package packages.Runtime) _ (λ none. cc)
+        (tried _ (operand.Package packages.Sync) None (λ none. cc) no-name))
 
     is-predeclared : (i : Imports) (n : List ℕ) (m : Operand) → predeclared i n ≡ Some m → Outer m
-    is-predeclared i n = either-name (type_name n) _ (is-type n) (either-name (value_name n) _ (is-value n) (either-name (call_name n) (package_name i n) (is-call n) (is-package i n)))
+    is-predeclared i n = either-name (type_name n) _ (is-type n)
+        (either-name (value_name n) _ (is-value n)
+        (either-name (call_name n) (package_name i n) (is-call n) (is-package i n)))
 
-    outer-gives : (s : Scope) (n : List ℕ) → FileTaken taking types t s.file → (m : Operand) → outer s n ≡ Some m → Outer m
-    outer-gives s n ok = either-name (file_operand s.file n) (predeclared s.file.imports n) (λ m e. from-file s.file m (ok.fits.names n m e)) (is-predeclared s.file.imports n)
+    outer-gives : (s : Scope) (n : List ℕ) → FileTaken taking types t s.file → (m : Operand) → outer s n ≡ Some m
+        → Outer m
+    outer-gives s n ok = either-name (file_operand s.file n) (predeclared s.file.imports n)
+        (λ m e. from-file s.file m (ok.fits.names n m e)) (is-predeclared s.file.imports n)
 
     held-gives : (o : Option GoType) (v : Value) → Held taking o v → YieldsBy taking (given_type o) (gives (v ∷ []))
     held-gives None v h = absurd h
     held-gives (Some e) v h = λ w. h
 
     -- a local, or a name that is none
-    name-gives : (g : Option ℕ) (a : Option Local) (o : Option Value) (out : Option Operand) → Paired a o → ((m : Operand) → out ≡ Some m → Outer m) → used l (known_name l g (or_else (option_map local_operand a) out)) ≡ [] → YieldsBy taking (given_by (known_name l g (or_else (option_map local_operand a) out))) (value_of_name taking t o out)
+    name-gives : (g : Option ℕ) (a : Option Local) (o : Option Value) (out : Option Operand) → Paired a o
+        → ((m : Operand) → out ≡ Some m → Outer m)
+        → used l (known_name l g (or_else (option_map local_operand a) out)) ≡ []
+        → YieldsBy taking (given_by (known_name l g (or_else (option_map local_operand a) out)))
+        (value_of_name taking t o out)
     name-gives g (Some d) (Some v) out h k none = held-gives d.of_type v h
     name-gives g (Some d) None out h k none = absurd h
     name-gives g None (Some v) out h k none = absurd h
     name-gives g None None None h k none = cc
-    name-gives g None None (Some m) h k none = k m refl (Rattle.golf_code_shapes.proofs.Typings.none-right _ (value_faults l m) none)
+    name-gives g None None (Some m) h k none =
+        k m refl (Rattle.golf_code_shapes.proofs.Typings.none-right _ (value_faults l m) none)
 
   pub names-give : NamesGive taking
   unfolding meaning
   names-give types t l s env n ok fit = by (is_blank n)
     where
-      by : (b : Bool) → used l (cond b (leaf operand.Blank []) (known_name l s.initialises (or_else (option_map local_operand (look s.locals n)) (outer s n)))) ≡ []
-          → YieldsBy taking (given_by (cond b (leaf operand.Blank []) (known_name l s.initialises (or_else (option_map local_operand (look s.locals n)) (outer s n))))) (cond b (gives []) (value_of_name taking t (find env n) (outer s n)))
+      by : (b : Bool) → used l (cond b (leaf operand.Blank [])
+          (known_name l s.initialises (or_else (option_map local_operand (look s.locals n)) (outer s n)))) ≡ []
+          → YieldsBy taking (given_by (cond b (leaf operand.Blank [])
+          (known_name l s.initialises (or_else (option_map local_operand (look s.locals n)) (outer s n)))))
+          (cond b (gives []) (value_of_name taking t (find env n) (outer s n)))
       by true = λ none. cc
       by false =
-          subst (λ a. used l (known_name l s.initialises (or_else (option_map local_operand a) (outer s n))) ≡ [] → YieldsBy taking (given_by (known_name l s.initialises (or_else (option_map local_operand a) (outer s n)))) (value_of_name taking t (find env n) (outer s n))) (sym (look-last s.locals n))
-          (name-gives types t l s.initialises (last s.locals n) (find env n) (outer s n) (paired s.locals env n fit) (outer-gives types t l s n ok))
+          subst (λ a. used l (known_name l s.initialises (or_else (option_map local_operand a) (outer s n))) ≡ []
+          → YieldsBy taking (given_by (known_name l s.initialises
+          (or_else (option_map local_operand a) (outer s n)))) (value_of_name taking t (find env n) (outer s n)))
+          (sym (look-last s.locals n))
+          (name-gives types t l s.initialises (last s.locals n) (find env n) (outer s n) (paired s.locals env n fit)
+          (outer-gives types t l s n ok))

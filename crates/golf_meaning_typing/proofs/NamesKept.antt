@@ -1,7 +1,8 @@
 -- Names with values of their types, put together and cut.
 -- For: `NamesFit`, specs/Sound.antt; `Begins`, specs/Flowing.antt
 -- By: induction over the list of locals
-use Rattle.std.proofs.Common.{◌≡◌, ℕ, suc, List, [], ◌∷◌, ◌++◌, length, take, Option, refl, sym, ap, subst, append_assoc, append-nil}
+use Rattle.std.proofs.Common.{◌≡◌, ℕ, suc, List, [], ◌∷◌, ◌++◌, length, take, Option, refl, sym, ap, subst}
+use Rattle.std.proofs.Common.{append_assoc, append-nil}
 use Rattle.golf_data.specs.declared.value.Value.{Value}
 use Rattle.golf_check_types.specs.declared.types.GoType.{GoType}
 use Rattle.golf_check_types.specs.declared.locals.Local.{Local}
@@ -14,7 +15,8 @@ use Rattle.golf_meaning_typing.specs.Sound.{Held, NamesFit}
 use Rattle.golf_meaning_typing.specs.Flowing.{Begins}
 
 module _ (taking : Taking) where
-  pub names-append : (ds es : List Local) (xs ys : Env) → NamesFit taking ds xs → NamesFit taking es ys → NamesFit taking (ds ++ es) (xs ++ ys)
+  pub names-append : (ds es : List Local) (xs ys : Env) → NamesFit taking ds xs → NamesFit taking es ys
+      → NamesFit taking (ds ++ es) (xs ++ ys)
   names-append [] es [] ys h k = k
   names-append [] es (x ∷ xs) ys h k = absurd h
   names-append (d ∷ ds) es [] ys h k = absurd h
@@ -26,14 +28,17 @@ module _ (taking : Taking) where
   names-length (d ∷ ds) [] h = absurd h
   names-length (d ∷ ds) (x ∷ xs) h = ap (λ n. suc n) (names-length ds xs h.2)
 
-  pub names-first : (ds es : List Local) (env : Env) → NamesFit taking (ds ++ es) env → NamesFit taking ds (take (length ds) env)
+  pub names-first : (ds es : List Local) (env : Env) → NamesFit taking (ds ++ es) env
+      → NamesFit taking ds (take (length ds) env)
   names-first [] es env h = tt
   names-first (d ∷ ds) es [] h = absurd h
   names-first (d ∷ ds) es (x ∷ xs) h = (h.0, h.1, names-first ds es xs h.2)
 
   -- what was declared inside is forgotten
-  pub names-cut : (ds : List Local) (before env : Env) → NamesFit taking ds before → Begins taking ds env → NamesFit taking ds (take (length before) env)
-  names-cut ds before env h b = subst (λ k. NamesFit taking ds (take k env)) (sym (names-length ds before h)) (names-first ds b.0 env b.1)
+  pub names-cut : (ds : List Local) (before env : Env) → NamesFit taking ds before → Begins taking ds env
+      → NamesFit taking ds (take (length before) env)
+  names-cut ds before env h b = subst (λ k. NamesFit taking ds (take k env)) (sym (names-length ds before h))
+      (names-first ds b.0 env b.1)
 
   pub begins-self : (ds : List Local) (env : Env) → NamesFit taking ds env → Begins taking ds env
   begins-self ds env h = ([], subst (λ es. NamesFit taking es env) (sym (append-nil ds)) h)
@@ -45,5 +50,7 @@ module _ (taking : Taking) where
   begins-in ds es env b = (es ++ b.0, subst (λ xs. NamesFit taking xs env) (append_assoc ds es b.0) b.1)
 
   -- one more name
-  pub names-bound : (ds : List Local) (at : Scope) (n : List ℕ) (o : Option GoType) (env : Env) (v : Value) → NamesFit taking ds env → Held taking o v → NamesFit taking (ds ++ variable at n o ∷ []) (bound env n v)
-  names-bound ds at n o env v h k = names-append ds (variable at n o ∷ []) env (record { name = n; value = v } ∷ []) h (refl, k, tt)
+  pub names-bound : (ds : List Local) (at : Scope) (n : List ℕ) (o : Option GoType) (env : Env) (v : Value)
+      → NamesFit taking ds env → Held taking o v → NamesFit taking (ds ++ variable at n o ∷ []) (bound env n v)
+  names-bound ds at n o env v h k = names-append ds (variable at n o ∷ []) env (record { name = n; value = v } ∷ []) h
+      (refl, k, tt)

@@ -17,7 +17,8 @@ use Rattle.golf_check_types.specs.declared.scopes.Imports.{Imports}
 use Rattle.golf_check_types.specs.declared.scopes.Scope.{Scope}
 use Rattle.golf_check_types.specs.Types.{given}
 use Rattle.golf_check_types.specs.Names.{is_blank, look}
-use Rattle.golf_check_types.specs.Scopes.{or_else, type_name, value_name, call_name, package_name, predeclared, file_operand, local_operand, meaning}
+use Rattle.golf_check_types.specs.Scopes.{or_else, type_name, value_name, call_name, package_name, predeclared}
+use Rattle.golf_check_types.specs.Scopes.{file_operand, local_operand, meaning}
 use Rattle.golf_check_types.specs.Expressions.{Judged, leaf, used, given_by, value_faults, known_name, named}
 use Rattle.golf_code_of.specs.declared.tables.Tables.{Tables}
 use Rattle.golf_code_of.specs.Values.{constant}
@@ -27,7 +28,7 @@ use Rattle.golf_code_shapes.specs.Sound.{NameFits}
 use Rattle.golf_code_shapes.proofs.Typings.{none-left, none-right}
 use Rattle.golf_meaning_source.specs.Names.{Env, find}
 use Rattle.golf_meaning_source.specs.Operations.{Taking, Gives, gives}
-use Rattle.golf_meaning_source.specs.Exprs.{Place, outer_place, outer_value, place_of_name, value_of_name, name_does}
+use Rattle.golf_meaning_source.specs.Exprs.{Location, outer_place, outer_value, place_of_name, value_of_name, name_does}
 use Rattle.golf_meaning_source.specs.Meaning.{outer}
 use Rattle.golf_meaning_source.proofs.Environments.{last, look-last}
 use Rattle.golf_meaning_typing.specs.Sound.{YieldsBy, NamesFit, FileTaken}
@@ -38,12 +39,13 @@ use Rattle.golf_meaning_typing.proofs.Counts.{held-known, placed-local, placed-g
 
 module _ (taking : Taking) where
   module _ (types : Types) (t : Tables) (s : Scope) (env : Env) where
-    abbrev pub Me : Operand → Gives → Place → Gives → Type 0
+    abbrev pub Me : Operand → Gives → Location → Gives → Type 0
     Me = Meets taking types t s.locals s.file env
 
     -- what stands as a value gives one
 
-    pub valued : (l : ℕ) (m : Operand) (v : Gives) (p : Place) (q : Gives) → value_faults l m ≡ [] → Me m v p q → YieldsBy taking (given m) v
+    pub valued : (l : ℕ) (m : Operand) (v : Gives) (p : Location) (q : Gives) → value_faults l m ≡ [] → Me m v p q
+        → YieldsBy taking (given m) v
     valued l (operand.Value (Some e)) v p q none h = h
     valued l (operand.Value None) v p q none h = absurd h
     valued l (operand.Outcome (Some e)) v p q none h = h
@@ -60,8 +62,10 @@ module _ (taking : Taking) where
     valued l operand.Unknown v p q none h = absurd h
     valued l _ v p q none h = cc
 
-    pub of-used : (l : ℕ) (j : Judged) (v : Gives) (p : Place) (q : Gives) → used l j ≡ [] → (j.faults ≡ [] → Me j.meaning v p q) → YieldsBy taking (given_by j) v
-    of-used l j v p q none h = valued l j.meaning v p q (none-right j.faults (value_faults l j.meaning) none) (h (none-left j.faults (value_faults l j.meaning) none))
+    pub of-used : (l : ℕ) (j : Judged) (v : Gives) (p : Location) (q : Gives) → used l j ≡ []
+        → (j.faults ≡ [] → Me j.meaning v p q) → YieldsBy taking (given_by j) v
+    of-used l j v p q none h = valued l j.meaning v p q (none-right j.faults (value_faults l j.meaning) none)
+        (h (none-left j.faults (value_faults l j.meaning) none))
 
     -- names that are no locals
 
@@ -70,17 +74,20 @@ module _ (taking : Taking) where
 
     module _ (fit : NamesFit taking s.locals env) where
       from-file : (n : List ℕ) (m : Operand) → NameFits types t s.file m → Outer n m
-      from-file n (operand.Variable (place.Global g) (Some e)) h = (yields-visible taking (Instr.LoadGlobal g) e [] refl (λ k. refl), placed-global taking s.locals env fit g e)
+      from-file n (operand.Variable (place.Global g) (Some e)) h =
+          (yields-visible taking (Instr.LoadGlobal g) e [] refl (λ k. refl), placed-global taking s.locals env fit g e)
       from-file n (operand.Constant k b) h = λ w strict. zero-is types (constant t k) (base_type b) h
       from-file n (operand.Function k) h = (λ w. refl, h)
       from-file n (operand.Struct k) h = tt
       from-file n _ h = absurd h
 
-      either-name : (n : List ℕ) (a b : Option Operand) → ((m : Operand) → a ≡ Some m → Outer n m) → ((m : Operand) → b ≡ Some m → Outer n m) → (m : Operand) → or_else a b ≡ Some m → Outer n m
+      either-name : (n : List ℕ) (a b : Option Operand) → ((m : Operand) → a ≡ Some m → Outer n m)
+          → ((m : Operand) → b ≡ Some m → Outer n m) → (m : Operand) → or_else a b ≡ Some m → Outer n m
       either-name n None b h k m e = k m e
       either-name n (Some x) b h k m e = h m e
 
-      tried : (n : List ℕ) (test : Bool) (x : Operand) (rest : Option Operand) → Outer n x → ((m : Operand) → rest ≡ Some m → Outer n m) → (m : Operand) → cond test (Some x) rest ≡ Some m → Outer n m
+      tried : (n : List ℕ) (test : Bool) (x : Operand) (rest : Option Operand) → Outer n x
+          → ((m : Operand) → rest ≡ Some m → Outer n m) → (m : Operand) → cond test (Some x) rest ≡ Some m → Outer n m
       tried n true x rest h k m e = let same : x ≡ m = cc in subst (Outer n) same h
       tried n false x rest h k m e = k m e
 
@@ -89,47 +96,73 @@ module _ (taking : Taking) where
 
       is-type : (n : List ℕ) (m : Operand) → type_name n ≡ Some m → Outer n m
       unfolding type_name
-      is-type n = tried n (bytes_eq n (codes "int")) operand.TypeName _ tt (tried n (bytes_eq n (codes "bool")) operand.TypeName _ tt (tried n (bytes_eq n (codes "string")) operand.TypeName None tt (no-name n)))
+      is-type n = tried n (bytes_eq n (codes "int")) operand.TypeName _ tt
+          (tried n (bytes_eq n (codes "bool")) operand.TypeName _ tt
+          (tried n (bytes_eq n (codes "string")) operand.TypeName None tt (no-name n)))
 
       is-value : (n : List ℕ) (m : Operand) → value_name n ≡ Some m → Outer n m
       unfolding value_name
-      is-value n = tried n _ (operand.Truth true) _ (λ w strict. refl) (tried n _ (operand.Truth false) _ (λ w strict. refl) (tried n _ operand.Nil None (λ u nil w strict. nil-is u nil) (no-name n)))
+      is-value n = tried n _ (operand.Truth true) _ (λ w strict. refl)
+          (tried n _ (operand.Truth false) _ (λ w strict. refl)
+          (tried n _ operand.Nil None (λ u nil w strict. nil-is u nil) (no-name n)))
 
       is-call : (n : List ℕ) (m : Operand) → call_name n ≡ Some m → Outer n m
       unfolding call_name
-      is-call n = tried n _ (operand.BuiltIn built_in.Length) _ (λ w. refl) (tried n _ (operand.BuiltIn built_in.Close) _ (λ w. refl) (tried n _ (operand.BuiltIn built_in.Panic) _ (λ w. refl) (tried n _ operand.TypeName _ tt (tried n _ operand.TypeName None tt (no-name n)))))
+      is-call n = tried n _ (operand.BuiltIn built_in.Length) _ (λ w. refl)
+          (tried n _ (operand.BuiltIn built_in.Close) _ (λ w. refl)
+          (tried n _ (operand.BuiltIn built_in.Panic) _ (λ w. refl)
+          (tried n _ operand.TypeName _ tt (tried n _ operand.TypeName None tt (no-name n)))))
 
       is-package : (i : Imports) (n : List ℕ) (m : Operand) → package_name i n ≡ Some m → Outer n m
       unfolding package_name
-      is-package i n = tried n _ (operand.Package packages.Fmt) _ (λ w. refl) (tried n _ (operand.Package packages.Runtime) _ (λ w. refl) (tried n _ (operand.Package packages.Sync) None (λ w. refl) (no-name n)))
+      is-package i n = tried n _ (operand.Package packages.Fmt) _ (λ w. refl)
+          (tried n _ (operand.Package packages.Runtime) _ (λ w. refl)
+          (tried n _ (operand.Package packages.Sync) None (λ w. refl) (no-name n)))
 
       is-predeclared : (i : Imports) (n : List ℕ) (m : Operand) → predeclared i n ≡ Some m → Outer n m
-      is-predeclared i n = either-name n (type_name n) _ (is-type n) (either-name n (value_name n) _ (is-value n) (either-name n (call_name n) (package_name i n) (is-call n) (is-package i n)))
+      is-predeclared i n = either-name n (type_name n) _ (is-type n)
+          (either-name n (value_name n) _ (is-value n)
+          (either-name n (call_name n) (package_name i n) (is-call n) (is-package i n)))
 
       outer-meets : (n : List ℕ) → FileTaken taking types t s.file → (m : Operand) → outer s n ≡ Some m → Outer n m
-      outer-meets n ok = either-name n (file_operand s.file n) (predeclared s.file.imports n) (λ m e. from-file n m (ok.fits.names n m e)) (is-predeclared s.file.imports n)
+      outer-meets n ok = either-name n (file_operand s.file n) (predeclared s.file.imports n)
+          (λ m e. from-file n m (ok.fits.names n m e)) (is-predeclared s.file.imports n)
 
       -- a local, or a name that is none
-      name-meets : (l : ℕ) (g : Option ℕ) (n : List ℕ) (a : Option Local) (o : Option Value) (out : Option Operand) → last s.locals n ≡ a → find env n ≡ o → Paired taking a o → ((m : Operand) → out ≡ Some m → Outer n m)
-          → (known_name l g (or_else (option_map local_operand a) out)).faults ≡ [] → Me (known_name l g (or_else (option_map local_operand a) out)).meaning (value_of_name taking t o out) (place_of_name n o out) (gives [])
+      name-meets : (l : ℕ) (g : Option ℕ) (n : List ℕ) (a : Option Local) (o : Option Value) (out : Option Operand)
+          → last s.locals n ≡ a → find env n ≡ o → Paired taking a o → ((m : Operand) → out ≡ Some m → Outer n m)
+          → (known_name l g (or_else (option_map local_operand a) out)).faults ≡ []
+          → Me (known_name l g (or_else (option_map local_operand a) out)).meaning (value_of_name taking t o out)
+          (place_of_name n o out) (gives [])
       name-meets l g n (Some d) (Some v) out is at h k none =
           let e = held-known taking d.of_type v h in
-          subst (λ z. Me (operand.Variable (place.Slot d.slot) z) (gives (v ∷ [])) (Place.Local n) (gives [])) (sym e.1) (λ w. e.2, placed-local taking s.locals env fit n d e.0 v is e.1 at e.2)
+          subst (λ z. Me (operand.Variable (place.Slot d.slot) z) (gives (v ∷ [])) (Location.Local n) (gives []))
+          (sym e.1)
+          (λ w. e.2, placed-local taking s.locals env fit n d e.0 v is e.1 at e.2)
       name-meets l g n (Some d) None out is at h k none = absurd h
       name-meets l g n None (Some v) out is at h k none = absurd h
       name-meets l g n None None None is at h k none = cc
       name-meets l g n None None (Some m) is at h k none = k m refl
 
       pub on-name : (l : ℕ) (n : List ℕ) → FileTaken taking types t s.file → (named l s n).faults ≡ []
-          → Me (named l s n).meaning ((name_does taking t (is_blank n) n (outer s n)).value env) ((name_does taking t (is_blank n) n (outer s n)).place env) ((name_does taking t (is_blank n) n (outer s n)).parts env)
+          → Me (named l s n).meaning ((name_does taking t (is_blank n) n (outer s n)).value env)
+          ((name_does taking t (is_blank n) n (outer s n)).place env)
+          ((name_does taking t (is_blank n) n (outer s n)).parts env)
       unfolding meaning
       on-name l n ok = by (is_blank n)
         where
-          by : (b : Bool) → (cond b (leaf operand.Blank []) (known_name l s.initialises (or_else (option_map local_operand (look s.locals n)) (outer s n)))).faults ≡ []
-              → Me (cond b (leaf operand.Blank []) (known_name l s.initialises (or_else (option_map local_operand (look s.locals n)) (outer s n)))).meaning (cond b (gives []) (value_of_name taking t (find env n) (outer s n)))
-              (cond b Place.Blank (place_of_name n (find env n) (outer s n))) (gives [])
+          by : (b : Bool) → (cond b (leaf operand.Blank [])
+              (known_name l s.initialises (or_else (option_map local_operand (look s.locals n)) (outer s n)))).faults
+              ≡ []
+              → Me (cond b (leaf operand.Blank [])
+              (known_name l s.initialises (or_else (option_map local_operand (look s.locals n))
+              (outer s n)))).meaning (cond b (gives []) (value_of_name taking t (find env n) (outer s n)))
+              (cond b Location.Blank (place_of_name n (find env n) (outer s n))) (gives [])
           by true = λ none. (refl, λ w. refl)
           by false =
               subst (λ a. (known_name l s.initialises (or_else (option_map local_operand a) (outer s n))).faults ≡ []
-              → Me (known_name l s.initialises (or_else (option_map local_operand a) (outer s n))).meaning (value_of_name taking t (find env n) (outer s n)) (place_of_name n (find env n) (outer s n)) (gives [])) (sym (look-last s.locals n))
-              (name-meets l s.initialises n (last s.locals n) (find env n) (outer s n) refl refl (paired taking s.locals env n fit) (outer-meets n ok))
+              → Me (known_name l s.initialises (or_else (option_map local_operand a) (outer s n))).meaning
+              (value_of_name taking t (find env n) (outer s n)) (place_of_name n (find env n) (outer s n))
+              (gives [])) (sym (look-last s.locals n))
+              (name-meets l s.initialises n (last s.locals n) (find env n) (outer s n) refl refl
+              (paired taking s.locals env n fit) (outer-meets n ok))

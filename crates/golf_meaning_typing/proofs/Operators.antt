@@ -1,7 +1,8 @@
 -- Operators whose operands break no rule give values of their types.
 -- For: `operators_fit` and `conditions_decide`, src/lib.rt
 -- By: cases of the operator and of the types of its operands; no induction
-use Rattle.std.proofs.Common.{◌≡◌, inl, inr, ℕ, ℤ, Bool, true, false, not, ◌&&◌, ◌||◌, List, [], ◌∷◌, Option, Some, None, refl, sym, subst}
+use Rattle.std.proofs.Common.{◌≡◌, inl, inr, ℕ, ℤ, Bool, true, false, not, ◌&&◌, ◌||◌, List, [], ◌∷◌, Option, Some}
+use Rattle.std.proofs.Common.{None, refl, sym, subst}
 use Rattle.std.proofs.lemmas.Bool.{and_parts, or_cases}
 use Rattle.std.specs.Prelude.{int_lt, int_le}
 use Rattle.golf_syntax_trees.specs.declared.expressions.UnaryOperator.{UnaryOperator}
@@ -21,15 +22,19 @@ use Rattle.golf_check_types.specs.declared.operands.Operand.TheVariants as opera
 use Rattle.golf_check_types.specs.declared.operands.Given.{Given}
 use Rattle.golf_check_types.specs.declared.operands.Given.TheVariants as given_as
 use Rattle.golf_check_types.specs.declared.scopes.Scope.{Scope}
-use Rattle.golf_check_types.specs.Types.{has_base, has_layer, is_slice, gives, starts_with, element, comparable, assignable_type}
+use Rattle.golf_check_types.specs.Types.{has_base, has_layer, is_slice, gives, starts_with, element, comparable}
+use Rattle.golf_check_types.specs.Types.{assignable_type}
 use Rattle.golf_check_types.specs.Expressions.{used, given_by, unary_faults, unary_meaning, binary_fits, result_base}
 use Rattle.golf_meaning_flat.specs.Worlds.{Halt, World, Part, bind}
-use Rattle.golf_meaning_flat.specs.Doing.{on_kind, chosen_by, ints, negated, inverted, computed, divided, compared, equated}
-use Rattle.golf_meaning_source.specs.Operations.{Taking, Gives, gives as constant, both, then_do, visible, on_one, on_two, by_bool, if_true}
+use Rattle.golf_meaning_flat.specs.Doing.{on_kind, chosen_by, ints, negated, inverted, computed, divided, compared}
+use Rattle.golf_meaning_flat.specs.Doing.{equated}
+use Rattle.golf_meaning_source.specs.Operations.{Taking, Gives, gives as constant, both, then_do, visible, on_one}
+use Rattle.golf_meaning_source.specs.Operations.{on_two, by_bool, if_true}
 use Rattle.golf_meaning_source.specs.Exprs.{unary_does, binary_does, calculation}
 use Rattle.golf_model_typing.specs.Types.{ValueType}
 use Rattle.golf_code_shapes.specs.Types.{base_type, value_type}
-use Rattle.golf_code_shapes.proofs.Typings.{none-left, none-right, kept, same-value, assigned-value, nilable, carried-by, slice-of}
+use Rattle.golf_code_shapes.proofs.Typings.{none-left, none-right, kept, same-value, assigned-value, nilable}
+use Rattle.golf_code_shapes.proofs.Typings.{carried-by, slice-of}
 use Rattle.golf_meaning_typing.specs.Sound.{Sound, One, Yields, YieldsBy, Shown, IsOf}
 use Rattle.golf_meaning_typing.specs.Laws.{UnaryFits, BinaryFits, IndexFits, OperatorsFit, IsTruth, ConditionsDecide}
 use Rattle.golf_meaning_typing.proofs.ValueKinds.{same-compared}
@@ -38,132 +43,209 @@ use Rattle.golf_meaning_typing.proofs.Calculus.{sound-as, lax, kind-bind, yields
 module _ (taking : Taking) where
   -- tests of types
 
-  pub based : (b : Base) (g : Given) (f : Gives) → has_base b g ≡ true → YieldsBy taking g f → Yields taking (base_type b) f
+  pub based : (b : Base) (g : Given) (f : Gives) → has_base b g ≡ true → YieldsBy taking g f
+      → Yields taking (base_type b) f
   based b (given_as.Typed e) f holds h = subst (λ u. Yields taking u f) (same-value e.layers [] e.base b holds) h
   based b given_as.Nil f holds h = cc
   based b given_as.Unknown f holds h = absurd h
 
-  pub giving : (g : Given) (f : Gives) → has_layer gives g ≡ true → YieldsBy taking g f → (e : GoType) × (element g ≡ Some e) × Yields taking (ValueType.Chan (value_type e)) f
-  giving (given_as.Typed a) f holds h = let c = carried-by a.layers a.base holds in (c.0, c.1, subst (λ u. Yields taking u f) c.2 h)
+  pub giving : (g : Given) (f : Gives) → has_layer gives g ≡ true → YieldsBy taking g f → (e : GoType)
+      × (element g ≡ Some e) × Yields taking (ValueType.Chan (value_type e)) f
+  giving (given_as.Typed a) f holds h = let c =
+      carried-by a.layers a.base holds in (c.0, c.1, subst (λ u. Yields taking u f) c.2 h)
   giving given_as.Nil f holds h = cc
   giving given_as.Unknown f holds h = absurd h
 
-  pub sliced : (g : Given) (f : Gives) → has_layer is_slice g ≡ true → YieldsBy taking g f → (e : GoType) × (element g ≡ Some e) × Yields taking (ValueType.Slice (value_type e)) f
-  sliced (given_as.Typed a) f holds h = let c = slice-of a.layers a.base holds in (c.0, c.1, subst (λ u. Yields taking u f) c.2 h)
+  pub sliced : (g : Given) (f : Gives) → has_layer is_slice g ≡ true → YieldsBy taking g f → (e : GoType)
+      × (element g ≡ Some e) × Yields taking (ValueType.Slice (value_type e)) f
+  sliced (given_as.Typed a) f holds h = let c =
+      slice-of a.layers a.base holds in (c.0, c.1, subst (λ u. Yields taking u f) c.2 h)
   sliced given_as.Nil f holds h = cc
   sliced given_as.Unknown f holds h = absurd h
 
   -- calculations
 
-  negates : (v : Value) → IsOf taking ValueType.Int v → (w : World) → Sound taking (One taking ValueType.Int) (on_one negated (v ∷ []) w)
-  negates v h w = kind-bind taking (λ n. Part.Gives (Value.Int (int_wrapping_neg w64 n)) w) (λ x u. Part.Gives (x ∷ []) u) (One taking ValueType.Int) w (int_of v) h (λ n strict. refl)
+  negates : (v : Value) → IsOf taking ValueType.Int v → (w : World)
+      → Sound taking (One taking ValueType.Int) (on_one negated (v ∷ []) w)
+  negates v h w = kind-bind taking (λ n. Part.Gives (Value.Int (int_wrapping_neg w64 n)) w)
+      (λ x u. Part.Gives (x ∷ []) u) (One taking ValueType.Int) w (int_of v) h (λ n strict. refl)
 
-  inverts : (v : Value) → IsOf taking ValueType.Bool v → (w : World) → Sound taking (One taking ValueType.Bool) (on_one inverted (v ∷ []) w)
-  inverts v h w = kind-bind taking (λ b. Part.Gives (Value.Bool (not b)) w) (λ x u. Part.Gives (x ∷ []) u) (One taking ValueType.Bool) w (bool_of v) h (λ b strict. refl)
+  inverts : (v : Value) → IsOf taking ValueType.Bool v → (w : World)
+      → Sound taking (One taking ValueType.Bool) (on_one inverted (v ∷ []) w)
+  inverts v h w = kind-bind taking (λ b. Part.Gives (Value.Bool (not b)) w) (λ x u. Part.Gives (x ∷ []) u)
+      (One taking ValueType.Bool) w (bool_of v) h (λ b strict. refl)
 
-  on-ints : (act : World → ℤ → ℤ → Part Value) (u : ValueType) → ((m n : ℤ) (w : World) → Sound taking (One taking u) (bind (act w m n) (λ y z. Part.Gives (y ∷ []) z)))
-      → (v x : Value) → IsOf taking ValueType.Int v → IsOf taking ValueType.Int x → (w : World) → Sound taking (One taking u) (bind (ints w (act w) v x) (λ y z. Part.Gives (y ∷ []) z))
+  on-ints : (act : World → ℤ → ℤ → Part Value) (u : ValueType)
+      → ((m n : ℤ) (w : World) → Sound taking (One taking u) (bind (act w m n) (λ y z. Part.Gives (y ∷ []) z)))
+      → (v x : Value) → IsOf taking ValueType.Int v → IsOf taking ValueType.Int x → (w : World)
+      → Sound taking (One taking u) (bind (ints w (act w) v x) (λ y z. Part.Gives (y ∷ []) z))
   on-ints act u k v x h i w =
-      kind-bind taking (λ m. on_kind (λ n. act w m n) w (int_of x)) (λ y z. Part.Gives (y ∷ []) z) (One taking u) w (int_of v) h
-      (λ m. kind-bind taking (λ n. act w m n) (λ y z. Part.Gives (y ∷ []) z) (One taking u) w (int_of x) i (λ n. k m n w))
+      kind-bind taking (λ m. on_kind (λ n. act w m n) w (int_of x)) (λ y z. Part.Gives (y ∷ []) z) (One taking u) w
+      (int_of v) h
+      (λ m. kind-bind taking (λ n. act w m n) (λ y z. Part.Gives (y ∷ []) z) (One taking u) w (int_of x) i
+      (λ n. k m n w))
 
-  pub computes : (f : ℤ → ℤ → ℤ) (v x : Value) → IsOf taking ValueType.Int v → IsOf taking ValueType.Int x → (w : World) → Sound taking (One taking ValueType.Int) (on_two (computed f) (v ∷ (x ∷ [])) w)
+  pub computes : (f : ℤ → ℤ → ℤ) (v x : Value) → IsOf taking ValueType.Int v → IsOf taking ValueType.Int x → (w : World)
+      → Sound taking (One taking ValueType.Int) (on_two (computed f) (v ∷ (x ∷ [])) w)
   computes f = on-ints (λ w m n. Part.Gives (Value.Int (f m n)) w) ValueType.Int (λ m n w strict. refl)
 
-  compares : (f : ℤ → ℤ → Bool) (v x : Value) → IsOf taking ValueType.Int v → IsOf taking ValueType.Int x → (w : World) → Sound taking (One taking ValueType.Bool) (on_two (compared f) (v ∷ (x ∷ [])) w)
+  compares : (f : ℤ → ℤ → Bool) (v x : Value) → IsOf taking ValueType.Int v → IsOf taking ValueType.Int x → (w : World)
+      → Sound taking (One taking ValueType.Bool) (on_two (compared f) (v ∷ (x ∷ [])) w)
   compares f = on-ints (λ w m n. Part.Gives (Value.Bool (f m n)) w) ValueType.Bool (λ m n w strict. refl)
 
-  pub divides : (f : ℤ → ℤ → ℤ) (v x : Value) → IsOf taking ValueType.Int v → IsOf taking ValueType.Int x → (w : World) → Sound taking (One taking ValueType.Int) (on_two (divided f) (v ∷ (x ∷ [])) w)
-  divides f = on-ints (λ w m n. chosen_by (is_zero n) (Part.Stops Halt.Divided w.operations) (Part.Gives (Value.Int (f m n)) w)) ValueType.Int (λ m n w. by m n w (is_zero n))
+  pub divides : (f : ℤ → ℤ → ℤ) (v x : Value) → IsOf taking ValueType.Int v → IsOf taking ValueType.Int x → (w : World)
+      → Sound taking (One taking ValueType.Int) (on_two (divided f) (v ∷ (x ∷ [])) w)
+  divides f = on-ints (λ w m n. chosen_by (is_zero n) (Part.Stops Halt.Divided w.operations)
+      (Part.Gives (Value.Int (f m n)) w)) ValueType.Int (λ m n w. by m n w (is_zero n))
     where
-      by : (m n : ℤ) (w : World) (b : Bool) → Sound taking (One taking ValueType.Int) (bind (chosen_by b (Part.Stops Halt.Divided w.operations) (Part.Gives (Value.Int (f m n)) w)) (λ v u. Part.Gives (v ∷ []) u))
+      by : (m n : ℤ) (w : World) (b : Bool) → Sound taking (One taking ValueType.Int)
+          (bind (chosen_by b (Part.Stops Halt.Divided w.operations) (Part.Gives (Value.Int (f m n)) w))
+          (λ v u. Part.Gives (v ∷ []) u))
       by m n w true = tt
       by m n w false = λ strict. refl
 
-  equates : (t : ValueType) (v x : Value) → IsOf taking t v → IsOf taking t x → (w : World) → Sound taking (One taking ValueType.Bool) (on_two equated (v ∷ (x ∷ [])) w)
+  equates : (t : ValueType) (v x : Value) → IsOf taking t v → IsOf taking t x → (w : World)
+      → Sound taking (One taking ValueType.Bool) (on_two equated (v ∷ (x ∷ [])) w)
   equates t v x h i w =
-      kind-bind taking (λ b. Part.Gives (Value.Bool b) w) (λ y u. Part.Gives (y ∷ []) u) (One taking ValueType.Bool) w (equality v x)
-      (λ strict. let c = same-compared t v x (h strict) (i strict) in subst (λ o. is_some o ≡ true) (sym c.1) refl) (λ b strict. refl)
+      kind-bind taking (λ b. Part.Gives (Value.Bool b) w) (λ y u. Part.Gives (y ∷ []) u) (One taking ValueType.Bool) w
+      (equality v x)
+      (λ strict. let c = same-compared t v x (h strict) (i strict) in subst (λ o. is_some o ≡ true) (sym c.1) refl)
+      (λ b strict. refl)
 
   -- a truth value of two values, turned round
-  negating : (g : List Value → Gives) (vs : List Value) → ((w : World) → Sound taking (One taking ValueType.Bool) (g vs w)) → (w : World) → Sound taking (One taking ValueType.Bool) (then_do (g vs) (on_one inverted) w)
+  negating : (g : List Value → Gives) (vs : List Value)
+      → ((w : World) → Sound taking (One taking ValueType.Bool) (g vs w)) → (w : World)
+      → Sound taking (One taking ValueType.Bool) (then_do (g vs) (on_one inverted) w)
   negating g vs h w = yields-then taking ValueType.Bool (g vs) (on_one inverted) (One taking ValueType.Bool) h inverts w
 
   -- unary operators
 
-  unary-yields : (l : ℕ) (s : Scope) (o : UnaryOperator) (g : Given) (f : Gives) → unary_faults l s o g ≡ [] → YieldsBy taking g f → Shown taking (unary_meaning o g) (then_do f (unary_does taking o (unary_meaning o g)))
-  unary-yields l s unary.Negate g f none h = yields-then taking ValueType.Int f (on_one negated) (One taking ValueType.Int) (based base.Int g f (kept l 8 (has_base base.Int g) none) h) negates
-  unary-yields l s unary.Not g f none h = yields-then taking ValueType.Bool f (on_one inverted) (One taking ValueType.Bool) (based base.Bool g f (kept l 8 (has_base base.Bool g) none) h) inverts
+  unary-yields : (l : ℕ) (s : Scope) (o : UnaryOperator) (g : Given) (f : Gives) → unary_faults l s o g ≡ []
+      → YieldsBy taking g f → Shown taking (unary_meaning o g) (then_do f (unary_does taking o (unary_meaning o g)))
+  unary-yields l s unary.Negate g f none h =
+      yields-then taking ValueType.Int f (on_one negated) (One taking ValueType.Int)
+      (based base.Int g f (kept l 8 (has_base base.Int g) none) h) negates
+  unary-yields l s unary.Not g f none h =
+      yields-then taking ValueType.Bool f (on_one inverted) (One taking ValueType.Bool)
+      (based base.Bool g f (kept l 8 (has_base base.Bool g) none) h) inverts
   unary-yields l s unary.Receive g f none h =
       let c = giving g f (kept l 16 (has_layer gives g) (none-right _ _ none)) h in
       subst (λ o. Shown taking (operand.Outcome o) (then_do f (visible taking Instr.Receive (o ∷ [])))) (sym c.1)
-      (yields-then taking (ValueType.Chan (value_type c.0)) f (visible taking Instr.Receive (Some c.0 ∷ [])) (One taking (value_type c.0)) c.2 (λ v q w. yields-visible taking Instr.Receive c.0 (v ∷ []) refl (λ k. refl) w))
+      (yields-then taking (ValueType.Chan (value_type c.0)) f (visible taking Instr.Receive (Some c.0 ∷ []))
+      (One taking (value_type c.0)) c.2 (λ v q w. yields-visible taking Instr.Receive c.0 (v ∷ []) refl
+      (λ k. refl) w))
 
   unary-fits : UnaryFits taking
-  unary-fits l s o j f h none = unary-yields l s o (given_by j) f (none-right (used l j) _ none) (h (none-left (used l j) _ none))
+  unary-fits l s o j f h none = unary-yields l s o (given_by j) f (none-right (used l j) _ none)
+      (h (none-left (used l j) _ none))
 
   -- binary operators
 
-  alike : (b : Base) (g h : Given) (f k : Gives) → (has_base b g && has_base b h) ≡ true → YieldsBy taking g f → YieldsBy taking h k → Yields taking (base_type b) f × Yields taking (base_type b) k
-  alike b g h f k holds x y = let p = and_parts (has_base b g) (has_base b h) holds in (based b g f p.0 x, based b h k p.1 y)
+  alike : (b : Base) (g h : Given) (f k : Gives) → (has_base b g && has_base b h) ≡ true → YieldsBy taking g f
+      → YieldsBy taking h k → Yields taking (base_type b) f × Yields taking (base_type b) k
+  alike b g h f k holds x y = let p = and_parts (has_base b g)
+      (has_base b h) holds in (based b g f p.0 x, based b h k p.1 y)
 
   -- two operands that may be compared are of one type
-  comparing : (g h : Given) (f k : Gives) → comparable g h ≡ true → YieldsBy taking g f → YieldsBy taking h k → (u : ValueType) × Yields taking u f × Yields taking u k
+  comparing : (g h : Given) (f k : Gives) → comparable g h ≡ true → YieldsBy taking g f → YieldsBy taking h k
+      → (u : ValueType) × Yields taking u f × Yields taking u k
   comparing (given_as.Typed a) (given_as.Typed b) f k holds x y =
-      let same = elim (or_cases (assignable_type a b) (assignable_type b a) (and_parts (assignable_type a b || assignable_type b a) (not (starts_with is_slice a.layers)) holds).0) as (λ z. value_type b ≡ value_type a) [
+      let same = elim (or_cases (assignable_type a b) (assignable_type b a)
+      (and_parts (assignable_type a b || assignable_type b a) (not (starts_with is_slice a.layers)) holds).0) as (λ
+      z. value_type b ≡ value_type a) [
         | inl e ↦ sym (assigned-value a b e)
         | inr e ↦ assigned-value b a e
       ] in
       (value_type a, x, subst (λ u. Yields taking u k) same y)
-  comparing (given_as.Typed a) given_as.Nil f k holds x y = (value_type a, x, y (value_type a) (nilable a.layers a.base holds))
+  comparing (given_as.Typed a) given_as.Nil f k holds x y =
+      (value_type a, x, y (value_type a) (nilable a.layers a.base holds))
   comparing (given_as.Typed a) given_as.Unknown f k holds x y = absurd y
-  comparing given_as.Nil (given_as.Typed b) f k holds x y = (value_type b, x (value_type b) (nilable b.layers b.base holds), y)
+  comparing given_as.Nil (given_as.Typed b) f k holds x y =
+      (value_type b, x (value_type b) (nilable b.layers b.base holds), y)
   comparing given_as.Nil given_as.Nil f k holds x y = cc
   comparing given_as.Nil given_as.Unknown f k holds x y = absurd y
   comparing given_as.Unknown h f k holds x y = absurd x
 
   -- if the first operand is true the second decides, or else
-  choosing : (f k h : Gives) → Yields taking ValueType.Bool f → Yields taking ValueType.Bool k → Yields taking ValueType.Bool h → (w : World) → Sound taking (One taking ValueType.Bool) (then_do f (λ vs. if_true vs k h) w)
+  choosing : (f k h : Gives) → Yields taking ValueType.Bool f → Yields taking ValueType.Bool k
+      → Yields taking ValueType.Bool h → (w : World)
+      → Sound taking (One taking ValueType.Bool) (then_do f (λ vs. if_true vs k h) w)
   choosing f k h yf yk yh = yields-then taking ValueType.Bool f (λ vs. if_true vs k h) (One taking ValueType.Bool) yf by
     where
-      by : (v : Value) → IsOf taking ValueType.Bool v → (w : World) → Sound taking (One taking ValueType.Bool) (if_true (v ∷ []) k h w)
+      by : (v : Value) → IsOf taking ValueType.Bool v → (w : World)
+          → Sound taking (One taking ValueType.Bool) (if_true (v ∷ []) k h w)
       by v q w = one (bool_of v) q
         where
-          one : (m : Option Bool) → (taking.strict ≡ true → is_some m ≡ true) → Sound taking (One taking ValueType.Bool) (by_bool m w (k w) (h w))
+          one : (m : Option Bool) → (taking.strict ≡ true → is_some m ≡ true)
+              → Sound taking (One taking ValueType.Bool) (by_bool m w (k w) (h w))
           one None q = lax taking.strict q
           one (Some true) q = yk w
           one (Some false) q = yh w
 
-  binary-yields : (o : BinaryOperator) (g h : Given) (f k : Gives) → binary_fits o g h ≡ true → YieldsBy taking g f → YieldsBy taking h k → Yields taking (base_type (result_base o)) (binary_does o f k)
-  binary-yields binary.Or g h f k holds x y = let a = alike base.Bool g h f k holds x y in choosing (then_do f (on_one inverted)) k (constant (Value.Bool true ∷ [])) (yields-then taking ValueType.Bool f (on_one inverted) (One taking ValueType.Bool) a.0 inverts) a.1 (λ w strict. refl)
-  binary-yields binary.And g h f k holds x y = let a = alike base.Bool g h f k holds x y in choosing f k (constant (Value.Bool false ∷ [])) a.0 a.1 (λ w strict. refl)
-  binary-yields binary.Equal g h f k holds x y = let c = comparing g h f k holds x y in two-then taking c.0 c.0 f k (calculation binary.Equal) (One taking ValueType.Bool) c.1 c.2 (equates c.0)
-  binary-yields binary.NotEqual g h f k holds x y = let c = comparing g h f k holds x y in two-then taking c.0 c.0 f k (calculation binary.NotEqual) (One taking ValueType.Bool) c.1 c.2 (λ v z p q. negating (on_two equated) (v ∷ (z ∷ [])) (equates c.0 v z p q))
-  binary-yields binary.Less g h f k holds x y = let a = alike base.Int g h f k holds x y in two-then taking ValueType.Int ValueType.Int f k (calculation binary.Less) (One taking ValueType.Bool) a.0 a.1 (compares int_lt)
-  binary-yields binary.AtMost g h f k holds x y = let a = alike base.Int g h f k holds x y in two-then taking ValueType.Int ValueType.Int f k (calculation binary.AtMost) (One taking ValueType.Bool) a.0 a.1 (compares int_le)
-  binary-yields binary.Greater g h f k holds x y = let a = alike base.Int g h f k holds x y in two-then taking ValueType.Int ValueType.Int f k (calculation binary.Greater) (One taking ValueType.Bool) a.0 a.1 (λ v z p q. negating (on_two (compared int_le)) (v ∷ (z ∷ [])) (compares int_le v z p q))
-  binary-yields binary.AtLeast g h f k holds x y = let a = alike base.Int g h f k holds x y in two-then taking ValueType.Int ValueType.Int f k (calculation binary.AtLeast) (One taking ValueType.Bool) a.0 a.1 (λ v z p q. negating (on_two (compared int_lt)) (v ∷ (z ∷ [])) (compares int_lt v z p q))
-  binary-yields binary.Add g h f k holds x y = let a = alike base.Int g h f k holds x y in two-then taking ValueType.Int ValueType.Int f k (calculation binary.Add) (One taking ValueType.Int) a.0 a.1 (computes sum)
-  binary-yields binary.Subtract g h f k holds x y = let a = alike base.Int g h f k holds x y in two-then taking ValueType.Int ValueType.Int f k (calculation binary.Subtract) (One taking ValueType.Int) a.0 a.1 (computes difference)
-  binary-yields binary.Multiply g h f k holds x y = let a = alike base.Int g h f k holds x y in two-then taking ValueType.Int ValueType.Int f k (calculation binary.Multiply) (One taking ValueType.Int) a.0 a.1 (computes product)
-  binary-yields binary.Divide g h f k holds x y = let a = alike base.Int g h f k holds x y in two-then taking ValueType.Int ValueType.Int f k (calculation binary.Divide) (One taking ValueType.Int) a.0 a.1 (divides quotient)
-  binary-yields binary.Remainder g h f k holds x y = let a = alike base.Int g h f k holds x y in two-then taking ValueType.Int ValueType.Int f k (calculation binary.Remainder) (One taking ValueType.Int) a.0 a.1 (divides remainder)
+  binary-yields : (o : BinaryOperator) (g h : Given) (f k : Gives) → binary_fits o g h ≡ true → YieldsBy taking g f
+      → YieldsBy taking h k → Yields taking (base_type (result_base o)) (binary_does o f k)
+  binary-yields binary.Or g h f k holds x y = let a =
+      alike base.Bool g h f k holds x y in choosing (then_do f (on_one inverted)) k (constant (Value.Bool true ∷ []))
+      (yields-then taking ValueType.Bool f (on_one inverted) (One taking ValueType.Bool) a.0 inverts) a.1
+      (λ w strict. refl)
+  binary-yields binary.And g h f k holds x y = let a =
+      alike base.Bool g h f k holds x y in choosing f k (constant (Value.Bool false ∷ [])) a.0 a.1 (λ w strict. refl)
+  binary-yields binary.Equal g h f k holds x y = let c =
+      comparing g h f k holds x y in two-then taking c.0 c.0 f k (calculation binary.Equal)
+      (One taking ValueType.Bool) c.1 c.2 (equates c.0)
+  binary-yields binary.NotEqual g h f k holds x y = let c =
+      comparing g h f k holds x y in two-then taking c.0 c.0 f k (calculation binary.NotEqual)
+      (One taking ValueType.Bool) c.1 c.2 (λ v z p q. negating (on_two equated) (v ∷ (z ∷ [])) (equates c.0 v z p q))
+  binary-yields binary.Less g h f k holds x y = let a =
+      alike base.Int g h f k holds x y in two-then taking ValueType.Int ValueType.Int f k (calculation binary.Less)
+      (One taking ValueType.Bool) a.0 a.1 (compares int_lt)
+  binary-yields binary.AtMost g h f k holds x y = let a =
+      alike base.Int g h f k holds x y in two-then taking ValueType.Int ValueType.Int f k (calculation binary.AtMost)
+      (One taking ValueType.Bool) a.0 a.1 (compares int_le)
+  binary-yields binary.Greater g h f k holds x y = let a =
+      alike base.Int g h f k holds x y in two-then taking ValueType.Int ValueType.Int f k (calculation binary.Greater)
+      (One taking ValueType.Bool) a.0 a.1 (λ v z p q. negating (on_two (compared int_le)) (v ∷ (z ∷ []))
+      (compares int_le v z p q))
+  binary-yields binary.AtLeast g h f k holds x y = let a =
+      alike base.Int g h f k holds x y in two-then taking ValueType.Int ValueType.Int f k (calculation binary.AtLeast)
+      (One taking ValueType.Bool) a.0 a.1 (λ v z p q. negating (on_two (compared int_lt)) (v ∷ (z ∷ []))
+      (compares int_lt v z p q))
+  binary-yields binary.Add g h f k holds x y = let a =
+      alike base.Int g h f k holds x y in two-then taking ValueType.Int ValueType.Int f k (calculation binary.Add)
+      (One taking ValueType.Int) a.0 a.1 (computes sum)
+  binary-yields binary.Subtract g h f k holds x y = let a =
+      alike base.Int g h f k holds x y in two-then taking ValueType.Int ValueType.Int f k (calculation binary.Subtract)
+      (One taking ValueType.Int) a.0 a.1 (computes difference)
+  binary-yields binary.Multiply g h f k holds x y = let a =
+      alike base.Int g h f k holds x y in two-then taking ValueType.Int ValueType.Int f k (calculation binary.Multiply)
+      (One taking ValueType.Int) a.0 a.1 (computes product)
+  binary-yields binary.Divide g h f k holds x y = let a =
+      alike base.Int g h f k holds x y in two-then taking ValueType.Int ValueType.Int f k (calculation binary.Divide)
+      (One taking ValueType.Int) a.0 a.1 (divides quotient)
+  binary-yields binary.Remainder g h f k holds x y = let a =
+      alike base.Int g h f k holds x y in two-then taking ValueType.Int ValueType.Int f k (calculation binary.Remainder)
+      (One taking ValueType.Int) a.0 a.1 (divides remainder)
 
   binary-fits : BinaryFits taking
   binary-fits l o j k f g hf hg none =
       let rest = none-right (used l j) _ none in
-      binary-yields o (given_by j) (given_by k) f g (kept l 8 (binary_fits o (given_by j) (given_by k)) (none-right (used l k) _ rest)) (hf (none-left (used l j) _ none)) (hg (none-left (used l k) _ rest))
+      binary-yields o (given_by j) (given_by k) f g
+      (kept l 8 (binary_fits o (given_by j) (given_by k)) (none-right (used l k) _ rest))
+      (hf (none-left (used l j) _ none)) (hg (none-left (used l k) _ rest))
 
   -- an element of a slice
 
   index-fits : IndexFits taking
   index-fits l j k f g env hf hg none =
       let rest = none-right (used l j) _ none in
-      let both_fit = and_parts (has_layer is_slice (given_by j)) (has_base base.Int (given_by k)) (kept l 8 _ (none-right (used l k) _ rest)) in
+      let both_fit = and_parts (has_layer is_slice (given_by j)) (has_base base.Int (given_by k))
+      (kept l 8 _ (none-right (used l k) _ rest)) in
       let c = sliced (given_by j) f both_fit.0 (hf (none-left (used l j) _ none)) in
       let i = based base.Int (given_by k) g both_fit.1 (hg (none-left (used l k) _ rest)) in
       subst (λ o. Shown taking (operand.Element o) (then_do (both f g) (visible taking Instr.Index (o ∷ [])))) (sym c.1)
-      (two-then taking (ValueType.Slice (value_type c.0)) ValueType.Int f g (visible taking Instr.Index (Some c.0 ∷ [])) (One taking (value_type c.0)) c.2 i (λ v x p q w. yields-visible taking Instr.Index c.0 (v ∷ (x ∷ [])) refl (λ k. refl) w))
+      (two-then taking (ValueType.Slice (value_type c.0)) ValueType.Int f g (visible taking Instr.Index (Some c.0 ∷ []))
+      (One taking (value_type c.0)) c.2 i (λ v x p q w. yields-visible taking Instr.Index c.0 (v ∷ (x ∷ [])) refl
+      (λ k. refl) w))
 
   pub operators-fit : OperatorsFit taking
   operators-fit = (unary-fits, binary-fits, index-fits)
@@ -172,7 +254,9 @@ module _ (taking : Taking) where
 
   pub conditions-decide : ConditionsDecide taking
   conditions-decide l j f h none w =
-      sound-as taking (f w) (One taking ValueType.Bool) (IsTruth taking) (based base.Bool (given_by j) f (kept l 8 (has_base base.Bool (given_by j)) (none-right (used l j) _ none)) (h (none-left (used l j) _ none)) w) by
+      sound-as taking (f w) (One taking ValueType.Bool) (IsTruth taking)
+      (based base.Bool (given_by j) f (kept l 8 (has_base base.Bool (given_by j)) (none-right (used l j) _ none))
+      (h (none-left (used l j) _ none)) w) by
     where
       by : (vs : List Value) → One taking ValueType.Bool vs → IsTruth taking vs
       by [] q = absurd q

@@ -20,7 +20,11 @@ use Rattle.golf_check_types.specs.declared.scopes.Member.TheVariants as members
 use Rattle.golf_check_types.specs.declared.scopes.Scope.{Scope}
 use Rattle.golf_check_types.specs.Types.{plain, given}
 use Rattle.golf_check_types.specs.Scopes.{member}
-use Rattle.golf_check_types.specs.Expressions.{Judged, value_faults, value_member, type_member, base_member, struct_member, called_name, condition_member, condition_method, mutex_method, group_method, read_method, write_method, package_member, has_type, fmt_member, runtime_member, sync_member, selected_from, leaf, value}
+use Rattle.golf_check_types.specs.Expressions.{Judged, value_faults, value_member, type_member, base_member}
+use Rattle.golf_check_types.specs.Expressions.{struct_member, called_name, condition_member, condition_method}
+use Rattle.golf_check_types.specs.Expressions.{mutex_method, group_method, read_method, write_method, package_member}
+use Rattle.golf_check_types.specs.Expressions.{has_type, fmt_member, runtime_member, sync_member, selected_from, leaf}
+use Rattle.golf_check_types.specs.Expressions.{value}
 use Rattle.golf_model_typing.specs.Types.{ValueType, Types}
 use Rattle.golf_code_of.specs.declared.tables.Tables.{Tables}
 use Rattle.golf_code_of.specs.Calls.{receiver_base}
@@ -29,33 +33,44 @@ use Rattle.golf_code_shapes.specs.Sound.{MemberFits}
 use Rattle.golf_code_shapes.proofs.Typings.{none-left, none-right}
 use Rattle.golf_meaning_source.specs.Names.{Env}
 use Rattle.golf_meaning_source.specs.Operations.{Taking, Gives, visible}
-use Rattle.golf_meaning_source.specs.Exprs.{Place, selector}
+use Rattle.golf_meaning_source.specs.Exprs.{Location, selector}
 use Rattle.golf_meaning_typing.specs.Sound.{One, YieldsBy, NamesFit, FileTaken}
 use Rattle.golf_meaning_typing.specs.Meets.{Many, Receives}
 use Rattle.golf_meaning_typing.proofs.Counts.{many-one, many-then, one-left, placed-field, yields-place}
 use Rattle.golf_meaning_typing.proofs.Naming.{Me, valued}
 
 module _ (taking : Taking) where
-  module _ (types : Types) (t : Tables) (s : Scope) (env : Env) (fit : NamesFit taking s.locals env) (file : FileTaken taking types t s.file) where
+  module _ (types : Types) (t : Tables) (s : Scope) (env : Env) (fit : NamesFit taking s.locals env)
+      (file : FileTaken taking types t s.file) where
     -- the selector that is this, of what gives so
     abbrev Selects : Operand → (Env → Gives) → Type 0
-    Selects m f = Me taking types t s env m ((selector taking m f).value env) ((selector taking m f).place env) ((selector taking m f).parts env)
+    Selects m f = Me taking types t s env m ((selector taking m f).value env) ((selector taking m f).place env)
+        ((selector taking m f).parts env)
 
-    field-selects : (i : ℕ) (e : GoType) (f : Env → Gives) → Many taking 1 (f env) → Selects (operand.Field i (Some e)) f
-    field-selects i e f h = let p = placed-field taking s.locals env fit i e (f env) h in (yields-place taking s.locals env fit (value_type e) (Place.Field i (Some e)) (f env) p, p)
+    field-selects : (i : ℕ) (e : GoType) (f : Env → Gives) → Many taking 1 (f env)
+        → Selects (operand.Field i (Some e)) f
+    field-selects i e f h = let p = placed-field taking s.locals env fit i e
+        (f env) h in (yields-place taking s.locals env fit (value_type e) (Location.Field i (Some e)) (f env) p, p)
 
     -- a member of a struct
-    of-struct : (l k : ℕ) (f : Env → Gives) (o : Option Member) → ((m : Member) → o ≡ Some m → MemberFits types t s.file k m) → (struct_member l s.file k o).faults ≡ [] → Many taking 1 (f env) → Selects (struct_member l s.file k o).meaning f
+    of-struct : (l k : ℕ) (f : Env → Gives) (o : Option Member)
+        → ((m : Member) → o ≡ Some m → MemberFits types t s.file k m) → (struct_member l s.file k o).faults ≡ []
+        → Many taking 1 (f env) → Selects (struct_member l s.file k o).meaning f
     of-struct l k f None fits none h = cc
-    of-struct l k f (Some (members.Field i)) fits none h = let m = fits (members.Field i) refl in subst (λ o. Selects (operand.Field i o) f) (sym m.3) (field-selects i m.1 f h)
+    of-struct l k f (Some (members.Field i)) fits none h = let m =
+        fits (members.Field i) refl in subst (λ o. Selects (operand.Field i o) f) (sym m.3) (field-selects i m.1 f h)
     of-struct l k f (Some (members.Method q)) fits none h = (k, h, fits (members.Method q) refl)
 
     -- a method of package sync, whose receiver stands
-    named-method : (l : ℕ) (f : Env → Gives) (b : Base) (o : Option BuiltIn) → ((m : BuiltIn) → o ≡ Some m → receiver_base m ≡ Some b) → (called_name l o).faults ≡ [] → Many taking 1 (f env) → Selects (called_name l o).meaning f
+    named-method : (l : ℕ) (f : Env → Gives) (b : Base) (o : Option BuiltIn)
+        → ((m : BuiltIn) → o ≡ Some m → receiver_base m ≡ Some b) → (called_name l o).faults ≡ []
+        → Many taking 1 (f env) → Selects (called_name l o).meaning f
     named-method l f b None fits none h = cc
     named-method l f b (Some m) fits none h = subst (λ o. Receives taking o (f env)) (sym (fits m refl)) h
 
-    tried : (b : Option Base) (test : Bool) (x : BuiltIn) (rest : Option BuiltIn) → receiver_base x ≡ b → ((m : BuiltIn) → rest ≡ Some m → receiver_base m ≡ b) → (m : BuiltIn) → cond test (Some x) rest ≡ Some m → receiver_base m ≡ b
+    tried : (b : Option Base) (test : Bool) (x : BuiltIn) (rest : Option BuiltIn) → receiver_base x ≡ b
+        → ((m : BuiltIn) → rest ≡ Some m → receiver_base m ≡ b) → (m : BuiltIn) → cond test (Some x) rest ≡ Some m
+        → receiver_base m ≡ b
     tried b true x rest h k m e = let same : x ≡ m = cc in subst (λ z. receiver_base z ≡ b) same h
     tried b false x rest h k m e = k m e
 
@@ -68,34 +83,50 @@ module _ (taking : Taking) where
 
     of-group : (n : List ℕ) (m : BuiltIn) → group_method n ≡ Some m → receiver_base m ≡ Some base.Group
     unfolding group_method
-    of-group n = tried _ _ built_in.Add _ refl (tried _ _ built_in.Done _ refl (tried _ _ built_in.WaitGroup None refl (no-more (Some base.Group))))
+    of-group n = tried _ _ built_in.Add _ refl
+        (tried _ _ built_in.Done _ refl (tried _ _ built_in.WaitGroup None refl (no-more (Some base.Group))))
 
     of-readers : (n : List ℕ) (m : BuiltIn) → read_method n ≡ Some m → receiver_base m ≡ Some base.ReadWriteMutex
     unfolding read_method write_method
-    of-readers n = tried _ _ built_in.ReadLock _ refl (tried _ _ built_in.ReadUnlock _ refl (tried _ _ built_in.WriteLock _ refl (tried _ _ built_in.WriteUnlock None refl (no-more (Some base.ReadWriteMutex)))))
+    of-readers n = tried _ _ built_in.ReadLock _ refl
+        (tried _ _ built_in.ReadUnlock _ refl
+        (tried _ _ built_in.WriteLock _ refl (tried _ _ built_in.WriteUnlock None refl
+        (no-more (Some base.ReadWriteMutex)))))
 
     of-condition : (n : List ℕ) (m : BuiltIn) → condition_method n ≡ Some m → receiver_base m ≡ Some base.Condition
     unfolding condition_method
-    of-condition n = tried _ _ built_in.WaitCondition _ refl (tried _ _ built_in.Signal _ refl (tried _ _ built_in.Broadcast None refl (no-more (Some base.Condition))))
+    of-condition n = tried _ _ built_in.WaitCondition _ refl
+        (tried _ _ built_in.Signal _ refl (tried _ _ built_in.Broadcast None refl (no-more (Some base.Condition))))
 
     -- a method of a condition, or its mutex
-    condition-name : (l : ℕ) (f : Env → Gives) (test : Bool) (j : Judged) → (j.faults ≡ [] → Selects j.meaning f) → (cond test (leaf (value base.Mutex) []) j).faults ≡ [] → Many taking 1 (f env) → Selects (cond test (leaf (value base.Mutex) []) j).meaning f
-    condition-name l f true j k none h = many-then taking 1 (f env) (visible taking Instr.CondMutex (Some (plain base.Mutex) ∷ [])) (One taking ValueType.Mutex) h (λ vs len. one-left taking Instr.CondMutex (plain base.Mutex) vs len (λ k. refl))
+    condition-name : (l : ℕ) (f : Env → Gives) (test : Bool) (j : Judged) → (j.faults ≡ [] → Selects j.meaning f)
+        → (cond test (leaf (value base.Mutex) []) j).faults ≡ [] → Many taking 1 (f env)
+        → Selects (cond test (leaf (value base.Mutex) []) j).meaning f
+    condition-name l f true j k none h = many-then taking 1 (f env)
+        (visible taking Instr.CondMutex (Some (plain base.Mutex) ∷ [])) (One taking ValueType.Mutex) h
+        (λ vs len. one-left taking Instr.CondMutex (plain base.Mutex) vs len (λ k. refl))
     condition-name l f false j k none h = k none
 
-    of-condition-name : (l : ℕ) (n : List ℕ) (f : Env → Gives) → (condition_member l n).faults ≡ [] → Many taking 1 (f env) → Selects (condition_member l n).meaning f
+    of-condition-name : (l : ℕ) (n : List ℕ) (f : Env → Gives) → (condition_member l n).faults ≡ []
+        → Many taking 1 (f env) → Selects (condition_member l n).meaning f
     unfolding condition_member
-    of-condition-name l n f none h = condition-name l f _ (called_name l (condition_method n)) (λ e. named-method l f base.Condition (condition_method n) (of-condition n) e h) none h
+    of-condition-name l n f none h = condition-name l f _ (called_name l (condition_method n))
+        (λ e. named-method l f base.Condition (condition_method n) (of-condition n) e h) none h
 
-    of-base : (l : ℕ) (n : List ℕ) (b : Base) (f : Env → Gives) → (base_member l s.file n b).faults ≡ [] → Many taking 1 (f env) → Selects (base_member l s.file n b).meaning f
-    of-base l n (base.Pointer k) f none h = of-struct l k f (member s.file k n) (λ m e. file.fits.members k n m e) none h
+    of-base : (l : ℕ) (n : List ℕ) (b : Base) (f : Env → Gives) → (base_member l s.file n b).faults ≡ []
+        → Many taking 1 (f env) → Selects (base_member l s.file n b).meaning f
+    of-base l n (base.Pointer k) f none h =
+        of-struct l k f (member s.file k n) (λ m e. file.fits.members k n m e) none h
     of-base l n base.Mutex f none h = named-method l f base.Mutex (mutex_method n) (of-mutex n) none h
     of-base l n base.Group f none h = named-method l f base.Group (group_method n) (of-group n) none h
-    of-base l n base.ReadWriteMutex f none h = named-method l f base.ReadWriteMutex (read_method n) (of-readers n) none h
+    of-base l n base.ReadWriteMutex f none h =
+        named-method l f base.ReadWriteMutex (read_method n) (of-readers n) none h
     of-base l n base.Condition f none h = of-condition-name l n f none h
     of-base l n _ f none h = cc
 
-    of-type : (l : ℕ) (n : List ℕ) (xs : List Layer) (b : Base) (f : Env → Gives) → (type_member l s.file n xs b).faults ≡ [] → Many taking 1 (f env) → Selects (type_member l s.file n xs b).meaning f
+    of-type : (l : ℕ) (n : List ℕ) (xs : List Layer) (b : Base) (f : Env → Gives)
+        → (type_member l s.file n xs b).faults ≡ [] → Many taking 1 (f env)
+        → Selects (type_member l s.file n xs b).meaning f
     of-type l n [] b f none h = of-base l n b f none h
     of-type l n (x ∷ xs) b f none h = cc
 
@@ -118,40 +149,89 @@ module _ (taking : Taking) where
     from-package packages.Runtime n = from-runtime n
     from-package packages.Sync n = from-sync n
 
-    of-package : (l : ℕ) (f : Env → Gives) (o : Option BuiltIn) → ((m : BuiltIn) → o ≡ Some m → receiver_base m ≡ None) → (called_name l o).faults ≡ [] → Many taking 0 (f env) → Selects (called_name l o).meaning f
+    of-package : (l : ℕ) (f : Env → Gives) (o : Option BuiltIn) → ((m : BuiltIn) → o ≡ Some m → receiver_base m ≡ None)
+        → (called_name l o).faults ≡ [] → Many taking 0 (f env) → Selects (called_name l o).meaning f
     of-package l f None fits none h = cc
     of-package l f (Some m) fits none h = subst (λ o. Receives taking o (f env)) (sym (fits m refl)) h
 
     -- a type of a package, or what is called
-    package-name : (l : ℕ) (f : Env → Gives) (test : Bool) (j : Judged) → (j.faults ≡ [] → Selects j.meaning f) → (cond test (leaf operand.TypeName []) j).faults ≡ [] → Selects (cond test (leaf operand.TypeName []) j).meaning f
+    package-name : (l : ℕ) (f : Env → Gives) (test : Bool) (j : Judged) → (j.faults ≡ [] → Selects j.meaning f)
+        → (cond test (leaf operand.TypeName []) j).faults ≡ []
+        → Selects (cond test (leaf operand.TypeName []) j).meaning f
     package-name l f true j k none = tt
     package-name l f false j k none = k none
 
-    of-given : (l : ℕ) (n : List ℕ) (g : Given) (f : Env → Gives) → (value_member l s.file n g).faults ≡ [] → YieldsBy taking g (f env) → Selects (value_member l s.file n g).meaning f
-    of-given l n (given_as.Typed e) f none h = of-type l n e.layers e.base f none (many-one taking (value_type e) (f env) h)
+    of-given : (l : ℕ) (n : List ℕ) (g : Given) (f : Env → Gives) → (value_member l s.file n g).faults ≡ []
+        → YieldsBy taking g (f env) → Selects (value_member l s.file n g).meaning f
+    of-given l n (given_as.Typed e) f none h =
+        of-type l n e.layers e.base f none (many-one taking (value_type e) (f env) h)
     of-given l n given_as.Nil f none h = cc
     of-given l n given_as.Unknown f none h = absurd h
 
-    module _ (l : ℕ) (n : List ℕ) (f : Env → Gives) (p : Place) (q : Gives) where
-      of-value : (m : Operand) → (value_faults l m ≡ [] → Me taking types t s env m (f env) p q → YieldsBy taking (given m) (f env)) → value_faults l m ≡ [] → (value_member l s.file n (given m)).faults ≡ [] → Me taking types t s env m (f env) p q → Selects (value_member l s.file n (given m)).meaning f
+    module _ (l : ℕ) (n : List ℕ) (f : Env → Gives) (p : Location) (q : Gives) where
+      of-value : (m : Operand) → (value_faults l m ≡ [] → Me taking types t s env m (f env) p q
+          → YieldsBy taking (given m) (f env)) → value_faults l m ≡ [] → (value_member l s.file n (given m)).faults ≡ []
+          → Me taking types t s env m (f env) p q → Selects (value_member l s.file n (given m)).meaning f
       of-value m k none rest h = of-given l n (given m) f rest (k none h)
 
       -- `e.n`, if this is what e is
-      pub on-selector : (m : Operand) → (selected_from l s.file n m).faults ≡ [] → Me taking types t s env m (f env) p q → Selects (selected_from l s.file n m).meaning f
-      on-selector (operand.Package k) none h = package-name l f (has_type k n) (called_name l (package_member k n)) (λ e. of-package l f (package_member k n) (from-package k n) e h) none
-      on-selector (operand.Value e) none h = of-value (operand.Value e) (valued taking types t s env l (operand.Value e) (f env) p q) (none-left (value_faults l (operand.Value e)) _ none) (none-right (value_faults l (operand.Value e)) _ none) h
-      on-selector (operand.Outcome e) none h = of-value (operand.Outcome e) (valued taking types t s env l (operand.Outcome e) (f env) p q) (none-left (value_faults l (operand.Outcome e)) _ none) (none-right (value_faults l (operand.Outcome e)) _ none) h
-      on-selector (operand.Constant k b) none h = of-value (operand.Constant k b) (valued taking types t s env l (operand.Constant k b) (f env) p q) (none-left (value_faults l (operand.Constant k b)) _ none) (none-right (value_faults l (operand.Constant k b)) _ none) h
-      on-selector (operand.Truth b) none h = of-value (operand.Truth b) (valued taking types t s env l (operand.Truth b) (f env) p q) (none-left (value_faults l (operand.Truth b)) _ none) (none-right (value_faults l (operand.Truth b)) _ none) h
-      on-selector (operand.Variable w e) none h = of-value (operand.Variable w e) (valued taking types t s env l (operand.Variable w e) (f env) p q) (none-left (value_faults l (operand.Variable w e)) _ none) (none-right (value_faults l (operand.Variable w e)) _ none) h
-      on-selector (operand.Field i e) none h = of-value (operand.Field i e) (valued taking types t s env l (operand.Field i e) (f env) p q) (none-left (value_faults l (operand.Field i e)) _ none) (none-right (value_faults l (operand.Field i e)) _ none) h
-      on-selector (operand.Element e) none h = of-value (operand.Element e) (valued taking types t s env l (operand.Element e) (f env) p q) (none-left (value_faults l (operand.Element e)) _ none) (none-right (value_faults l (operand.Element e)) _ none) h
-      on-selector operand.Nil none h = of-value operand.Nil (valued taking types t s env l operand.Nil (f env) p q) (none-left (value_faults l operand.Nil) _ none) (none-right (value_faults l operand.Nil) _ none) h
-      on-selector operand.Blank none h = of-value operand.Blank (valued taking types t s env l operand.Blank (f env) p q) (none-left (value_faults l operand.Blank) _ none) (none-right (value_faults l operand.Blank) _ none) h
-      on-selector (operand.Nothing late) none h = of-value (operand.Nothing late) (valued taking types t s env l (operand.Nothing late) (f env) p q) (none-left (value_faults l (operand.Nothing late)) _ none) (none-right (value_faults l (operand.Nothing late)) _ none) h
-      on-selector (operand.Function k) none h = of-value (operand.Function k) (valued taking types t s env l (operand.Function k) (f env) p q) (none-left (value_faults l (operand.Function k)) _ none) (none-right (value_faults l (operand.Function k)) _ none) h
-      on-selector (operand.Method k) none h = of-value (operand.Method k) (valued taking types t s env l (operand.Method k) (f env) p q) (none-left (value_faults l (operand.Method k)) _ none) (none-right (value_faults l (operand.Method k)) _ none) h
-      on-selector (operand.BuiltIn b) none h = of-value (operand.BuiltIn b) (valued taking types t s env l (operand.BuiltIn b) (f env) p q) (none-left (value_faults l (operand.BuiltIn b)) _ none) (none-right (value_faults l (operand.BuiltIn b)) _ none) h
-      on-selector (operand.Struct k) none h = of-value (operand.Struct k) (valued taking types t s env l (operand.Struct k) (f env) p q) (none-left (value_faults l (operand.Struct k)) _ none) (none-right (value_faults l (operand.Struct k)) _ none) h
-      on-selector operand.TypeName none h = of-value operand.TypeName (valued taking types t s env l operand.TypeName (f env) p q) (none-left (value_faults l operand.TypeName) _ none) (none-right (value_faults l operand.TypeName) _ none) h
+      pub on-selector : (m : Operand) → (selected_from l s.file n m).faults ≡ [] → Me taking types t s env m (f env) p q
+          → Selects (selected_from l s.file n m).meaning f
+      on-selector (operand.Package k) none h =
+          package-name l f (has_type k n) (called_name l (package_member k n))
+          (λ e. of-package l f (package_member k n) (from-package k n) e h) none
+      on-selector (operand.Value e) none h =
+          of-value (operand.Value e) (valued taking types t s env l (operand.Value e) (f env) p q)
+          (none-left (value_faults l (operand.Value e)) _ none) (none-right (value_faults l (operand.Value e)) _ none) h
+      on-selector (operand.Outcome e) none h =
+          of-value (operand.Outcome e) (valued taking types t s env l (operand.Outcome e) (f env) p q)
+          (none-left (value_faults l (operand.Outcome e)) _ none)
+          (none-right (value_faults l (operand.Outcome e)) _ none) h
+      on-selector (operand.Constant k b) none h =
+          of-value (operand.Constant k b) (valued taking types t s env l (operand.Constant k b) (f env) p q)
+          (none-left (value_faults l (operand.Constant k b)) _ none)
+          (none-right (value_faults l (operand.Constant k b)) _ none) h
+      on-selector (operand.Truth b) none h =
+          of-value (operand.Truth b) (valued taking types t s env l (operand.Truth b) (f env) p q)
+          (none-left (value_faults l (operand.Truth b)) _ none) (none-right (value_faults l (operand.Truth b)) _ none) h
+      on-selector (operand.Variable w e) none h =
+          of-value (operand.Variable w e) (valued taking types t s env l (operand.Variable w e) (f env) p q)
+          (none-left (value_faults l (operand.Variable w e)) _ none)
+          (none-right (value_faults l (operand.Variable w e)) _ none) h
+      on-selector (operand.Field i e) none h =
+          of-value (operand.Field i e) (valued taking types t s env l (operand.Field i e) (f env) p q)
+          (none-left (value_faults l (operand.Field i e)) _ none)
+          (none-right (value_faults l (operand.Field i e)) _ none) h
+      on-selector (operand.Element e) none h =
+          of-value (operand.Element e) (valued taking types t s env l (operand.Element e) (f env) p q)
+          (none-left (value_faults l (operand.Element e)) _ none)
+          (none-right (value_faults l (operand.Element e)) _ none) h
+      on-selector operand.Nil none h = of-value operand.Nil (valued taking types t s env l operand.Nil (f env) p q)
+          (none-left (value_faults l operand.Nil) _ none) (none-right (value_faults l operand.Nil) _ none) h
+      on-selector operand.Blank none h = of-value operand.Blank
+          (valued taking types t s env l operand.Blank (f env) p q) (none-left (value_faults l operand.Blank) _ none)
+          (none-right (value_faults l operand.Blank) _ none) h
+      on-selector (operand.Nothing late) none h =
+          of-value (operand.Nothing late) (valued taking types t s env l (operand.Nothing late) (f env) p q)
+          (none-left (value_faults l (operand.Nothing late)) _ none)
+          (none-right (value_faults l (operand.Nothing late)) _ none) h
+      on-selector (operand.Function k) none h =
+          of-value (operand.Function k) (valued taking types t s env l (operand.Function k) (f env) p q)
+          (none-left (value_faults l (operand.Function k)) _ none)
+          (none-right (value_faults l (operand.Function k)) _ none) h
+      on-selector (operand.Method k) none h =
+          of-value (operand.Method k) (valued taking types t s env l (operand.Method k) (f env) p q)
+          (none-left (value_faults l (operand.Method k)) _ none)
+          (none-right (value_faults l (operand.Method k)) _ none) h
+      on-selector (operand.BuiltIn b) none h =
+          of-value (operand.BuiltIn b) (valued taking types t s env l (operand.BuiltIn b) (f env) p q)
+          (none-left (value_faults l (operand.BuiltIn b)) _ none)
+          (none-right (value_faults l (operand.BuiltIn b)) _ none) h
+      on-selector (operand.Struct k) none h =
+          of-value (operand.Struct k) (valued taking types t s env l (operand.Struct k) (f env) p q)
+          (none-left (value_faults l (operand.Struct k)) _ none)
+          (none-right (value_faults l (operand.Struct k)) _ none) h
+      on-selector operand.TypeName none h = of-value operand.TypeName
+          (valued taking types t s env l operand.TypeName (f env) p q)
+          (none-left (value_faults l operand.TypeName) _ none) (none-right (value_faults l operand.TypeName) _ none) h
       on-selector operand.Unknown none h = absurd h

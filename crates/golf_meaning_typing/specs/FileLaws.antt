@@ -24,11 +24,16 @@ parameters_at file (d.Func f ∷ xs) zero = parameter_slots file f
 parameters_at file (d.Func f ∷ xs) (suc k) = parameters_at file xs k
 parameters_at file (x ∷ xs) k = parameters_at file xs k
 
--- For each function and method, with arguments of the types of its parameters: its meaning lacks no rule. If kinds are looked at in answers, it is unfit by an answer alone; if not, it needs no more than as many arguments.
+-- For each function and method, with arguments of the types of its parameters: its meaning lacks no rule. If kinds are
+-- looked at in answers, it is unfit by an answer alone; if not, it needs no more than as many arguments.
 abbrev pub MeaningsSound : File → Type 0
 MeaningsSound file =
-    (strict : Bool) (k : ℕ) (arguments : List Value) (answers : List Answer) (n : ℕ) → k < function_count file.declarations → ArgumentsFit (taking_in file strict) (parameters_at (outside (scope_of file)) file.declarations k) arguments → EndSound strict (meaning_of strict file (suc k) arguments answers n).end
+    (strict : Bool) (k : ℕ) (arguments : List Value) (answers : List Answer) (n : ℕ)
+    → k < function_count file.declarations
+    → ArgumentsFit (taking_in file strict) (parameters_at (outside (scope_of file)) file.declarations k) arguments
+    → EndSound strict (meaning_of strict file (suc k) arguments answers n).end
 
 -- so it is in a well-formed file that breaks no rule, and whose names fit
 abbrev pub FilesFit : Type 0
-FilesFit = (file : File) → Typed file → list_all decl_good file.declarations ≡ true → NamesFit (tables_of file.declarations) (scope_of file) file.declarations → MeaningsSound file
+FilesFit = (file : File) → Typed file → list_all decl_good file.declarations ≡ true
+    → NamesFit (tables_of file.declarations) (scope_of file) file.declarations → MeaningsSound file

@@ -22,7 +22,8 @@ abbrev pub Never : Env → Type 0
 Never env = ⊥
 
 module _ (taking : Taking) where
-  -- no rule is lacking; and if a flow goes on, this holds of the names on the way on, on `break`, on `continue` and past what a condition guards
+  -- no rule is lacking; and if a flow goes on, this holds of the names on the way on, on `break`, on `continue` and
+  -- past what a condition guards
   abbrev pub Fitting : (Env → Type 0) → (Env → Type 0) → (Env → Type 0) → (Env → Type 0) → Flow → Type 0
   Fitting K B C S (Flow.Goes Course.On env w) = K env
   Fitting K B C S (Flow.Goes Course.Breaks env w) = B env
@@ -42,7 +43,9 @@ module _ (taking : Taking) where
   abbrev pub FlowFits : Scope → List Local → Flow → Type 0
   FlowFits s after = Fitting (NamesFit taking after) (Out s.breaks s.locals) (Out s.loops s.locals) Never
 
-  -- if names have values of their types, what a statement does that breaks no rule lacks no rule, and after it names have values of their types
+  -- if names have values of their types, what a statement does that breaks no rule lacks no rule, and after it names
+  -- have values of their types
   abbrev pub StatementFits : Types → Tables → Walk → Deed → Type 0
   StatementFits types t walk d =
-      (a : Around) (s : Scope) (n : ℕ) (env : Env) (w : World) → FileTaken taking types t s.file → NamesFit taking s.locals env → (walk s).faults ≡ [] → FlowFits s (behind s (walk s)).locals (d a s n env w)
+      (a : Around) (s : Scope) (n : ℕ) (env : Env) (w : World) → FileTaken taking types t s.file
+      → NamesFit taking s.locals env → (walk s).faults ≡ [] → FlowFits s (behind s (walk s)).locals (d a s n env w)

@@ -25,7 +25,7 @@ use Rattle.golf_code_of.specs.declared.tables.Tables.{Tables}
 use Rattle.golf_meaning_source.specs.Operations.{Taking, Gives, both, then_do}
 use Rattle.golf_meaning_source.specs.Names.{Env}
 use Rattle.golf_meaning_source.specs.Meaning.{outer, meant}
-use Rattle.golf_meaning_source.specs.Exprs.{Does, Place, name_does, unary_does, binary_does, element_type, read}
+use Rattle.golf_meaning_source.specs.Exprs.{Does, Location, name_does, unary_does, binary_does, element_type, read}
 use Rattle.golf_meaning_statements.specs.Statements.{step}
 use Rattle.golf_meaning_functions.specs.Functions.{Meaning}
 use Rattle.golf_meaning_typing.specs.Flowing.{EndSound, StatementFits}
@@ -38,40 +38,51 @@ module _ (taking : Taking) where
   Fits l j f = used l j ≡ [] → YieldsBy taking (given_by j) f
 
   abbrev pub UnaryFits : Type 0
-  UnaryFits = (l : ℕ) (s : Scope) (o : UnaryOperator) (j : Judged) (f : Gives) → Fits l j f → (unary_judged l s o j).faults ≡ [] → Shown taking (unary_judged l s o j).meaning (then_do f (unary_does taking o (unary_judged l s o j).meaning))
+  UnaryFits = (l : ℕ) (s : Scope) (o : UnaryOperator) (j : Judged) (f : Gives) → Fits l j f
+      → (unary_judged l s o j).faults ≡ [] → Shown taking (unary_judged l s o j).meaning
+      (then_do f (unary_does taking o (unary_judged l s o j).meaning))
 
   abbrev pub BinaryFits : Type 0
-  BinaryFits = (l : ℕ) (o : BinaryOperator) (j k : Judged) (f g : Gives) → Fits l j f → Fits l k g → (binary_judged l o j k).faults ≡ [] → Shown taking (binary_judged l o j k).meaning (binary_does o f g)
+  BinaryFits = (l : ℕ) (o : BinaryOperator) (j k : Judged) (f g : Gives) → Fits l j f → Fits l k g
+      → (binary_judged l o j k).faults ≡ [] → Shown taking (binary_judged l o j k).meaning (binary_does o f g)
 
   -- an element of a slice is read
   abbrev pub IndexFits : Type 0
-  IndexFits = (l : ℕ) (j k : Judged) (f g : Gives) (env : Env) → Fits l j f → Fits l k g → (index_judged l j k).faults ≡ [] → Shown taking (index_judged l j k).meaning (then_do (both f g) (read taking env (Place.Element (element_type (index_judged l j k).meaning))))
+  IndexFits = (l : ℕ) (j k : Judged) (f g : Gives) (env : Env) → Fits l j f → Fits l k g
+      → (index_judged l j k).faults ≡ [] → Shown taking (index_judged l j k).meaning
+      (then_do (both f g) (read taking env (Location.Element (element_type (index_judged l j k).meaning))))
 
   abbrev pub OperatorsFit : Type 0
   OperatorsFit = UnaryFits × BinaryFits × IndexFits
 
   -- a name that stands as a value gives the value that it has, if names mean what the types of the code say
   abbrev pub NamesGive : Type 0
-  NamesGive = (types : Types) (t : Tables) (l : ℕ) (s : Scope) (env : Env) (n : List ℕ) → FileTaken taking types t s.file → NamesFit taking s.locals env → Fits l (named l s n) ((name_does taking t (is_blank n) n (outer s n)).value env)
+  NamesGive = (types : Types) (t : Tables) (l : ℕ) (s : Scope) (env : Env) (n : List ℕ)
+      → FileTaken taking types t s.file → NamesFit taking s.locals env
+      → Fits l (named l s n) ((name_does taking t (is_blank n) n (outer s n)).value env)
 
   -- a condition that breaks no rule is one value, of the truth values
   abbrev pub IsTruth : List Value → Type 0
   IsTruth vs = (v : Value) × (vs ≡ v ∷ []) × IsOf taking ValueType.Bool v
 
   abbrev pub ConditionsDecide : Type 0
-  ConditionsDecide = (l : ℕ) (j : Judged) (f : Gives) → Fits l j f → used l j ++ broken l 8 (has_base base.Bool (given_by j)) ≡ [] → (w : World) → Sound taking IsTruth (f w)
+  ConditionsDecide = (l : ℕ) (j : Judged) (f : Gives) → Fits l j f → used l j
+      ++ broken l 8 (has_base base.Bool (given_by j)) ≡ [] → (w : World) → Sound taking IsTruth (f w)
 
   -- if names have values of their types, what an expression gives that breaks no rule is what it is
   abbrev pub ExpressionFits : Types → Tables → Judge → (ℕ → Scope → Does) → Type 0
   ExpressionFits types t j d =
-      (l : ℕ) (s : Scope) (env : Env) → FileTaken taking types t s.file → NamesFit taking s.locals env → (j l s).faults ≡ [] → Meets taking types t s.locals s.file env (j l s).meaning ((d l s).value env) ((d l s).place env) ((d l s).parts env)
+      (l : ℕ) (s : Scope) (env : Env) → FileTaken taking types t s.file → NamesFit taking s.locals env
+      → (j l s).faults ≡ [] → Meets taking types t s.locals s.file env (j l s).meaning ((d l s).value env)
+      ((d l s).place env) ((d l s).parts env)
 
   abbrev pub ExpressionsFit : Type 0
   ExpressionsFit = (types : Types) (t : Tables) (e : Expr) → ExpressionFits types t (judge e) (meant taking t e).does
 
   -- what a well-formed statement does that breaks no rule lacks no rule
   abbrev pub StatementsFit : Type 0
-  StatementsFit = (types : Types) (t : Tables) (x : Stmt) → (stmt_form x).good ≡ true → StatementFits taking types t (walk x) (step taking t x).deed
+  StatementsFit = (types : Types) (t : Tables) (x : Stmt) → (stmt_form x).good ≡ true
+      → StatementFits taking types t (walk x) (step taking t x).deed
 
   -- one argument of the type of each receiver and parameter
   abbrev pub ArgumentsFit : List (Option GoType) → List Value → Type 0
@@ -82,5 +93,7 @@ module _ (taking : Taking) where
 
   -- with such arguments, the meaning of a function that breaks no rule lacks no rule
   abbrev pub FunctionsFit : Type 0
-  FunctionsFit = (types : Types) (t : Tables) (names : FileScope) (f : Func) (k : ℕ) (arguments : List Value) (answers : List Answer) (n : ℕ) → FileTaken taking types t names → FunctionIsFit (outside names) f → ArgumentsFit (parameter_slots (outside names) f) arguments
+  FunctionsFit = (types : Types) (t : Tables) (names : FileScope) (f : Func) (k : ℕ) (arguments : List Value)
+      (answers : List Answer) (n : ℕ) → FileTaken taking types t names → FunctionIsFit (outside names) f
+      → ArgumentsFit (parameter_slots (outside names) f) arguments
       → EndSound taking.strict (Meaning taking t (outside names) k f arguments answers n).end

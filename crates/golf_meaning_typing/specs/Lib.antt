@@ -3,3 +3,4 @@ pub mod Meets
 pub mod Flowing
 pub mod Laws
 pub mod FileLaws
+pub mod WholeFileLaws

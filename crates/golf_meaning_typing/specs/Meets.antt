@@ -14,7 +14,7 @@ use Rattle.golf_code_shapes.specs.Sound.{Callee}
 use Rattle.golf_meaning_flat.specs.Worlds.{World}
 use Rattle.golf_meaning_source.specs.Names.{Env}
 use Rattle.golf_meaning_source.specs.Operations.{Taking, Gives}
-use Rattle.golf_meaning_source.specs.Exprs.{Place, read, store}
+use Rattle.golf_meaning_source.specs.Exprs.{Location, read, store}
 use Rattle.golf_meaning_typing.specs.Sound.{Sound, Yields, NamesFit, IsOf}
 
 module _ (taking : Taking) where
@@ -22,12 +22,14 @@ module _ (taking : Taking) where
   abbrev pub Many : ℕ → Gives → Type 0
   Many n f = (w : World) → Sound taking (λ vs. length vs ≡ n) (f w)
 
-  -- a place of this type, told by so many values: it is read, and a value of the type is stored, after which the names have values of their types still
-  pub record Placed (ds : List Local) (env : Env) (u : ValueType) (place : Place) (tells : Gives) : Type 0 where
+  -- a place of this type, told by so many values: it is read, and a value of the type is stored, after which the names
+  -- have values of their types still
+  pub record Placed (ds : List Local) (env : Env) (u : ValueType) (place : Location) (tells : Gives) : Type 0 where
     pub told : ℕ
     pub parts : Many told tells
     pub reads : (vs : List Value) → length vs ≡ told → Yields taking u (read taking env place vs)
-    pub stores : (vs : List Value) (v : Value) → length vs ≡ told → IsOf taking u v → (w : World) → Sound taking (NamesFit taking ds) (store taking env place (vs ++ v ∷ []) w)
+    pub stores : (vs : List Value) (v : Value) → length vs ≡ told → IsOf taking u v → (w : World)
+        → Sound taking (NamesFit taking ds) (store taking env place (vs ++ v ∷ []) w)
 
   -- the receiver of a method of package sync, or nothing
   abbrev pub Receives : Option Base → Gives → Type 0
@@ -36,7 +38,7 @@ module _ (taking : Taking) where
 
   module _ (types : Types) (t : Tables) (ds : List Local) (f : FileScope) (env : Env) where
     -- what is given as the value of an expression, its place, and what tells the place, by what the expression is
-    abbrev pub Meets : Operand → Gives → Place → Gives → Type 0
+    abbrev pub Meets : Operand → Gives → Location → Gives → Type 0
     Meets (operand.Value (Some e)) v p q = Yields taking (value_type e) v
     Meets (operand.Outcome (Some e)) v p q = Yields taking (value_type e) v
     Meets (operand.Constant k b) v p q = Yields taking (base_type b) v
@@ -45,7 +47,7 @@ module _ (taking : Taking) where
     Meets (operand.Field i (Some e)) v p q = Yields taking (value_type e) v × Placed ds env (value_type e) p q
     Meets (operand.Element (Some e)) v p q = Yields taking (value_type e) v × Placed ds env (value_type e) p q
     Meets operand.Nil v p q = (u : ValueType) → IsNilable u → Yields taking u v
-    Meets operand.Blank v p q = (p ≡ Place.Blank) × Many 0 q
+    Meets operand.Blank v p q = (p ≡ Location.Blank) × Many 0 q
     Meets (operand.Nothing late) v p q = Many 0 v
     Meets (operand.Function k) v p q = Many 0 v × Callee types t f k []
     Meets (operand.Method k) v p q = (j : ℕ) × Many 1 v × Callee types t f k (ValueType.Struct j ∷ [])

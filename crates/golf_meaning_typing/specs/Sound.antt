@@ -1,5 +1,6 @@
 -- Meanings that lack no rule, and the kinds of values.
-use Rattle.std.specs.Prelude.{◌≡◌, ℕ, Bool, true, false, is_some, unwrap_or, List, [], ◌∷◌, length, Option, Some, None, slice_get}
+use Rattle.std.specs.Prelude.{◌≡◌, ℕ, Bool, true, false, is_some, unwrap_or, List, [], ◌∷◌, length, Option, Some, None}
+use Rattle.std.specs.Prelude.{slice_get}
 use Rattle.golf_data.specs.declared.value.Value.{Value}
 use Rattle.golf_model.specs.Values.{int_of, bool_of, text_of}
 use Rattle.golf_check_types.specs.declared.types.GoType.{GoType}
@@ -17,7 +18,8 @@ use Rattle.golf_meaning_flat.specs.Worlds.{Misfit, Halt, World, Part}
 use Rattle.golf_meaning_source.specs.Names.{Env}
 use Rattle.golf_meaning_source.specs.Operations.{Taking, Gives, is_unit, is_nilable, all_fit}
 
--- No rule is lacking at a halt; and it is unfit by a kind only where kinds are looked at: in an answer if it is strict, and else where a value is used.
+-- No rule is lacking at a halt; and it is unfit by a kind only where kinds are looked at: in an answer if it is strict,
+-- and else where a value is used.
 abbrev pub HaltSound : Bool → Halt → Type 0
 HaltSound strict (Halt.Unfit Misfit.OfAnswer) = strict ≡ true
 HaltSound strict (Halt.Unfit Misfit.OfKind) = strict ≡ false
@@ -87,7 +89,9 @@ module _ (taking : Taking) where
   NamesFit (d ∷ ds) [] = ⊥
   NamesFit (d ∷ ds) (x ∷ xs) = (x.name ≡ d.name) × Held d.of_type x.value × NamesFit ds xs
 
-  -- The names of a file mean what the types of the code say, and an answer to a call is taken to have a value exactly when its function gives one.
+  -- The names of a file mean what the types of the code say, and an answer to a call is taken to have a value exactly
+  -- when its function gives one.
   pub record FileTaken (types : Types) (t : Tables) (f : FileScope) : Type 0 where
     pub fits : FileFits types t f
-    pub counts : (k : ℕ) (callee : Signature) → slice_get types.functions k ≡ Some callee → unwrap_or (slice_get taking.gives k) false ≡ is_some callee.result
+    pub counts : (k : ℕ) (callee : Signature) → slice_get types.functions k ≡ Some callee
+        → unwrap_or (slice_get taking.gives k) false ≡ is_some callee.result

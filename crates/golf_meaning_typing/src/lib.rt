@@ -4,8 +4,10 @@
 #![tactic(auto)]
 
 ghost use Rattle.golf_meaning_source.specs.Operations.{Taking};
-ghost use Rattle.golf_meaning_typing.specs.Laws.{ConditionsDecide, ExpressionsFit, FunctionsFit, NamesGive, OperatorsFit, StatementsFit};
+ghost use Rattle.golf_meaning_typing.specs.Laws.{ConditionsDecide, ExpressionsFit, FunctionsFit, NamesGive};
+ghost use Rattle.golf_meaning_typing.specs.Laws.{OperatorsFit, StatementsFit};
 ghost use Rattle.golf_meaning_typing.specs.FileLaws.{FilesFit};
+ghost use Rattle.golf_meaning_typing.specs.WholeFileLaws.{FilesSound};
 
 /// An operator whose operands break no rule gives one value, of its type if kinds are looked at in
 /// answers.
@@ -46,4 +48,12 @@ pub fn functions_fit()
 /// So it is for each function and method of a well-formed file that breaks no rule, and whose names fit.
 pub fn files_fit()
     ensures { FilesFit }
+{}
+
+/// With arguments of the types of its receiver and parameters, for all answers and however many
+/// turns each loop may take, no rule is lacking where the meaning of a function ends. If kinds are
+/// looked at in answers, it is unfit only if an answer does not fit its operation; if not, it is
+/// unfit only by how many values an answer has, or by the kind of a value where it is used.
+pub fn meanings_sound()
+    ensures { FilesSound }
 {}

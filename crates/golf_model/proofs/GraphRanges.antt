@@ -5,7 +5,8 @@ use Rattle.std.proofs.Common.{ℕ, List, [], arith}
 use Rattle.golf_model.specs.declared.graph.GraphParts.{GraphParts}
 use Rattle.golf_model.specs.Graph.{AreNodes, IsInRange}
 
-pub without-in_range : (g : GraphParts) (roots : List ℕ) → IsInRange g → AreNodes g roots → IsInRange (record g { roots = roots; sleepers = [] })
+pub without-in_range : (g : GraphParts) (roots : List ℕ) → IsInRange g → AreNodes g roots
+    → IsInRange (record g { roots = roots; sleepers = [] })
 without-in_range g roots range nodes = record {
   numbered = range.numbered;
   flagged = range.flagged;

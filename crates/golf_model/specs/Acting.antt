@@ -12,7 +12,8 @@ use Rattle.golf_model.specs.Views.{FrameView, GoroutineView}
 use Rattle.golf_model.specs.Waking.{fault, unwinding}
 use Rattle.golf_model.specs.Changes.{Change}
 
--- a goroutine with a frame, in its turn: its number, innermost frame, the frames below, the line where it was started, and the line of its instruction
+-- a goroutine with a frame, in its turn: its number, innermost frame, the frames below, the line where it was started,
+-- and the line of its instruction
 pub record Actor : Type 0 where
   pub number : ℕ
   pub frame : FrameView

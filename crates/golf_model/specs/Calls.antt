@@ -1,4 +1,5 @@
--- Calls, goroutines, deferred calls and returns (Go specification, "Calls", "Go statements", "Defer statements", "Return statements", "Handling panics").
+-- Calls, goroutines, deferred calls and returns (Go specification, "Calls", "Go statements", "Defer statements",
+-- "Return statements", "Handling panics").
 use Rattle.std.specs.Prelude.{ℕ, ◌+◌, Bool, true, false, List, [], ◌∷◌, ◌++◌, length, Option, Some, None, ◌==◌, nat_le}
 use Rattle.golf_data.specs.declared.value.Value.{Value}
 use Rattle.golf_data.specs.declared.code.Code.{Code}
@@ -24,22 +25,32 @@ is_full frames = nat_le most_frames (length frames)
 
 -- one more frame on these, or the stack overflows
 abbrev pub enters : Actor → List FrameView → FrameView → List Change
-enters a frames f = choose (is_full frames) (dies a PanicKind.StackOverflow) (Change.Become a.number (with_frames a (f ∷ frames)) ∷ [])
+enters a frames f = choose (is_full frames) (dies a PanicKind.StackOverflow)
+    (Change.Become a.number (with_frames a (f ∷ frames)) ∷ [])
 
 -- calls the function with so many arguments
 abbrev pub calls : Code → Actor → ℕ → ℕ → List Change
 calls code a f n =
-    taking n (λ arguments rest. on_some (enters a (next a.frame rest ∷ a.callers)) (call_frame code f arguments false)) a.frame.operands
+    taking n (λ arguments rest. on_some (enters a (next a.frame rest ∷ a.callers)) (call_frame code f arguments false))
+    a.frame.operands
 
 -- starts a goroutine on the function with so many arguments
 abbrev pub spawns : Code → Actor → ℕ → ℕ → List Change
 spawns code a f n =
-    taking n (λ arguments rest. on_some (λ x. Change.Spawn (record { frames = x ∷ []; mode = Mode.Running; started = a.line }) ∷ goes a rest) (call_frame code f arguments true)) a.frame.operands
+    taking n (λ arguments rest. on_some (λ x. Change.Spawn
+    (record { frames = x ∷ []; mode = Mode.Running; started = a.line }) ∷ goes a rest)
+    (call_frame code f arguments true)) a.frame.operands
 
 -- defers a call of the function with so many arguments
 abbrev pub defers : Actor → ℕ → ℕ → List Change
 defers a f n =
-    taking n (λ arguments rest. stands a (record a.frame { at = a.frame.at + 1; operands = rest; deferred = record { function = f; arguments = arguments } ∷ a.frame.deferred })) a.frame.operands
+    taking n (λ arguments rest. stands a (record
+    a.frame {
+      at = a.frame.at + 1;
+      operands = rest;
+      deferred = record { function = f; arguments = arguments }
+          ∷ a.frame.deferred;
+    })) a.frame.operands
 
 -- a goroutine without a frame has ended; goroutine 0 waits for its queue
 abbrev pub ends : Actor → List Change
@@ -60,7 +71,8 @@ abbrev pub returns_to : Actor → Option Value → List FrameView → List Chang
 returns_to a v [] = ends_returning a
 returns_to a v (f ∷ fs) = Change.Become a.number (with_frames a (handed_back a.frame.discards v f ∷ fs)) ∷ []
 
--- the innermost frame is gone by unwinding: its caller unwinds in place of whatever it was doing, and the program ends with the last frame
+-- the innermost frame is gone by unwinding: its caller unwinds in place of whatever it was doing, and the program ends
+-- with the last frame
 abbrev pub unwinds_to : Actor → Fault → List FrameView → List Change
 unwinds_to a x [] = ends a ++ (Change.Finish (Ending.Panicked x.kind (record { 0 = a.number }) x.line) ∷ [])
 unwinds_to a x (f ∷ fs) = Change.Become a.number (with_frames a (unwinding x f ∷ fs)) ∷ []
@@ -68,7 +80,8 @@ unwinds_to a x (f ∷ fs) = Change.Become a.number (with_frames a (unwinding x f
 -- without deferred calls a return removes the frame; with them the frame is returning
 abbrev pub returns_by : Actor → Option Value → List Value → List Deferred → List Change
 returns_by a v rest [] = returns_to a v a.callers
-returns_by a v rest (d ∷ ds) = stands a (record a.frame { at = a.frame.at + 1; operands = rest; leaving = Leaving.Returning v })
+returns_by a v rest (d ∷ ds) = stands a (record
+    a.frame { at = a.frame.at + 1; operands = rest; leaving = Leaving.Returning v })
 
 -- `->`
 abbrev pub returns : Actor → List Change
@@ -80,7 +93,8 @@ returns_value a = taking_one (λ v rest. returns_by a (Some v) rest a.frame.defe
 
 -- begins the last deferred call and takes it off the list
 abbrev pub begins_deferred : Code → Actor → Deferred → List Deferred → List Change
-begins_deferred code a d ds = on_some (enters a (record a.frame { deferred = ds } ∷ a.callers)) (call_frame code d.function d.arguments true)
+begins_deferred code a d ds = on_some (enters a (record a.frame { deferred = ds } ∷ a.callers))
+    (call_frame code d.function d.arguments true)
 
 -- the turn of a goroutine whose innermost frame is returning, or unwinding
 abbrev pub leaves_returning : Code → Actor → Option Value → List Deferred → List Change

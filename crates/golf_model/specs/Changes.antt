@@ -53,7 +53,10 @@ become g r s = record s { goroutines = put g r s.goroutines }
 -- each goroutine that blocks takes the next ticket, also if it waits on nothing (profile)
 abbrev pub block : ℕ → WaitKind → ℕ → List Wait → GoroutineView → State → State
 block g kind line waits r s =
-    record s { goroutines = put g (record r { mode = Mode.Blocked kind line waits s.next_ticket }) s.goroutines; next_ticket = s.next_ticket + 1 }
+    record s {
+      goroutines = put g (record r { mode = Mode.Blocked kind line waits s.next_ticket }) s.goroutines;
+      next_ticket = s.next_ticket + 1;
+    }
 
 abbrev pub spawn : GoroutineView → State → State
 spawn r s = record s { goroutines = add s.next_goroutine r s.goroutines; next_goroutine = s.next_goroutine + 1 }
@@ -96,9 +99,13 @@ moved m ticket (Mode.Blocked kind line waits old) = Mode.Blocked kind line (move
 -- it waits for the mutex from now on, with the next ticket
 abbrev pub move_wait : ℕ → ℕ → GoroutineView → State → State
 move_wait g m r s =
-    record s { goroutines = put g (record r { mode = moved m s.next_ticket r.mode }) s.goroutines; next_ticket = s.next_ticket + 1 }
+    record s {
+      goroutines = put g (record r { mode = moved m s.next_ticket r.mode }) s.goroutines;
+      next_ticket = s.next_ticket + 1;
+    }
 
--- an unlocked mutex becomes locked and the goroutine runs; a locked one is what it waits for from now on (package sync, `Cond.Wait`: it "locks c.L before returning"; the order is the profile's)
+-- an unlocked mutex becomes locked and the goroutine runs; a locked one is what it waits for from now on (package sync,
+-- `Cond.Wait`: it "locks c.L before returning"; the order is the profile's)
 abbrev pub pass_on_by : Bool → ℕ → ℕ → GoroutineView → State → State
 pass_on_by false g m r s = replace m (Object.Mutex true) (become g (released r) s)
 pass_on_by true g m r s = move_wait g m r s

@@ -1,4 +1,5 @@
--- Slots that no instruction can read any more are cleared after a turn, so that they do not keep their objects (profile).
+-- Slots that no instruction can read any more are cleared after a turn, so that they do not keep their objects
+-- (profile).
 use Rattle.std.specs.Prelude.{ℕ, Bool, true, false, List, [], ◌∷◌, Option, Some, None, option_and_then, slice_get}
 use Rattle.golf_theory.specs.Maps.{find}
 use Rattle.golf_data.specs.declared.code.Code.{Code}

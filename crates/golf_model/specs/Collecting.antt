@@ -17,9 +17,14 @@ queued es = map (λ e. record { object = record { 0 = e.0 }; function = e.1 }) e
 -- finalised objects outside these are queued, in rising order
 abbrev pub queue_outside : List ℕ → State → State
 queue_outside reached s =
-    record s { finalisers = only (λ o. is_in o reached) s.finalisers; queue = s.queue ++ queued (only (λ o. not (is_in o reached)) s.finalisers) }
+    record s {
+      finalisers = only (λ o. is_in o reached) s.finalisers;
+      queue = s.queue
+          ++ queued (only (λ o. not (is_in o reached)) s.finalisers);
+    }
 
--- each object with a finaliser that nothing else reaches loses it and joins the queue; nothing is freed (package runtime, `SetFinalizer`)
+-- each object with a finaliser that nothing else reaches loses it and joins the queue; nothing is freed (package
+-- runtime, `SetFinalizer`)
 abbrev pub plain_collect : State → State
 plain_collect s = queue_outside (reach s (sources s [])) s
 
@@ -37,12 +42,14 @@ prevents_removal s sets_finalisers o = has_finaliser s o || (sets_finalisers && 
 
 -- the keep rule: a dead goroutine stays if its removal could let a finaliser run (profile)
 abbrev pub keeps : State → Bool → ℕ → Bool
-keeps s sets_finalisers g = any_of (prevents_removal s sets_finalisers) (reach s (refs_of_goroutine (find g s.goroutines)))
+keeps s sets_finalisers g = any_of (prevents_removal s sets_finalisers)
+    (reach s (refs_of_goroutine (find g s.goroutines)))
 
 -- the same as a relation: it reaches an object with a finaliser, or, if the code sets finalisers, a live one
 abbrev pub Keeps : State → Bool → ℕ → Type 0
 Keeps s sets_finalisers g =
-    (o : ℕ) × Reach s (refs_of_goroutine (find g s.goroutines)) o × (In o (keys s.finalisers) ⊎ ((sets_finalisers ≡ true) × Live s (Node.AnObject o)))
+    (o : ℕ) × Reach s (refs_of_goroutine (find g s.goroutines)) o
+    × (In o (keys s.finalisers) ⊎ ((sets_finalisers ≡ true) × Live s (Node.AnObject o)))
 
 -- the dead goroutines that are not kept
 abbrev pub unkept : State → Bool → List ℕ

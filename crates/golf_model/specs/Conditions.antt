@@ -9,28 +9,34 @@ use Rattle.golf_data.specs.declared.goroutine.WaitKind.{WaitKind}
 use Rattle.golf_model.specs.State.{State}
 use Rattle.golf_model.specs.Waiting.{Waiter, first, waiters}
 use Rattle.golf_model.specs.Changes.{Change}
-use Rattle.golf_model.specs.Acting.{Actor, goes, dies, taking_one, at_reference, at_reference_or, at_mutex, at_condition}
+use Rattle.golf_model.specs.Acting.{Actor, goes, dies, taking_one, at_reference, at_reference_or, at_mutex}
+use Rattle.golf_model.specs.Acting.{at_condition}
 use Rattle.golf_model.specs.Mutexes.{hands_over, blocks_on}
 use Rattle.golf_model.specs.Structures.{makes}
 
 -- `m -> ref`, a condition with this mutex, which may be nil
 abbrev pub makes_condition : Actor → State → List Change
 makes_condition a s =
-    taking_one (λ m rest. at_reference_or (makes a (Object.Cond m) rest s) (λ o. at_mutex (λ locked. makes a (Object.Cond m) rest s) (find o s.objects)) m) a.frame.operands
+    taking_one (λ m rest. at_reference_or (makes a (Object.Cond m) rest s)
+    (λ o. at_mutex (λ locked. makes a (Object.Cond m) rest s) (find o s.objects)) m) a.frame.operands
 
 -- `c -> m`
 abbrev pub gets_mutex : Actor → State → List Change
-gets_mutex a s = taking_one (λ c rest. at_reference a (λ o. at_condition (λ m. goes a (m ∷ rest)) (find o s.objects)) c) a.frame.operands
+gets_mutex a s = taking_one (λ c rest. at_reference a (λ o. at_condition (λ m. goes a (m ∷ rest)) (find o s.objects)) c)
+    a.frame.operands
 
 -- the mutex is unlocked as by its holder, and the goroutine blocks on the condition
 abbrev pub awaits_by : Actor → List Value → State → ℕ → ℕ → Bool → List Change
 awaits_by a rest s o m false = dies a PanicKind.UnlockUnlocked
-awaits_by a rest s o m true = hands_over m (first m Side.Lock s.goroutines) ++ blocks_on a rest WaitKind.Condition o Side.Cond
+awaits_by a rest s o m true = hands_over m (first m Side.Lock s.goroutines)
+    ++ blocks_on a rest WaitKind.Condition o Side.Cond
 
 -- `c ->`; a nil mutex panics, and an unlocked one is a fatal error
 abbrev pub awaits : Actor → State → List Change
 awaits a s =
-    taking_one (λ c rest. at_reference a (λ o. at_condition (λ m. at_reference a (λ p. at_mutex (awaits_by a rest s o p) (find p s.objects)) m) (find o s.objects)) c) a.frame.operands
+    taking_one (λ c rest. at_reference a (λ o. at_condition
+    (λ m. at_reference a (λ p. at_mutex (awaits_by a rest s o p) (find p s.objects)) m) (find o s.objects)) c)
+    a.frame.operands
 
 -- each of the waiters is passed on to the mutex, in this order
 abbrev pub passes_on : ℕ → List Waiter → List Change
@@ -44,14 +50,17 @@ first_only (Some w) = w ∷ []
 -- if nobody is passed on the mutex is not looked at; else it is a mutex, or no rule fits
 abbrev pub notifies : Actor → List Value → State → List Waiter → Value → List Change
 notifies a rest s [] m = goes a rest
-notifies a rest s (w ∷ ws) m = at_reference_or [] (λ p. at_mutex (λ locked. goes a rest ++ passes_on p (w ∷ ws)) (find p s.objects)) m
+notifies a rest s (w ∷ ws) m = at_reference_or []
+    (λ p. at_mutex (λ locked. goes a rest ++ passes_on p (w ∷ ws)) (find p s.objects)) m
 
 -- `c ->`; the first waiter, if any, is passed on
 abbrev pub signals : Actor → State → List Change
 signals a s =
-    taking_one (λ c rest. at_reference a (λ o. at_condition (notifies a rest s (first_only (first o Side.Cond s.goroutines))) (find o s.objects)) c) a.frame.operands
+    taking_one (λ c rest. at_reference a (λ o. at_condition
+    (notifies a rest s (first_only (first o Side.Cond s.goroutines))) (find o s.objects)) c) a.frame.operands
 
 -- `c ->`; each waiter is passed on, by rising ticket (profile)
 abbrev pub broadcasts : Actor → State → List Change
 broadcasts a s =
-    taking_one (λ c rest. at_reference a (λ o. at_condition (notifies a rest s (waiters o Side.Cond s.goroutines)) (find o s.objects)) c) a.frame.operands
+    taking_one (λ c rest. at_reference a (λ o. at_condition (notifies a rest s (waiters o Side.Cond s.goroutines))
+    (find o s.objects)) c) a.frame.operands

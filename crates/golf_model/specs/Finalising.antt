@@ -18,15 +18,18 @@ finalises_by a rest f o (Some old) = dies a PanicKind.FinalizerSet
 -- `p ->`; the function becomes the finaliser of p's struct, and nil panics (profile)
 abbrev pub finalises : Actor → ℕ → State → List Change
 finalises a f s =
-    taking_one (λ p rest. at_reference a (λ o. at_struct (λ fields. finalises_by a rest f o (find o s.finalisers)) (find o s.objects)) p) a.frame.operands
+    taking_one (λ p rest. at_reference a (λ o. at_struct (λ fields. finalises_by a rest f o (find o s.finalisers))
+    (find o s.objects)) p) a.frame.operands
 
 -- `p ->`; p's struct loses its finaliser; does nothing if there is none, or if p is nil (profile)
 abbrev pub unfinalises : Actor → State → List Change
 unfinalises a s =
-    taking_one (λ p rest. at_reference_or (goes a rest) (λ o. at_struct (λ fields. Change.ClearFinaliser o ∷ goes a rest) (find o s.objects)) p) a.frame.operands
+    taking_one (λ p rest. at_reference_or (goes a rest)
+    (λ o. at_struct (λ fields. Change.ClearFinaliser o ∷ goes a rest) (find o s.objects)) p) a.frame.operands
 
 -- goroutine 0 without a frame takes the first entry of the queue and begins its function on its object
 abbrev pub begins_queued : Code → GoroutineView → List Queued → List Change
 begins_queued code r [] = []
 begins_queued code r (q ∷ queue) =
-    on_some (λ x. Change.TakeQueued ∷ Change.Become 0 (record r { frames = x ∷ [] }) ∷ []) (call_frame code q.function (Value.Ref q.object ∷ []) true)
+    on_some (λ x. Change.TakeQueued ∷ Change.Become 0 (record r { frames = x ∷ [] }) ∷ [])
+    (call_frame code q.function (Value.Ref q.object ∷ []) true)

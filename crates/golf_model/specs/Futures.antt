@@ -18,7 +18,8 @@ use Rattle.golf_model.specs.Reporting.{entries, without}
 
 -- whatever happens, the goroutine stands as it stands now: with these frames, this mode, its waits and its ticket
 abbrev pub Still : Code → State → ℕ → Type 0
-Still code s g = (r : GoroutineView) × Entry s.goroutines g r × ((events : List Event) → Entry (run code s events).goroutines g r)
+Still code s g = (r : GoroutineView) × Entry s.goroutines g r
+    × ((events : List Event) → Entry (run code s events).goroutines g r)
 
 -- what can be seen right before a collection: the live objects, and the dead goroutines with their waits and lines
 pub record Sight : Type 0 where
@@ -45,11 +46,13 @@ futures code s events gone = record {
   stops = map (sight gone) (stops_by plain_collect code s events);
 }
 
--- the states that moves lead to from the opening state; a turn or a collection moves a state without an ending, and output can be emptied at any time
+-- the states that moves lead to from the opening state; a turn or a collection moves a state without an ending, and
+-- output can be emptied at any time
 pub data Leads (code : Code) : State → Type 0 where
   Start : Leads code (start code)
   Turn : (s : State) (c : ℕ) → Leads code s → ending s ≡ None → Leads code (step code s c)
-  Collection : (s : State) (recover : Bool) → Leads code s → ending s ≡ None → Leads code (real_collect s recover (sets_finalisers code))
+  Collection : (s : State) (recover : Bool) → Leads code s → ending s ≡ None
+      → Leads code (real_collect s recover (sets_finalisers code))
   Emptied : (s : State) → Leads code s → Leads code (record s { output = [] })
 
 abbrev pub UpTo : ℕ → List ℕ → Type 0

@@ -1,5 +1,7 @@
 -- A graph of objects and blocked goroutines, and its least closed set.
-use Rattle.std.specs.Prelude.{◌++◌, ◌&&◌, ◌||◌, ◌-◌, Bool, nat_le, ◌≡◌, ℕ, ◌+◌, ◌<◌, ◌≤◌, List, [], ◌∷◌, length, Option, option_map, unwrap_or, slice_get}
+use Rattle.std.specs.Prelude.{◌^◌, ◌++◌, ◌&&◌, ◌||◌, ◌-◌, Bool, nat_le, ◌≡◌, ℕ, ◌+◌, ◌<◌, ◌≤◌, List, [], ◌∷◌, length}
+use Rattle.std.specs.Prelude.{Option}
+use Rattle.std.specs.Prelude.{option_map, unwrap_or, slice_get}
 use Rattle.golf_theory.specs.Membership.{In, Every, is_in, any_of}
 use Rattle.golf_theory.specs.Reached.{Reached}
 use Rattle.golf_theory.specs.Least.{least}
@@ -45,7 +47,8 @@ Least g = Reached (λ p. In p g.roots) (Justifies g)
 -- the same test, computed
 abbrev pub justifies : GraphParts → ℕ → ℕ → Bool
 justifies g from to =
-    is_in to (children_of g from) || ((nat_le (node_count g) to && is_in from (sleeper_waits g (to - node_count g))) || (nat_le (node_count g) from && is_in to (sleeper_references g (from - node_count g))))
+    is_in to (children_of g from) || ((nat_le (node_count g) to && is_in from (sleeper_waits g (to - node_count g)))
+    || (nat_le (node_count g) from && is_in to (sleeper_references g (from - node_count g))))
 
 -- a root, or justified by what is in the list already
 abbrev pub is_justified_next : GraphParts → List ℕ → ℕ → Bool
@@ -65,7 +68,8 @@ all_references (x ∷ xs) = x.references ++ all_references xs
 
 -- every place that can be justified
 abbrev pub named_places : GraphParts → List ℕ
-named_places g = g.roots ++ (all_children g.children ++ (places_from (node_count g) g.sleepers ++ all_references g.sleepers))
+named_places g = g.roots ++ (all_children g.children
+    ++ (places_from (node_count g) g.sleepers ++ all_references g.sleepers))
 
 -- the least closed set, computed
 unfoldable pub least_places : GraphParts → List ℕ
@@ -85,7 +89,7 @@ pub record IsInRange (g : GraphParts) : Type 0 where
   pub numbered : length g.numbers ≡ node_count g
   pub flagged : length g.finalised ≡ node_count g
   pub numbers : NumbersRise 0 g.numbers
-  pub few : node_count g + sleeper_count g < 4294967296
+  pub few : node_count g + sleeper_count g < 2 ^ 32
   pub children : Every (AreNodes g) g.children
   pub roots : AreNodes g g.roots
   pub waits : Every (λ x. AreNodes g x.waits) g.sleepers

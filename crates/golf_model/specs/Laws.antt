@@ -39,7 +39,8 @@ IsWaiterOf o side gs w = (e : ℕ × GoroutineView) × Entry gs e.0 e.1 × (wait
 
 -- the waiters are all who wait there, and stand by rising ticket
 abbrev pub WaitersInOrder : Type 0
-WaitersInOrder = (o : ℕ) (side : Side) (gs : List (ℕ × GoroutineView)) → TicketsRise (waiters o side gs) × ((w : Waiter) → In w (waiters o side gs) ↔ IsWaiterOf o side gs w)
+WaitersInOrder = (o : ℕ) (side : Side) (gs : List (ℕ × GoroutineView)) → TicketsRise (waiters o side gs)
+    × ((w : Waiter) → In w (waiters o side gs) ↔ IsWaiterOf o side gs w)
 
 -- the first waiter is the one that stands first
 abbrev pub FirstInOrder : Type 0
@@ -51,7 +52,8 @@ LeastComputed = (g : GraphParts) (p : ℕ) → In p (least_places g) ↔ Least g
 
 -- the test of the keep rule is the relation
 abbrev pub KeepsComputed : Type 0
-KeepsComputed = (s : State) (sets_finalisers : Bool) (g : ℕ) → (keeps s sets_finalisers g ≡ true) ↔ Keeps s sets_finalisers g
+KeepsComputed = (s : State) (sets_finalisers : Bool) (g : ℕ) → (keeps s sets_finalisers g ≡ true)
+    ↔ Keeps s sets_finalisers g
 
 -- the computed objects are those that are retained
 abbrev pub RetainedComputed : Type 0

@@ -1,4 +1,6 @@
--- The live set, by root growth (Saioc, Lee, Møller, Chabbi, "Dynamic Partial Deadlock Detection and Recovery via Garbage Collection", 2025): a blocked goroutine is live once an object that it waits on is. That the contents of objects with a finaliser, the finaliser queue and goroutine 0 are live is the profile's.
+-- The live set, by root growth (Saioc, Lee, Møller, Chabbi, "Dynamic Partial Deadlock Detection and Recovery via
+-- Garbage Collection", 2025): a blocked goroutine is live once an object that it waits on is. That the contents of
+-- objects with a finaliser, the finaliser queue and goroutine 0 are live is the profile's.
 use Rattle.std.specs.Prelude.{◌≡◌, ℕ, Bool, true, false, not, ◌&&◌, ◌||◌, List, [], ◌∷◌, ◌++◌, map, filter, ◌==◌}
 use Rattle.golf_theory.specs.Maps.{Entry, keys, keys_where}
 use Rattle.golf_theory.specs.Membership.{In, is_in, any_of}
@@ -9,7 +11,8 @@ use Rattle.golf_model.specs.Views.{GoroutineView}
 use Rattle.golf_model.specs.Values.{refs}
 use Rattle.golf_model.specs.Waiting.{waits_of}
 use Rattle.golf_model.specs.State.{State, is_running}
-use Rattle.golf_model.specs.Refs.{object_refs, goroutine_refs, waited, queue_refs, refs_where, goroutine_refs_where, has_finaliser}
+use Rattle.golf_model.specs.Refs.{object_refs, goroutine_refs, waited, queue_refs, refs_where, goroutine_refs_where}
+use Rattle.golf_model.specs.Refs.{has_finaliser}
 
 -- an object or a goroutine, by its number
 pub data Node : Type 0 where
@@ -21,16 +24,21 @@ pub data LiveRoot (s : State) : Node → Type 0 where
   Global : (o : ℕ) → In o (refs s.globals) → LiveRoot s (Node.AnObject o)
   InQueue : (o : ℕ) → In o (queue_refs s.queue) → LiveRoot s (Node.AnObject o)
   -- in the references of an object that has a finaliser
-  InFinalised : (o p : ℕ) (x : Object) → In p (keys s.finalisers) → Entry s.objects p x → In o (object_refs x) → LiveRoot s (Node.AnObject o)
-  Running : (g : ℕ) (r : GoroutineView) → Entry s.goroutines g r → is_running r.mode ≡ true → LiveRoot s (Node.AGoroutine g)
+  InFinalised : (o p : ℕ) (x : Object) → In p (keys s.finalisers) → Entry s.objects p x → In o (object_refs x)
+      → LiveRoot s (Node.AnObject o)
+  Running : (g : ℕ) (r : GoroutineView) → Entry s.goroutines g r → is_running r.mode ≡ true
+      → LiveRoot s (Node.AGoroutine g)
   FinaliserGoroutine : LiveRoot s (Node.AGoroutine 0)
 
 -- what one live node makes live
 pub data LiveStep (s : State) : Node → Node → Type 0 where
-  InObject : (p o : ℕ) (x : Object) → Entry s.objects p x → In o (object_refs x) → LiveStep s (Node.AnObject p) (Node.AnObject o)
-  InGoroutine : (g o : ℕ) (r : GoroutineView) → Entry s.goroutines g r → In o (goroutine_refs r) → LiveStep s (Node.AGoroutine g) (Node.AnObject o)
+  InObject : (p o : ℕ) (x : Object) → Entry s.objects p x → In o (object_refs x)
+      → LiveStep s (Node.AnObject p) (Node.AnObject o)
+  InGoroutine : (g o : ℕ) (r : GoroutineView) → Entry s.goroutines g r → In o (goroutine_refs r)
+      → LiveStep s (Node.AGoroutine g) (Node.AnObject o)
   -- a blocked goroutine that waits on the object
-  Awakened : (o g : ℕ) (r : GoroutineView) → Entry s.goroutines g r → In o (waited (waits_of r.mode)) → LiveStep s (Node.AnObject o) (Node.AGoroutine g)
+  Awakened : (o g : ℕ) (r : GoroutineView) → Entry s.goroutines g r → In o (waited (waits_of r.mode))
+      → LiveStep s (Node.AnObject o) (Node.AGoroutine g)
 
 -- a list ends with the node in which each entry is live at once, or made live by an earlier one
 abbrev pub Live : State → Node → Type 0
@@ -57,13 +65,17 @@ awakes live g (e ∷ es) = ((g == e.0) && is_awakened live e.1) || awakes live g
 -- live at once, or made live by what is in the list already
 abbrev pub is_live_next : State → List Node → Node → Bool
 is_live_next s got (Node.AnObject o) =
-    is_in o (refs s.globals) || (is_in o (queue_refs s.queue) || (is_in o (refs_where (has_finaliser s) s.objects) || (is_in o (refs_where (has_object got) s.objects) || is_in o (goroutine_refs_where (has_goroutine got) s.goroutines))))
+    is_in o (refs s.globals) || (is_in o (queue_refs s.queue)
+    || (is_in o (refs_where (has_finaliser s) s.objects)
+    || (is_in o (refs_where (has_object got) s.objects)
+    || is_in o (goroutine_refs_where (has_goroutine got) s.goroutines))))
 is_live_next s got (Node.AGoroutine g) = (g == 0) || awakes (has_object got) g s.goroutines
 
 -- every object that is named, and every goroutine
 abbrev pub named_objects : State → List ℕ
 named_objects s =
-    refs s.globals ++ (queue_refs s.queue ++ (refs_where (λ o. true) s.objects ++ goroutine_refs_where (λ g. true) s.goroutines))
+    refs s.globals ++ (queue_refs s.queue ++
+    (refs_where (λ o. true) s.objects ++ goroutine_refs_where (λ g. true) s.goroutines))
 
 abbrev pub nodes : State → List Node
 nodes s = map Node.AnObject (named_objects s) ++ (Node.AGoroutine 0 ∷ map Node.AGoroutine (keys s.goroutines))

@@ -11,7 +11,8 @@ use Rattle.golf_model.specs.State.{State}
 use Rattle.golf_model.specs.Waiting.{Waiter, first, bare_wait}
 use Rattle.golf_model.specs.Waking.{Waking, released}
 use Rattle.golf_model.specs.Changes.{Change}
-use Rattle.golf_model.specs.Acting.{Actor, next, goes, panics, dies, blocks, on_some, taking_one, taking_two, choose, at_reference, at_mutex, at_group}
+use Rattle.golf_model.specs.Acting.{Actor, next, goes, panics, dies, blocks, on_some, taking_one, taking_two, choose}
+use Rattle.golf_model.specs.Acting.{at_reference, at_mutex, at_group}
 use Rattle.golf_model.specs.Calculating.{sum}
 
 -- the waiter runs, and is given nothing
@@ -29,7 +30,8 @@ locks_by a rest o true = blocks_on a rest WaitKind.Lock o Side.Lock
 
 -- `m ->`
 abbrev pub locks : Actor → State → List Change
-locks a s = taking_one (λ m rest. at_reference a (λ o. at_mutex (locks_by a rest o) (find o s.objects)) m) a.frame.operands
+locks a s = taking_one (λ m rest. at_reference a (λ o. at_mutex (locks_by a rest o) (find o s.objects)) m)
+    a.frame.operands
 
 -- a mutex stays locked and its first waiter runs; with no waiter it becomes unlocked (profile)
 abbrev pub hands_over : ℕ → Option Waiter → List Change
@@ -42,21 +44,26 @@ unlocks_by a rest s o true = goes a rest ++ hands_over o (first o Side.Lock s.go
 
 -- `m ->`; to unlock an unlocked mutex is a fatal error
 abbrev pub unlocks : Actor → State → List Change
-unlocks a s = taking_one (λ m rest. at_reference a (λ o. at_mutex (unlocks_by a rest s o) (find o s.objects)) m) a.frame.operands
+unlocks a s = taking_one (λ m rest. at_reference a (λ o. at_mutex (unlocks_by a rest s o) (find o s.objects)) m)
+    a.frame.operands
 
 -- the counter becomes n: below 0 panics, and the counter stays (profile); 0 wakes all who wait
 abbrev pub counts : Actor → List Value → ℕ → ℤ → List Change
 counts a rest o n =
-    choose (int_lt n (pos 0)) (panics a PanicKind.NegativeGroup) (Change.Replace o (Object.Group n) ∷ (goes a rest ++ choose (is_zero n) (Change.WakeAll o Waking.AtZero ∷ []) []))
+    choose (int_lt n (pos 0)) (panics a PanicKind.NegativeGroup)
+    (Change.Replace o (Object.Group n) ∷ (goes a rest
+    ++ choose (is_zero n) (Change.WakeAll o Waking.AtZero ∷ []) []))
 
 -- `w, d ->`
 abbrev pub adds : Actor → State → List Change
 adds a s =
-    taking_two (λ w x rest. on_some (λ d. at_reference a (λ o. at_group (λ n. counts a rest o (sum n d)) (find o s.objects)) w) (int_of x)) a.frame.operands
+    taking_two (λ w x rest. on_some (λ d. at_reference a
+    (λ o. at_group (λ n. counts a rest o (sum n d)) (find o s.objects)) w) (int_of x)) a.frame.operands
 
 abbrev pub waits_by : Actor → List Value → ℕ → ℤ → List Change
 waits_by a rest o n = choose (is_zero n) (goes a rest) (blocks_on a rest WaitKind.Group o Side.Group)
 
 -- `w ->`; at 0 it goes on, else it blocks
 abbrev pub waits : Actor → State → List Change
-waits a s = taking_one (λ w rest. at_reference a (λ o. at_group (waits_by a rest o) (find o s.objects)) w) a.frame.operands
+waits a s = taking_one (λ w rest. at_reference a (λ o. at_group (waits_by a rest o) (find o s.objects)) w)
+    a.frame.operands

@@ -25,7 +25,9 @@ is_near s xs got o = is_in o xs || is_in o (refs_where (λ p. is_in p got) s.obj
 unfoldable pub reach : State → List ℕ → List ℕ
 reach s xs = least (is_near s xs) (xs ++ refs_where (λ p. true) s.objects)
 
--- the objects in globals, in the queue, in the references of each goroutine that is not removed, and in those of each object with a finaliser
+-- the objects in globals, in the queue, in the references of each goroutine that is not removed, and in those of each
+-- object with a finaliser
 abbrev pub sources : State → List ℕ → List ℕ
 sources s removed =
-    refs s.globals ++ (queue_refs s.queue ++ (goroutine_refs_where (λ g. not (is_in g removed)) s.goroutines ++ refs_where (has_finaliser s) s.objects))
+    refs s.globals ++ (queue_refs s.queue ++
+    (goroutine_refs_where (λ g. not (is_in g removed)) s.goroutines ++ refs_where (has_finaliser s) s.objects))

@@ -1,5 +1,6 @@
 -- Reader and writer mutexes (package sync, `RWMutex`).
-use Rattle.std.specs.Prelude.{ℕ, ◌+◌, ◌||◌, ℤ, pos, negsuc, ◌+ℤ◌, ◌-ℤ◌, List, [], ◌∷◌, ◌++◌, Option, Some, None, is_some, nat_lt, int_lt, int_le}
+use Rattle.std.specs.Prelude.{ℕ, ◌+◌, ◌||◌, ℤ, pos, negsuc, ◌+ℤ◌, ◌-ℤ◌, List, [], ◌∷◌, ◌++◌, Option, Some, None}
+use Rattle.std.specs.Prelude.{is_some, nat_lt, int_lt, int_le}
 use Rattle.golf_theory.specs.Maps.{find}
 use Rattle.golf_data.specs.declared.value.Value.{Value}
 use Rattle.golf_data.specs.declared.value.Object.{Object}
@@ -40,46 +41,57 @@ to_writer o w = counted o (negsuc 0) ∷ runs w ∷ []
 abbrev pub serves_first : ℕ → List (ℕ × GoroutineView) → Option Waiter → Option Waiter → List Change
 serves_first o gs None r = to_readers o None gs
 serves_first o gs (Some w) None = to_writer o w
-serves_first o gs (Some w) (Some r) = choose (nat_lt (waiter_ticket r) (waiter_ticket w)) (to_readers o (Some (waiter_ticket w)) gs) (to_writer o w)
+serves_first o gs (Some w) (Some r) = choose (nat_lt (waiter_ticket r) (waiter_ticket w))
+    (to_readers o (Some (waiter_ticket w)) gs) (to_writer o w)
 
 -- a free mutex is handed on; if nobody waits the count is 0
 abbrev pub serves : ℕ → List (ℕ × GoroutineView) → List Change
 serves o gs = serves_first o gs (first o Side.Write gs) (first o Side.Read gs)
 
 abbrev pub write_locks_by : Actor → List Value → ℕ → ℤ → List Change
-write_locks_by a rest o n = choose (is_zero n) (counted o (negsuc 0) ∷ goes a rest) (blocks_on a rest WaitKind.WriteLock o Side.Write)
+write_locks_by a rest o n = choose (is_zero n) (counted o (negsuc 0) ∷ goes a rest)
+    (blocks_on a rest WaitKind.WriteLock o Side.Write)
 
 -- `rw ->`; a count of 0 becomes -1, else it blocks
 abbrev pub write_locks : Actor → State → List Change
-write_locks a s = taking_one (λ m rest. at_reference a (λ o. at_rw (write_locks_by a rest o) (find o s.objects)) m) a.frame.operands
+write_locks a s = taking_one (λ m rest. at_reference a (λ o. at_rw (write_locks_by a rest o) (find o s.objects)) m)
+    a.frame.operands
 
 abbrev pub write_unlocks_by : Actor → List Value → State → ℕ → ℤ → List Change
-write_unlocks_by a rest s o n = choose (is_minus_one n) (goes a rest ++ serves o s.goroutines) (dies a PanicKind.UnlockUnlockedRw)
+write_unlocks_by a rest s o n = choose (is_minus_one n) (goes a rest ++ serves o s.goroutines)
+    (dies a PanicKind.UnlockUnlockedRw)
 
 -- `rw ->`; without a writer that holds it, a fatal error; else it is served
 abbrev pub write_unlocks : Actor → State → List Change
-write_unlocks a s = taking_one (λ m rest. at_reference a (λ o. at_rw (write_unlocks_by a rest s o) (find o s.objects)) m) a.frame.operands
+write_unlocks a s = taking_one (λ m rest. at_reference a
+    (λ o. at_rw (write_unlocks_by a rest s o) (find o s.objects)) m) a.frame.operands
 
 -- the most readers that hold it at a time (profile)
 abbrev pub most_readers : ℕ
 most_readers = 1073741823
 
--- a mutex that a writer holds or waits for blocks its readers; past the limit it is a fatal error; else the count rises by 1
+-- a mutex that a writer holds or waits for blocks its readers; past the limit it is a fatal error; else the count rises
+-- by 1
 abbrev pub read_locks_by : Actor → List Value → State → ℕ → ℤ → List Change
 read_locks_by a rest s o n =
-    choose (is_minus_one n || is_some (first o Side.Write s.goroutines)) (blocks_on a rest WaitKind.ReadLock o Side.Read) (choose (int_le (pos most_readers) n) (dies a PanicKind.ReaderLimit) (counted o (n +ℤ pos 1) ∷ goes a rest))
+    choose (is_minus_one n || is_some (first o Side.Write s.goroutines))
+    (blocks_on a rest WaitKind.ReadLock o Side.Read)
+    (choose (int_le (pos most_readers) n) (dies a PanicKind.ReaderLimit) (counted o (n +ℤ pos 1) ∷ goes a rest))
 
 -- `rw ->`
 abbrev pub read_locks : Actor → State → List Change
-read_locks a s = taking_one (λ m rest. at_reference a (λ o. at_rw (read_locks_by a rest s o) (find o s.objects)) m) a.frame.operands
+read_locks a s = taking_one (λ m rest. at_reference a (λ o. at_rw (read_locks_by a rest s o) (find o s.objects)) m)
+    a.frame.operands
 
 -- the last reader's unlock serves it
 abbrev pub read_leaves : ℕ → ℤ → State → List Change
 read_leaves o n s = choose (is_zero n) (serves o s.goroutines) (counted o n ∷ [])
 
 abbrev pub read_unlocks_by : Actor → List Value → State → ℕ → ℤ → List Change
-read_unlocks_by a rest s o n = choose (int_lt (pos 0) n) (goes a rest ++ read_leaves o (n -ℤ pos 1) s) (dies a PanicKind.RUnlockUnlocked)
+read_unlocks_by a rest s o n = choose (int_lt (pos 0) n) (goes a rest ++ read_leaves o (n -ℤ pos 1) s)
+    (dies a PanicKind.RUnlockUnlocked)
 
 -- `rw ->`; without readers that hold it, a fatal error
 abbrev pub read_unlocks : Actor → State → List Change
-read_unlocks a s = taking_one (λ m rest. at_reference a (λ o. at_rw (read_unlocks_by a rest s o) (find o s.objects)) m) a.frame.operands
+read_unlocks a s = taking_one (λ m rest. at_reference a (λ o. at_rw (read_unlocks_by a rest s o) (find o s.objects)) m)
+    a.frame.operands

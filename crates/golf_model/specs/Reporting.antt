@@ -1,5 +1,6 @@
 -- What collections report.
-use Rattle.std.specs.Prelude.{ℕ, ◌+◌, Bool, true, false, not, List, [], ◌∷◌, ◌++◌, map, filter, length, Option, Some, None}
+use Rattle.std.specs.Prelude.{ℕ, ◌+◌, Bool, true, false, not, List, [], ◌∷◌, ◌++◌, map, filter, length, Option, Some}
+use Rattle.std.specs.Prelude.{None}
 use Rattle.golf_theory.specs.Maps.{find, keys}
 use Rattle.golf_theory.specs.Membership.{is_in}
 use Rattle.golf_base.specs.declared.ids.GoroutineId.{GoroutineId}
@@ -83,7 +84,8 @@ report recover sets_finalisers book p = record {
 -- the reports of the stops, one after another
 abbrev pub reports_from : Bool → Bool → Book → List State → List Report
 reports_from recover sets_finalisers book [] = []
-reports_from recover sets_finalisers book (p ∷ ps) = report recover sets_finalisers book p ∷ reports_from recover sets_finalisers (book_after recover sets_finalisers book p) ps
+reports_from recover sets_finalisers book (p ∷ ps) = report recover sets_finalisers book p
+    ∷ reports_from recover sets_finalisers (book_after recover sets_finalisers book p) ps
 
 -- the book of reports of a plain run with these stops
 abbrev pub book_of : List State → Bool → Bool → List Report
@@ -100,4 +102,5 @@ real_calls code es recover = calls_by (λ s. real_collect s recover (sets_finali
 -- its reports, each on the state right before it and the goroutines that earlier ones reported
 abbrev pub real_reports : Code → List Event → Bool → List Report
 real_reports code es recover =
-    book_of (stops_by (λ s. real_collect s recover (sets_finalisers code)) code (start code) es) recover (sets_finalisers code)
+    book_of (stops_by (λ s. real_collect s recover (sets_finalisers code)) code (start code) es) recover
+    (sets_finalisers code)

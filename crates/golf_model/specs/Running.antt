@@ -60,7 +60,8 @@ module _ (collect : State → State) (code : Code) where
 
   abbrev pub call_in : Bool → State → Event → List Queued
   call_in true s e = []
-  call_in false s (Event.Turn c) = first_if (any_of is_taking (turn_changes code (c / length (runnable s)) s (whose_turn s c))) s.queue
+  call_in false s (Event.Turn c) = first_if
+      (any_of is_taking (turn_changes code (c / length (runnable s)) s (whose_turn s c))) s.queue
   call_in false s Event.Collect = []
 
   -- the entries that goroutine 0 took from the queue, in order

@@ -1,5 +1,6 @@
 -- `select` (Go specification, "Select statements").
-use Rattle.std.specs.Prelude.{ℕ, ◌%◌, Bool, true, false, ◌&&◌, ◌||◌, List, [], ◌∷◌, ◌++◌, length, Option, Some, None, is_some, slice_get, nat_lt}
+use Rattle.std.specs.Prelude.{ℕ, ◌%◌, Bool, true, false, ◌&&◌, ◌||◌, List, [], ◌∷◌, ◌++◌, length, Option, Some, None}
+use Rattle.std.specs.Prelude.{is_some, slice_get, nat_lt}
 use Rattle.golf_theory.specs.Maps.{find}
 use Rattle.golf_data.specs.declared.value.Value.{Value}
 use Rattle.golf_data.specs.declared.value.Object.{Object}
@@ -30,7 +31,10 @@ Taken = List Offer × List Value
 -- the case's own operands lie below those of the later cases
 abbrev pub take_receive : SelectCase → Taken → Option Taken
 take_receive k (os, []) = None
-take_receive k (os, c ∷ rest) = Some (record { kind = k.kind; channel = c; value = Value.Nil; target = k.target } ∷ os, rest)
+take_receive k (os, c ∷ rest) = Some (
+  record { kind = k.kind; channel = c; value = Value.Nil; target = k.target } ∷ os,
+  rest,
+)
 
 abbrev pub take_send : SelectCase → Taken → Option Taken
 take_send k (os, []) = None
@@ -127,7 +131,8 @@ proceeds_by a after CaseKind.Take v s o = receives_on a after false s o
 proceeds_by a after CaseKind.TakeOk v s o = receives_on a after true s o
 
 abbrev pub proceeds : Actor → List Value → State → Offer → List Change
-proceeds a rest s x = at_reference_or [] (proceeds_by a (record a.frame { at = x.target; operands = rest }) x.kind x.value s) x.channel
+proceeds a rest s x = at_reference_or []
+    (proceeds_by a (record a.frame { at = x.target; operands = rest }) x.kind x.value s) x.channel
 
 -- what a goroutine waits on for a case: nothing on nil
 abbrev pub wait_of : Offer → CaseKind → ℕ → Wait
@@ -160,14 +165,16 @@ abbrev pub selects_one : Actor → List Value → State → List Offer → Optio
 selects_one a rest s xs otherwise None = selects_none a rest xs otherwise
 selects_one a rest s xs otherwise (Some x) = proceeds a rest s x
 
--- of the ready cases, the one at this place, counted round (Go specification: "a single one that can proceed is chosen via a uniform pseudo-random selection"; profile: the schedule chooses)
+-- of the ready cases, the one at this place, counted round (Go specification: "a single one that can proceed is chosen
+-- via a uniform pseudo-random selection"; profile: the schedule chooses)
 abbrev pub chosen : ℕ → List Offer → Option Offer
 chosen choice xs = slice_get xs (choice % length xs)
 
 -- if a case is on what is neither nil nor a channel, no rule fits
 abbrev pub selects_from : Actor → State → ℕ → Option ℕ → Option Taken → List Change
 selects_from a s choice otherwise None = []
-selects_from a s choice otherwise (Some t) = choose (all_on_channels s t.0) (selects_one a t.1 s t.0 otherwise (chosen choice (ready s t.0))) []
+selects_from a s choice otherwise (Some t) =
+    choose (all_on_channels s t.0) (selects_one a t.1 s t.0 otherwise (chosen choice (ready s t.0))) []
 
 -- takes the operands of all cases
 abbrev pub selects : Actor → State → ℕ → List SelectCase → Option ℕ → List Change

@@ -1,5 +1,7 @@
--- The state of the plain machine, which goroutines can run, how it has ended, and where a run begins. What is marked (profile) is this project's own choice, if Go's documents leave one or say nothing.
-use Rattle.std.specs.Prelude.{ℕ, ◌-◌, Bool, true, false, not, ◌&&◌, ◌||◌, pos, List, [], ◌∷◌, ◌++◌, length, replicate, Option, Some, None, option_map, option_to_list, ◌==◌, slice_get}
+-- The state of the plain machine, which goroutines can run, how it has ended, and where a run begins. What is marked
+-- (profile) is this project's own choice, if Go's documents leave one or say nothing.
+use Rattle.std.specs.Prelude.{ℕ, ◌-◌, Bool, true, false, not, ◌&&◌, ◌||◌, pos, List, [], ◌∷◌, ◌++◌, length, replicate}
+use Rattle.std.specs.Prelude.{Option, Some, None, option_map, option_to_list, ◌==◌, slice_get}
 use Rattle.golf_theory.specs.Maps.{keys_where}
 use Rattle.golf_data.specs.declared.value.Value.{Value}
 use Rattle.golf_data.specs.declared.value.Object.{Object}
@@ -14,7 +16,8 @@ use Rattle.golf_model.specs.Values.{zeros_of}
 use Rattle.golf_data.specs.Masks.{stays_under}
 use Rattle.golf_data.specs.Slots.{cleared_slots}
 
--- everything that a run can depend on; the three maps have their entries in rising order of number, and goroutine 0 is always there
+-- everything that a run can depend on; the three maps have their entries in rising order of number, and goroutine 0 is
+-- always there
 pub record State : Type 0 where
   pub globals : List Value
   pub objects : List (ℕ × Object)
@@ -35,7 +38,8 @@ abbrev pub not_empty : {X : Type 0} → List X → Bool
 not_empty [] = false
 not_empty (x ∷ xs) = true
 
--- whether a goroutine can run; goroutine 0, which runs finalisers, wants a frame or an entry of the queue to begin with (package runtime, `SetFinalizer`: "a single goroutine runs all finalizers for a program, sequentially")
+-- whether a goroutine can run; goroutine 0, which runs finalisers, wants a frame or an entry of the queue to begin with
+-- (package runtime, `SetFinalizer`: "a single goroutine runs all finalizers for a program, sequentially")
 abbrev pub can_run : List Queued → ℕ → GoroutineView → Bool
 can_run queue g r = is_running r.mode && (not (g == 0) || (not_empty r.frames || not_empty queue))
 
@@ -52,9 +56,11 @@ ending_of None false = Some Ending.Asleep
 abbrev pub ending : State → Option Ending
 ending s = ending_of s.recorded (not_empty (runnable s))
 
--- the arguments stand in the first slots, and the others hold 0 before they are stored; an argument that is not needed is cleared (profile)
+-- the arguments stand in the first slots, and the others hold 0 before they are stored; an argument that is not needed
+-- is cleared (profile)
 abbrev pub slots_of : Function → List Value → List Value
-slots_of fn arguments = cleared_slots (stays_under (slice_get fn.live 0)) (arguments ++ replicate (fn.slots - length arguments) (Value.Int (pos 0)))
+slots_of fn arguments = cleared_slots (stays_under (slice_get fn.live 0))
+    (arguments ++ replicate (fn.slots - length arguments) (Value.Int (pos 0)))
 
 -- a frame at the first instruction of a function
 abbrev pub opened : ℕ → List Value → Bool → Function → FrameView
@@ -72,14 +78,16 @@ opened f arguments discards fn = record {
 abbrev pub call_frame : Code → ℕ → List Value → Bool → Option FrameView
 call_frame code f arguments discards = option_map (opened f arguments discards) (slice_get code.functions f)
 
--- goroutine 0 without a frame, and goroutine 1 in function 0, which runs the initialisers and calls `main` (Go specification, "Program initialization")
+-- goroutine 0 without a frame, and goroutine 1 in function 0, which runs the initialisers and calls `main` (Go
+-- specification, "Program initialization")
 abbrev pub first_goroutines : Code → List (ℕ × GoroutineView)
 first_goroutines code =
     (0, record { frames = []; mode = Mode.Running; started = 0 })
     ∷ (1, record { frames = option_to_list (call_frame code 0 [] true); mode = Mode.Running; started = code.main_line })
     ∷ []
 
--- the opening state of a code; objects are numbered from 1 and goroutines on from 2, and no number is used again (profile)
+-- the opening state of a code; objects are numbered from 1 and goroutines on from 2, and no number is used again
+-- (profile)
 abbrev pub start : Code → State
 start code = record {
   globals = zeros_of code.globals;

@@ -1,5 +1,6 @@
 -- One turn of the plain machine: the changes that it is made of, and the state after it.
-use Rattle.std.specs.Prelude.{◌≡◌, ℕ, ◌-◌, ◌/◌, ◌%◌, Bool, true, false, not, ◌||◌, cond, pos, List, [], ◌∷◌, length, Option, Some, None, option_and_then, ◌==◌, slice_get, int_lt, int_le}
+use Rattle.std.specs.Prelude.{◌≡◌, ℕ, ◌-◌, ◌/◌, ◌%◌, Bool, true, false, not, ◌||◌, cond, pos, List, [], ◌∷◌, length}
+use Rattle.std.specs.Prelude.{Option, Some, None, option_and_then, ◌==◌, slice_get, int_lt, int_le}
 use Rattle.golf_theory.specs.Maps.{find}
 use Rattle.golf_data.specs.declared.value.Value.{Value}
 use Rattle.golf_data.specs.declared.value.Object.{Object}
@@ -13,8 +14,11 @@ use Rattle.golf_model.specs.Values.{text_of, line_bytes}
 use Rattle.golf_model.specs.State.{State, runnable, not_empty}
 use Rattle.golf_model.specs.Changes.{Change, apply_all}
 use Rattle.golf_model.specs.Acting.{Actor, goes, jumps, panics, on_some, taking_one, taking}
-use Rattle.golf_model.specs.Calculating.{pushes, loads, stores, loads_global, stores_global, drops, doubles, doubles_two, negates, inverts, computes, divides, compares, sum, difference, product, quotient, remainder, equates, jumps_unless}
-use Rattle.golf_model.specs.Structures.{makes, makes_struct, gets_field, sets_field, makes_slice, makes_channel, gets_element, sets_element, measures}
+use Rattle.golf_model.specs.Calculating.{pushes, loads, stores, loads_global, stores_global, drops, doubles}
+use Rattle.golf_model.specs.Calculating.{doubles_two, negates, inverts, computes, divides, compares, sum, difference}
+use Rattle.golf_model.specs.Calculating.{product, quotient, remainder, equates, jumps_unless}
+use Rattle.golf_model.specs.Structures.{makes, makes_struct, gets_field, sets_field, makes_slice, makes_channel}
+use Rattle.golf_model.specs.Structures.{gets_element, sets_element, measures}
 use Rattle.golf_model.specs.Channels.{sends, receives, closes}
 use Rattle.golf_model.specs.Selecting.{selects}
 use Rattle.golf_model.specs.Mutexes.{locks, unlocks, adds, waits}
@@ -27,7 +31,8 @@ use Rattle.golf_model.specs.Clearing.{clearing}
 -- takes so many operands and prints the line
 abbrev pub prints : Code → Actor → ℕ → List Change
 prints code a n =
-    taking n (λ vs rest. on_some (λ bytes. Change.Output bytes ∷ goes a rest) (line_bytes code.texts vs)) a.frame.operands
+    taking n (λ vs rest. on_some (λ bytes. Change.Output bytes ∷ goes a rest) (line_bytes code.texts vs))
+    a.frame.operands
 
 -- `text ->`; panics with it
 abbrev pub panics_with : Actor → List Change
@@ -122,9 +127,12 @@ performs code g r f callers choice s (Some l) = changes code l.instr (acting g r
 
 -- the turn of a goroutine with this innermost frame
 abbrev pub frame_changes : Code → ℕ → GoroutineView → FrameView → List FrameView → ℕ → State → Leaving → List Change
-frame_changes code g r f callers choice s Leaving.No = performs code g r f callers choice s (line_at code f.function f.at)
-frame_changes code g r f callers choice s (Leaving.Returning v) = leaves_returning code (acting g r f callers (return_line code f)) v f.deferred
-frame_changes code g r f callers choice s (Leaving.Unwinding x) = leaves_unwinding code (acting g r f callers x.line) x f.deferred
+frame_changes code g r f callers choice s Leaving.No =
+    performs code g r f callers choice s (line_at code f.function f.at)
+frame_changes code g r f callers choice s (Leaving.Returning v) =
+    leaves_returning code (acting g r f callers (return_line code f)) v f.deferred
+frame_changes code g r f callers choice s (Leaving.Unwinding x) =
+    leaves_unwinding code (acting g r f callers x.line) x f.deferred
 
 -- the turn of a goroutine with these frames; without one, goroutine 0 goes to its queue
 abbrev pub goroutine_changes : Code → ℕ → GoroutineView → ℕ → State → List FrameView → List Change
@@ -185,7 +193,8 @@ clears_nothing code s c = wants_collection code s c || not (moves_on code s c)
 abbrev pub cleared_after : Code → State → ℕ → List Change
 cleared_after code s c = clearing code (clears_nothing code s c) (whose_turn s c) (turned code s c)
 
--- the state after the turn of this number: its changes, and then the innermost frame of its goroutine is cleared; if no rule fits it is unchanged
+-- the state after the turn of this number: its changes, and then the innermost frame of its goroutine is cleared; if no
+-- rule fits it is unchanged
 abbrev pub step : Code → State → ℕ → State
 step code s c = apply_all (cleared_after code s c) (turned code s c)
 

@@ -1,5 +1,6 @@
 -- Values: the objects that they refer to, what they hold, when they are equal, and how they print.
-use Rattle.std.specs.Prelude.{ℕ, Bool, true, false, List, [], ◌∷◌, ◌++◌, Option, Some, None, ◌==◌, slice_get, ℤ, pos, negsuc}
+use Rattle.std.specs.Prelude.{ℕ, Bool, true, false, List, [], ◌∷◌, ◌++◌, Option, Some, None, ◌==◌, slice_get, ℤ, pos}
+use Rattle.std.specs.Prelude.{negsuc}
 use Rattle.std.specs.Fmt.{signed_decimal}
 use Rattle.golf_data.specs.declared.value.Value.{Value}
 
@@ -123,7 +124,8 @@ equals_reference o Value.Unit = None
 equals_reference o Value.Nil = Some false
 equals_reference o (Value.Ref p) = Some (o == p.0)
 
--- `==` of two values of one kind: the same content; a text is its place in the table, which has each text once (Go specification, "Comparison operators")
+-- `==` of two values of one kind: the same content; a text is its place in the table, which has each text once (Go
+-- specification, "Comparison operators")
 abbrev pub equality : Value → Value → Option Bool
 equality (Value.Int n) v = equals_int n v
 equality (Value.Bool b) v = equals_bool b v

@@ -1,4 +1,5 @@
--- Goroutines and frames as the plain machine holds them: what is on top stands first, and an operand stack is its items alone.
+-- Goroutines and frames as the plain machine holds them: what is on top stands first, and an operand stack is its items
+-- alone.
 use Rattle.std.specs.Prelude.{ℕ, Bool, List, map, reverse}
 use Rattle.golf_data.specs.declared.value.Value.{Value}
 use Rattle.golf_data.specs.declared.goroutine.Frame.{Frame}

@@ -53,7 +53,8 @@ waiter_ticket w = ticket_of w.goroutine.mode
 
 -- the goroutine as a waiter, if it is one
 abbrev pub waiter_of : ℕ → Side → ℕ × GoroutineView → Option Waiter
-waiter_of o side e = option_map (λ w. record { number = e.0; goroutine = e.1; wait = w }) (wait_for o side (waits_of e.1.mode))
+waiter_of o side e = option_map (λ w. record { number = e.0; goroutine = e.1; wait = w })
+    (wait_for o side (waits_of e.1.mode))
 
 -- the one with the earlier ticket
 abbrev pub earlier : Option Waiter → Option Waiter → Option Waiter
@@ -61,7 +62,8 @@ earlier None w = w
 earlier (Some v) None = Some v
 earlier (Some v) (Some w) = cond (nat_lt (waiter_ticket w) (waiter_ticket v)) (Some w) (Some v)
 
--- the goroutine of least ticket among those that wait on the object with that side: waiters are served by rising ticket (profile)
+-- the goroutine of least ticket among those that wait on the object with that side: waiters are served by rising ticket
+-- (profile)
 abbrev pub first : ℕ → Side → List (ℕ × GoroutineView) → Option Waiter
 first o side [] = None
 first o side (e ∷ es) = earlier (waiter_of o side e) (first o side es)
@@ -86,8 +88,20 @@ bare_wait o side = record { object = record { 0 = o }; side = side; value = Valu
 
 -- a wait to send the value; the goroutine goes on at the target, or where it stands
 abbrev pub send_wait : ℕ → Value → Option ℕ → Wait
-send_wait o v target = record { object = record { 0 = o }; side = Side.Send; value = v; target = target; with_ok = false }
+send_wait o v target = record {
+  object = record { 0 = o };
+  side = Side.Send;
+  value = v;
+  target = target;
+  with_ok = false;
+}
 
 -- a wait to receive
 abbrev pub receive_wait : ℕ → Option ℕ → Bool → Wait
-receive_wait o target with_ok = record { object = record { 0 = o }; side = Side.Receive; value = Value.Nil; target = target; with_ok = with_ok }
+receive_wait o target with_ok = record {
+  object = record { 0 = o };
+  side = Side.Receive;
+  value = Value.Nil;
+  target = target;
+  with_ok = with_ok;
+}

@@ -38,7 +38,8 @@ released r = record r { mode = Mode.Running }
 abbrev pub unwound : Fault → GoroutineView → GoroutineView
 unwound x r = record r { frames = on_top (unwinding x) r.frames; mode = Mode.Running }
 
--- what a receive leaves, the top value first: the value, and whether it was sent if that is asked for (Go specification, "Receive operator")
+-- what a receive leaves, the top value first: the value, and whether it was sent if that is asked for (Go
+-- specification, "Receive operator")
 abbrev pub received : Bool → Value → Bool → List Value
 received true v sent = Value.Bool sent ∷ v ∷ []
 received false v sent = v ∷ []

@@ -2,7 +2,8 @@
 
 ghost use Rattle.std.specs.Prelude.{◌≡◌, ◌<◌, [], slice_get, Some, IfOk};
 ghost use Rattle.golf_rows.specs.Rows.{IsInverseBelow};
-ghost use Rattle.golf_model.specs.Graph.{IsInRange, AreNodes, node_count, sleeper_count, children_of, goroutine_at, sleeper_waits, sleeper_references};
+ghost use Rattle.golf_model.specs.Graph.{IsInRange, AreNodes, node_count, sleeper_count, children_of, goroutine_at};
+ghost use Rattle.golf_model.specs.Graph.{sleeper_waits, sleeper_references};
 
 use crate::sleepers::Sleepers;
 use golf_base::{GoroutineId, List, Memory, ObjectId};

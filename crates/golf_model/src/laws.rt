@@ -1,6 +1,7 @@
 //! Laws that tie what is computed to what is derived.
 
-ghost use Rattle.golf_model.specs.Laws.{DeadComputed, FirstInOrder, KeepsComputed, LeastComputed, LiveComputed, ReachComputed, RetainedComputed, WaitersInOrder};
+ghost use Rattle.golf_model.specs.Laws.{DeadComputed, FirstInOrder, KeepsComputed, LeastComputed, LiveComputed};
+ghost use Rattle.golf_model.specs.Laws.{ReachComputed, RetainedComputed, WaitersInOrder};
 
 /// The computed objects are exactly those that are reached.
 pub fn reach_law()

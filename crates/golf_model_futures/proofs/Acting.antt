@@ -19,10 +19,14 @@ use Rattle.golf_model.specs.State.{State}
 use Rattle.golf_model.specs.Waiting.{Waiter, waits_of, first}
 use Rattle.golf_model.specs.Waking.{fault, unwinding}
 use Rattle.golf_model.specs.Changes.{Change}
-use Rattle.golf_model.specs.Acting.{Actor, standing, next, stands, goes, jumps, leaves, panics, dies, blocks, on_some, taking_one, taking_two, taking_three, taking_from, taking, choose, at_reference, at_reference_or, at_struct, at_slice, at_channel, at_mutex, at_group, at_rw, at_condition}
+use Rattle.golf_model.specs.Acting.{Actor, standing, next, stands, goes, jumps, leaves, panics, dies, blocks, on_some}
+use Rattle.golf_model.specs.Acting.{taking_one, taking_two, taking_three, taking_from, taking, choose, at_reference}
+use Rattle.golf_model.specs.Acting.{at_reference_or, at_struct, at_slice, at_channel, at_mutex, at_group, at_rw}
+use Rattle.golf_model.specs.Acting.{at_condition}
 use Rattle.golf_model.specs.Refs.{object_refs, wait_refs, goroutine_refs, queue_refs, waited}
 use Rattle.golf_model_futures.specs.Invariant.{AllGood, ActorIn, FrameIn}
-use Rattle.golf_model_futures.proofs.RefLaws.{Val, Vals, vals-cons, vals-head, vals-tail, frames-cons, goroutine-both, goroutine-waits, waits-value}
+use Rattle.golf_model_futures.proofs.RefLaws.{Val, Vals, vals-cons, vals-head, vals-tail, frames-cons, goroutine-both}
+use Rattle.golf_model_futures.proofs.RefLaws.{goroutine-waits, waits-value}
 use Rattle.golf_model_futures.proofs.WaitLaws.{IsWaiter, first-is, wait_for-in, wait_for-waited}
 use Rattle.golf_model_futures.proofs.Waking.{unwinding-in}
 
@@ -36,7 +40,8 @@ pub record Ground (s : State) (O G : ℕ → Type 0) : Type 0 where
 
 -- if each outcome has a property, a choice of them has it
 module _ (P : List Change → Type 0) (none : P []) where
-  pub all-on_some : {X : Type 0} (act : X → List Change) (m : Option X) → ((x : X) → m ≡ Some x → P (act x)) → P (on_some act m)
+  pub all-on_some : {X : Type 0} (act : X → List Change) (m : Option X) → ((x : X) → m ≡ Some x → P (act x))
+      → P (on_some act m)
   all-on_some act None h = none
   all-on_some act (Some x) h = h x refl
 
@@ -45,34 +50,46 @@ module _ (P : List Change → Type 0) (none : P []) where
   all-choose false cs ds p q = q
 
   module _ (O : ℕ → Type 0) where
-    pub all-taking_one : (act : Value → List Value → List Change) (vs : List Value) → Vals O vs → ((x : Value) (rest : List Value) → Val O x → Vals O rest → P (act x rest)) → P (taking_one act vs)
+    pub all-taking_one : (act : Value → List Value → List Change) (vs : List Value) → Vals O vs
+        → ((x : Value) (rest : List Value) → Val O x → Vals O rest → P (act x rest)) → P (taking_one act vs)
     all-taking_one act [] a h = none
     all-taking_one act (x ∷ rest) a h = h x rest (vals-head O x rest a) (vals-tail O x rest a)
 
-    pub all-taking_two : (act : Value → Value → List Value → List Change) (vs : List Value) → Vals O vs → ((x y : Value) (rest : List Value) → Val O x → Val O y → Vals O rest → P (act x y rest)) → P (taking_two act vs)
+    pub all-taking_two : (act : Value → Value → List Value → List Change) (vs : List Value) → Vals O vs
+        → ((x y : Value) (rest : List Value) → Val O x → Val O y → Vals O rest → P (act x y rest))
+        → P (taking_two act vs)
     all-taking_two act [] a h = none
     all-taking_two act (y ∷ []) a h = none
     all-taking_two act (y ∷ x ∷ rest) a h =
-        let b = vals-tail O y (x ∷ rest) a in h x y rest (vals-head O x rest b) (vals-head O y (x ∷ rest) a) (vals-tail O x rest b)
+        let b = vals-tail O y (x ∷ rest) a in h x y rest (vals-head O x rest b) (vals-head O y (x ∷ rest) a)
+        (vals-tail O x rest b)
 
-    pub all-taking_three : (act : Value → Value → Value → List Value → List Change) (vs : List Value) → Vals O vs → ((x y z : Value) (rest : List Value) → Val O x → Val O y → Val O z → Vals O rest → P (act x y z rest)) → P (taking_three act vs)
+    pub all-taking_three : (act : Value → Value → Value → List Value → List Change) (vs : List Value) → Vals O vs
+        → ((x y z : Value) (rest : List Value) → Val O x → Val O y → Val O z → Vals O rest → P (act x y z rest))
+        → P (taking_three act vs)
     all-taking_three act [] a h = none
     all-taking_three act (z ∷ []) a h = none
     all-taking_three act (z ∷ y ∷ []) a h = none
     all-taking_three act (z ∷ y ∷ x ∷ rest) a h =
         let b = vals-tail O z (y ∷ x ∷ rest) a in
         let c = vals-tail O y (x ∷ rest) b in
-        h x y z rest (vals-head O x rest c) (vals-head O y (x ∷ rest) b) (vals-head O z (y ∷ x ∷ rest) a) (vals-tail O x rest c)
+        h x y z rest (vals-head O x rest c) (vals-head O y (x ∷ rest) b) (vals-head O z (y ∷ x ∷ rest) a)
+        (vals-tail O x rest c)
 
-    all-taking_from : (n : ℕ) (taken : List Value) (act : List Value → List Value → List Change) (vs : List Value) → Vals O taken → Vals O vs → ((xs rest : List Value) → Vals O xs → Vals O rest → P (act xs rest)) → P (taking_from n taken act vs)
+    all-taking_from : (n : ℕ) (taken : List Value) (act : List Value → List Value → List Change) (vs : List Value)
+        → Vals O taken → Vals O vs → ((xs rest : List Value) → Vals O xs → Vals O rest → P (act xs rest))
+        → P (taking_from n taken act vs)
     all-taking_from zero taken act vs t a h = h taken vs t a
     all-taking_from (suc n) taken act [] t a h = none
-    all-taking_from (suc n) taken act (v ∷ vs) t a h = all-taking_from n (v ∷ taken) act vs (vals-cons O v taken (vals-head O v vs a) t) (vals-tail O v vs a) h
+    all-taking_from (suc n) taken act (v ∷ vs) t a h =
+        all-taking_from n (v ∷ taken) act vs (vals-cons O v taken (vals-head O v vs a) t) (vals-tail O v vs a) h
 
-    pub all-taking : (n : ℕ) (act : List Value → List Value → List Change) (vs : List Value) → Vals O vs → ((xs rest : List Value) → Vals O xs → Vals O rest → P (act xs rest)) → P (taking n act vs)
+    pub all-taking : (n : ℕ) (act : List Value → List Value → List Change) (vs : List Value) → Vals O vs
+        → ((xs rest : List Value) → Vals O xs → Vals O rest → P (act xs rest)) → P (taking n act vs)
     all-taking n act vs a h = all-taking_from n [] act vs tt a h
 
-    pub all-at_reference_or : (nil : List Change) (act : ℕ → List Change) (v : Value) → Val O v → P nil → ((o : ℕ) → O o → P (act o)) → P (at_reference_or nil act v)
+    pub all-at_reference_or : (nil : List Change) (act : ℕ → List Change) (v : Value) → Val O v → P nil
+        → ((o : ℕ) → O o → P (act o)) → P (at_reference_or nil act v)
     all-at_reference_or nil act (Value.Int n) a p h = none
     all-at_reference_or nil act (Value.Bool b) a p h = none
     all-at_reference_or nil act (Value.Text k) a p h = none
@@ -84,7 +101,8 @@ module _ (P : List Change → Type 0) (none : P []) where
     abbrev pub Known : Option Object → Type 0
     Known m = (x : Object) → m ≡ Some x → Every O (object_refs x)
 
-    pub all-at_struct : (act : List Value → List Change) (m : Option Object) → Known m → ((fields : List Value) → Vals O fields → P (act fields)) → P (at_struct act m)
+    pub all-at_struct : (act : List Value → List Change) (m : Option Object) → Known m
+        → ((fields : List Value) → Vals O fields → P (act fields)) → P (at_struct act m)
     all-at_struct act None k h = none
     all-at_struct act (Some (Object.Struct fields)) k h = h fields (k (Object.Struct fields) refl)
     all-at_struct act (Some (Object.Slice elements)) k h = none
@@ -94,7 +112,8 @@ module _ (P : List Change → Type 0) (none : P []) where
     all-at_struct act (Some (Object.Rw n)) k h = none
     all-at_struct act (Some (Object.Cond v)) k h = none
 
-    pub all-at_slice : (act : List Value → List Change) (m : Option Object) → Known m → ((elements : List Value) → Vals O elements → P (act elements)) → P (at_slice act m)
+    pub all-at_slice : (act : List Value → List Change) (m : Option Object) → Known m
+        → ((elements : List Value) → Vals O elements → P (act elements)) → P (at_slice act m)
     all-at_slice act None k h = none
     all-at_slice act (Some (Object.Struct fields)) k h = none
     all-at_slice act (Some (Object.Slice elements)) k h = h elements (k (Object.Slice elements) refl)
@@ -104,17 +123,21 @@ module _ (P : List Change → Type 0) (none : P []) where
     all-at_slice act (Some (Object.Rw n)) k h = none
     all-at_slice act (Some (Object.Cond v)) k h = none
 
-    pub all-at_channel : (act : Channel → List Change) (m : Option Object) → Known m → ((c : Channel) → Vals O c.buffer → Val O c.zero → P (act c)) → P (at_channel act m)
+    pub all-at_channel : (act : Channel → List Change) (m : Option Object) → Known m
+        → ((c : Channel) → Vals O c.buffer → Val O c.zero → P (act c)) → P (at_channel act m)
     all-at_channel act None k h = none
     all-at_channel act (Some (Object.Struct fields)) k h = none
     all-at_channel act (Some (Object.Slice elements)) k h = none
-    all-at_channel act (Some (Object.Chan c)) k h = let a = k (Object.Chan c) refl in h c (Every-left O (refs c.buffer) (value_refs c.zero) a) (Every-right O (refs c.buffer) (value_refs c.zero) a)
+    all-at_channel act (Some (Object.Chan c)) k h = let a =
+        k (Object.Chan c) refl in h c (Every-left O (refs c.buffer) (value_refs c.zero) a)
+        (Every-right O (refs c.buffer) (value_refs c.zero) a)
     all-at_channel act (Some (Object.Mutex locked)) k h = none
     all-at_channel act (Some (Object.Group n)) k h = none
     all-at_channel act (Some (Object.Rw n)) k h = none
     all-at_channel act (Some (Object.Cond v)) k h = none
 
-    pub all-at_condition : (act : Value → List Change) (m : Option Object) → Known m → ((v : Value) → Val O v → P (act v)) → P (at_condition act m)
+    pub all-at_condition : (act : Value → List Change) (m : Option Object) → Known m
+        → ((v : Value) → Val O v → P (act v)) → P (at_condition act m)
     all-at_condition act None k h = none
     all-at_condition act (Some (Object.Struct fields)) k h = none
     all-at_condition act (Some (Object.Slice elements)) k h = none
@@ -170,7 +193,12 @@ module _ (O G : ℕ → Type 0) (s : State) (c : Ground s O G) where
       let ws = waits_of w.goroutine.mode in
       let j : G w.number = c.awake w.number w.goroutine o h.entry (wait_for-waited o side ws w.wait h.found) m in
       let e = c.goroutines w.number w.goroutine j h.entry in
-      record { number = j; goroutine = e; value = waits-value O ws w.wait (goroutine-waits O w.goroutine e) (wait_for-in o side ws w.wait h.found) }
+      record {
+        number = j;
+        goroutine = e;
+        value = waits-value O ws w.wait (goroutine-waits O w.goroutine e)
+            (wait_for-in o side ws w.wait h.found);
+      }
 
   pub first-in : (o : ℕ) (side : Side) (w : Waiter) → O o → first o side s.goroutines ≡ Some w → WaiterIn w
   first-in o side w m h = waiter-in o side w m (first-is o side s.goroutines w h)
@@ -187,22 +215,27 @@ module _ (O G : ℕ → Type 0) (a : Actor) (i : ActorIn O G a) where
   good-goes vs h = good-stands (next a.frame vs) (next-in vs h)
 
   pub good-jumps : (target : ℕ) (vs : List Value) → Vals O vs → AllGood O G (jumps a target vs)
-  good-jumps target vs h = good-stands (record a.frame { at = target; operands = vs }) (record { slots = i.frame.slots; operands = h; deferred = i.frame.deferred; leaving = i.frame.leaving })
+  good-jumps target vs h = good-stands (record a.frame { at = target; operands = vs })
+      (record { slots = i.frame.slots; operands = h; deferred = i.frame.deferred; leaving = i.frame.leaving })
 
-  pub good-leaves : (vs : List Value) (m : Option Value) → Vals O vs → ((v : Value) → m ≡ Some v → Val O v) → AllGood O G (leaves a vs m)
+  pub good-leaves : (vs : List Value) (m : Option Value) → Vals O vs → ((v : Value) → m ≡ Some v → Val O v)
+      → AllGood O G (leaves a vs m)
   good-leaves vs None h k = tt
   good-leaves vs (Some v) h k = good-goes (v ∷ vs) (vals-cons O v vs (k v refl) h)
 
   pub good-panics : (kind : PanicKind) → AllGood O G (panics a kind)
-  good-panics kind = good-stands (unwinding (fault kind a.line) a.frame) (unwinding-in O (fault kind a.line) a.frame i.frame)
+  good-panics kind = good-stands (unwinding (fault kind a.line) a.frame)
+      (unwinding-in O (fault kind a.line) a.frame i.frame)
 
   pub good-dies : (kind : PanicKind) → AllGood O G (dies a kind)
   good-dies kind = (tt, tt)
 
-  pub good-blocks : (f : FrameView) (kind : WaitKind) (waits : List Wait) → FrameIn O f → Every O (wait_refs waits) → AllGood O G (blocks a f kind waits)
+  pub good-blocks : (f : FrameView) (kind : WaitKind) (waits : List Wait) → FrameIn O f → Every O (wait_refs waits)
+      → AllGood O G (blocks a f kind waits)
   good-blocks f kind waits h k = ((i.number, frames-cons O f a.callers h i.callers, k), tt)
 
-  pub good-at_reference : (act : ℕ → List Change) (v : Value) → Val O v → ((o : ℕ) → O o → AllGood O G (act o)) → AllGood O G (at_reference a act v)
+  pub good-at_reference : (act : ℕ → List Change) (v : Value) → Val O v → ((o : ℕ) → O o → AllGood O G (act o))
+      → AllGood O G (at_reference a act v)
   good-at_reference act Value.Nil h k = good-panics PanicKind.NilPointer
   good-at_reference act (Value.Ref o) h k = k o.0 h.0
   good-at_reference act _ h k = tt

@@ -34,11 +34,17 @@ module _ (s : State) (n : Numbered s) (gone : List ℕ) (ok : GoneOk s true gone
   abbrev pub Lost : ℕ → Type 0
   Lost o = (g : ℕ) × Gone g × In o (reach s (refs_of_goroutine (find g s.goroutines)))
 
-  refs-of : (g : ℕ) (r : GoroutineView) → Entry s.goroutines g r → refs_of_goroutine (find g s.goroutines) ≡ goroutine_refs r
+  refs-of : (g : ℕ) (r : GoroutineView) → Entry s.goroutines g r
+      → refs_of_goroutine (find g s.goroutines) ≡ goroutine_refs r
   refs-of g r e = ap refs_of_goroutine (find-Entry s.goroutines g r n.goroutines_rise e)
 
   pub lost-refs : (g o : ℕ) (r : GoroutineView) → Gone g → Entry s.goroutines g r → In o (goroutine_refs r) → Lost o
-  lost-refs g o r h e i = (g, h, reach-from s (refs_of_goroutine (find g s.goroutines)) o (subst (λ (xs : List ℕ). In o xs) (sym (refs-of g r e)) i))
+  lost-refs g o r h e i = (
+    g,
+    h,
+    reach-from s (refs_of_goroutine (find g s.goroutines)) o
+        (subst (λ (xs : List ℕ). In o xs) (sym (refs-of g r e)) i),
+  )
 
   pub lost-step : (p o : ℕ) (x : Object) → Lost p → Entry s.objects p x → In o (object_refs x) → Lost o
   lost-step p o x l e i = (l.0, l.1, reach-step s (refs_of_goroutine (find l.0 s.goroutines)) p o x l.2 e i)
@@ -47,19 +53,23 @@ module _ (s : State) (n : Numbered s) (gone : List ℕ) (ok : GoneOk s true gone
   lost-prevents_removal o l = or_parts (has_finaliser s o) (has_object (live_list s) o) (ok.barred l.0 o l.1 l.2)
 
   pub lost-finalised : (o : ℕ) → Lost o → In o (keys s.finalisers) → ⊥
-  lost-finalised o l h = both_ways (has_finaliser s o) (lost-prevents_removal o l).0 (is_in-from o (keys s.finalisers) h)
+  lost-finalised o l h = both_ways (has_finaliser s o) (lost-prevents_removal o l).0
+      (is_in-from o (keys s.finalisers) h)
 
   lost-live : (o : ℕ) → Lost o → Live s (Node.AnObject o) → ⊥
-  lost-live o l h = both_ways (has_object (live_list s) o) (lost-prevents_removal o l).1 (has_object-complete (live_list s) o (live_list-complete s (Node.AnObject o) h))
+  lost-live o l h = both_ways (has_object (live_list s) o) (lost-prevents_removal o l).1
+      (has_object-complete (live_list s) o (live_list-complete s (Node.AnObject o) h))
 
   lost-given : (o : ℕ) → Lost o → o ≤ s.last_object
   lost-given o l =
       let d = ok.dead l.0 l.1 in
       let xs : List ℕ = refs_of_goroutine (find l.0 s.goroutines) in
-      let a : UpTo s.last_object xs = subst (UpTo s.last_object) (sym (refs-of l.0 d.0 d.1)) (goroutine-in s n l.0 d.0 d.1) in
+      let a : UpTo s.last_object xs = subst (UpTo s.last_object) (sym (refs-of l.0 d.0 d.1))
+      (goroutine-in s n l.0 d.0 d.1) in
       Reached-least (λ p. In p xs) (RefersTo s) (λ p. p ≤ s.last_object)
       (λ p i. Every-at (λ q. q ≤ s.last_object) xs p a i)
-      (λ q p h t. Every-at (λ k. k ≤ s.last_object) (object_refs t.0) p (object-in s n q t.0 t.1) t.2) o (reach-sound s xs o l.2)
+      (λ q p h t. Every-at (λ k. k ≤ s.last_object) (object_refs t.0) p (object-in s n q t.0 t.1) t.2) o
+      (reach-sound s xs o l.2)
 
   pub lost-apart : (o : ℕ) → Lost o → Joined s (LiveObject s) o → ⊥
   lost-apart o l (inl (inl h)) = lost-live o l h
@@ -81,12 +91,14 @@ module _ (s : State) (n : Numbered s) (gone : List ℕ) (ok : GoneOk s true gone
     goroutines = λ g r h e. e;
   }
 
-  pub apart-confined : (O G : ℕ → Type 0) (t u : State) → ((g : ℕ) → G g → stays_by gone g ≡ true) → Confined O G t u → Apart O t → Apart O u
+  pub apart-confined : (O G : ℕ → Type 0) (t u : State) → ((g : ℕ) → G g → stays_by gone g ≡ true) → Confined O G t u
+      → Apart O t → Apart O u
   apart-confined O G t u sub f a = record {
     outside = a.outside;
     unfinalised = λ o k l e. a.unfinalised o k l (f.finalisers.back o k (a.outside o l) e);
     objects = λ p x l e. a.objects p x l (f.objects.back p x (a.outside p l) e);
-    goroutines = λ g r h e. a.goroutines g r h (f.goroutines.back g r (λ m. cc (sub g m, ap not (is_in-from g gone h))) e);
+    goroutines = λ g r h e. a.goroutines g r h
+        (f.goroutines.back g r (λ m. cc (sub g m, ap not (is_in-from g gone h))) e);
   }
 
   pub apart-collect : (O : ℕ → Type 0) (t : State) → Apart O t → Apart (Joined t O) (plain_collect t)
@@ -95,7 +107,8 @@ module _ (s : State) (n : Numbered s) (gone : List ℕ) (ok : GoneOk s true gone
       | inl m ↦ a.outside o l m
       | inr q ↦ let r = Entry-keys t.finalisers o q.0 in a.unfinalised o r.0 l r.1
     ];
-    unfinalised = λ o f l e. a.unfinalised o f l (Entry-only (λ p. is_in p (reach t (sources t []))) t.finalisers o f e).1;
+    unfinalised = λ o f l e. a.unfinalised o f l
+        (Entry-only (λ p. is_in p (reach t (sources t []))) t.finalisers o f e).1;
     objects = a.objects;
     goroutines = a.goroutines;
   }

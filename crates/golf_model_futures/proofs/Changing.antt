@@ -67,15 +67,19 @@ pub record Wider (O O' G G' F F' : ℕ → Type 0) : Type 0 where
   pub goroutines : (g : ℕ) → G g → G' g
   pub finalisable : (o : ℕ) → F o → F' o
 
-pub sound-wider : (n : ℕ) (cs : List Change) {O O' G G' F F' : ℕ → Type 0} → Wider O O' G G' F F' → Sound O G F n cs → Sound O' G' F' n cs
+pub sound-wider : (n : ℕ) (cs : List Change) {O O' G G' F F' : ℕ → Type 0} → Wider O O' G G' F F' → Sound O G F n cs
+    → Sound O' G' F' n cs
 sound-wider n [] wider a = tt
 sound-wider n (c ∷ cs) {O} {O'} {G} {G'} {F} {F'} wider a =
-    let later : Wider (objects_after c O n) (objects_after c O' n) G G' (finalisable_after c F) (finalisable_after c F') = record {
+    let later : Wider (objects_after c O n) (objects_after c O' n) G G' (finalisable_after c F)
+    (finalisable_after c F') = record {
       objects = objects-wider O O' G F F' wider.objects wider.finalisable n c;
       goroutines = wider.goroutines;
       finalisable = finalisable-wider O O' G F F' wider.objects wider.finalisable n c;
-    } in
-    (good-wider O O' G G' F F' wider.objects wider.goroutines wider.finalisable c a.0, sound-wider (last_after c n) cs later a.1)
+    } in (
+      good-wider O O' G G' F F' wider.objects wider.goroutines wider.finalisable c a.0,
+      sound-wider (last_after c n) cs later a.1,
+    )
 
 module _ (O G : ℕ → Type 0) where
   -- fresh numbers stay in the set
@@ -95,18 +99,29 @@ module _ (O G : ℕ → Type 0) where
   fresh-after n (Change.WakeAll p how) h o l = h o l
   fresh-after n (Change.PassOn g m) h o l = h o l
 
-  pub rest-sound : (F : ℕ → Type 0) (n : ℕ) (c : Change) (cs : List Change) → ((o : ℕ) → n < o → O o) → Sound (objects_after c O n) G (finalisable_after c F) (last_after c n) cs → Sound O G (finalisable_after c F) (last_after c n) cs
+  pub rest-sound : (F : ℕ → Type 0) (n : ℕ) (c : Change) (cs : List Change) → ((o : ℕ) → n < o → O o)
+      → Sound (objects_after c O n) G (finalisable_after c F) (last_after c n) cs
+      → Sound O G (finalisable_after c F) (last_after c n) cs
   rest-sound F n c cs h a =
-      let wider : Wider (objects_after c O n) O G G (finalisable_after c F) (finalisable_after c F) = record { objects = after-in O G n c (h (n + 1) (omega arith)); goroutines = λ g i. i; finalisable = λ o i. i } in
+      let wider : Wider (objects_after c O n) O G G (finalisable_after c F) (finalisable_after c F) =
+      record {
+        objects = after-in O G n c (h (n + 1) (omega arith));
+        goroutines = λ g i. i;
+        finalisable = λ o i. i;
+      } in
       sound-wider (last_after c n) cs wider a
 
   -- sound changes keep the sets closed, and change nothing outside them
-  pub closed_changes : (F : ℕ → Type 0) (n : ℕ) (cs : List Change) (s : State) → ((o : ℕ) → n < o → O o) → Closed s O G → Sound O G F n cs → Closed (apply_all cs s) O G
+  pub closed_changes : (F : ℕ → Type 0) (n : ℕ) (cs : List Change) (s : State) → ((o : ℕ) → n < o → O o) → Closed s O G
+      → Sound O G F n cs → Closed (apply_all cs s) O G
   closed_changes F n [] s h c a = c
-  closed_changes F n (d ∷ cs) s h c a = closed_changes (finalisable_after d F) (last_after d n) cs (apply d s) (fresh-after n d h) (closed_change O G F s d c a.0) (rest-sound F n d cs h a.1)
+  closed_changes F n (d ∷ cs) s h c a = closed_changes (finalisable_after d F) (last_after d n) cs (apply d s)
+      (fresh-after n d h) (closed_change O G F s d c a.0) (rest-sound F n d cs h a.1)
 
-  pub confined_changes : (F : ℕ → Type 0) (n : ℕ) (cs : List Change) (s : State) → ((o : ℕ) → n < o → O o) → Closed s O G → Sound O G F n cs → Confined O G s (apply_all cs s)
+  pub confined_changes : (F : ℕ → Type 0) (n : ℕ) (cs : List Change) (s : State) → ((o : ℕ) → n < o → O o)
+      → Closed s O G → Sound O G F n cs → Confined O G s (apply_all cs s)
   confined_changes F n [] s h c a = confined-same O G s
   confined_changes F n (d ∷ cs) s h c a =
       confined-then O G s (apply d s) (apply_all cs (apply d s)) (confined_change O G F s d c a.0)
-      (confined_changes (finalisable_after d F) (last_after d n) cs (apply d s) (fresh-after n d h) (closed_change O G F s d c a.0) (rest-sound F n d cs h a.1))
+      (confined_changes (finalisable_after d F) (last_after d n) cs (apply d s) (fresh-after n d h)
+      (closed_change O G F s d c a.0) (rest-sound F n d cs h a.1))

@@ -1,7 +1,8 @@
 -- A change of a state that is cut down is that change cut down.
 -- For: `cut`, golf_model/specs/Collecting.antt; `KeepsFresh`, specs/Cutting.antt
 -- By: cases of the change, then induction over the list of changes
-use Rattle.std.proofs.Common.{◌≡◌, ℕ, ◌+◌, ◌<◌, ◌≤◌, Bool, true, false, not, List, [], ◌∷◌, Option, Some, None, refl, sym, ap, ◌∙◌, arith, ◌==◌}
+use Rattle.std.proofs.Common.{◌≡◌, ℕ, ◌+◌, ◌<◌, ◌≤◌, Bool, true, false, not, List, [], ◌∷◌, Option, Some, None, refl}
+use Rattle.std.proofs.Common.{sym, ap, ◌∙◌, arith, ◌==◌}
 use Rattle.golf_theory.specs.Maps.{find, only}
 use Rattle.golf_theory.proofs.MapCuts.{only-put, only-add, only-swap, only-map_values}
 use Rattle.golf_theory.proofs.MapFinds.{find-only}
@@ -28,44 +29,57 @@ module _ (stays kept : ℕ → Bool) where
   abbrev pub Stays : ℕ → Type 0
   Stays g = stays g ≡ true
 
-  cut-pass_on_by : (s : State) (g m : ℕ) (locked : Bool) (r : GoroutineView) → pass_on_by locked g m r (cut stays kept s) ≡ cut stays kept (pass_on_by locked g m r s)
-  cut-pass_on_by s g m false r = parts s _ _ _ _ (sym (only-put kept m (Object.Mutex true) s.objects)) (sym (only-put stays g (released r) s.goroutines))
+  cut-pass_on_by : (s : State) (g m : ℕ) (locked : Bool) (r : GoroutineView)
+      → pass_on_by locked g m r (cut stays kept s) ≡ cut stays kept (pass_on_by locked g m r s)
+  cut-pass_on_by s g m false r = parts s _ _ _ _ (sym (only-put kept m (Object.Mutex true) s.objects))
+      (sym (only-put stays g (released r) s.goroutines))
   cut-pass_on_by s g m true r =
       let q : GoroutineView = record r { mode = moved m s.next_ticket r.mode } in
       parts (record s { next_ticket = s.next_ticket + 1 }) _ _ _ _ refl (sym (only-put stays g q s.goroutines))
 
-  cut-pass_on_at : (s : State) (g m : ℕ) (x : Object) (r : GoroutineView) → pass_on_at x g m r (cut stays kept s) ≡ cut stays kept (pass_on_at x g m r s)
+  cut-pass_on_at : (s : State) (g m : ℕ) (x : Object) (r : GoroutineView)
+      → pass_on_at x g m r (cut stays kept s) ≡ cut stays kept (pass_on_at x g m r s)
   cut-pass_on_at s g m (Object.Mutex locked) r = cut-pass_on_by s g m locked r
   cut-pass_on_at s g m _ r = refl
 
-  cut-pass_on : (s : State) (g m : ℕ) (r : Option GoroutineView) (x : Option Object) → pass_on g m r x (cut stays kept s) ≡ cut stays kept (pass_on g m r x s)
+  cut-pass_on : (s : State) (g m : ℕ) (r : Option GoroutineView) (x : Option Object)
+      → pass_on g m r x (cut stays kept s) ≡ cut stays kept (pass_on g m r x s)
   cut-pass_on s g m None x = refl
   cut-pass_on s g m (Some r) None = refl
   cut-pass_on s g m (Some r) (Some x) = cut-pass_on_at s g m x r
 
   -- once for each kind of change
-  pub cut_change : (F : ℕ → Type 0) (s : State) (c : Change) → KeepsFresh stays kept s → Good Kept Stays F c → apply c (cut stays kept s) ≡ cut stays kept (apply c s)
-  cut_change F s (Change.Make x) f a = parts (make x s) _ _ _ _ (sym (only-add kept (s.last_object + 1) x s.objects (f.objects (s.last_object + 1) (omega arith)))) refl
+  pub cut_change : (F : ℕ → Type 0) (s : State) (c : Change) → KeepsFresh stays kept s → Good Kept Stays F c
+      → apply c (cut stays kept s) ≡ cut stays kept (apply c s)
+  cut_change F s (Change.Make x) f a = parts (make x s) _ _ _ _
+      (sym (only-add kept (s.last_object + 1) x s.objects (f.objects (s.last_object + 1) (omega arith)))) refl
   cut_change F s (Change.Replace p x) f a = parts s _ _ _ _ (sym (only-put kept p x s.objects)) refl
   cut_change F s (Change.Become g r) f a = parts s _ _ _ _ refl (sym (only-put stays g r s.goroutines))
   cut_change F s (Change.Block g kind line waits r) f a =
       let q : GoroutineView = record r { mode = Mode.Blocked kind line waits s.next_ticket } in
       parts (record s { next_ticket = s.next_ticket + 1 }) _ _ _ _ refl (sym (only-put stays g q s.goroutines))
-  cut_change F s (Change.Spawn r) f a = parts (spawn r s) _ _ _ _ refl (sym (only-add stays s.next_goroutine r s.goroutines (f.goroutines s.next_goroutine (omega arith))))
+  cut_change F s (Change.Spawn r) f a = parts (spawn r s) _ _ _ _ refl
+      (sym (only-add stays s.next_goroutine r s.goroutines (f.goroutines s.next_goroutine (omega arith))))
   cut_change F s (Change.Leave g) f a = parts s _ _ _ _ refl (only-swap (λ h. not (h == g)) stays s.goroutines)
-  cut_change F s (Change.WakeAll o how) f a = parts s _ _ _ _ refl (sym (only-map_values (λ g. woken_by how o) stays s.goroutines))
+  cut_change F s (Change.WakeAll o how) f a =
+      parts s _ _ _ _ refl (sym (only-map_values (λ g. woken_by how o) stays s.goroutines))
   cut_change F s (Change.PassOn g m) f a =
-      ap (λ (r : Option GoroutineView). pass_on g m r (find m (only kept s.objects)) (cut stays kept s)) (find-only stays s.goroutines g a.0)
-      ∙ ap (λ (x : Option Object). pass_on g m (find g s.goroutines) x (cut stays kept s)) (find-only kept s.objects m a.1)
+      ap (λ (r : Option GoroutineView). pass_on g m r (find m (only kept s.objects)) (cut stays kept s))
+      (find-only stays s.goroutines g a.0)
+      ∙ ap (λ (x : Option Object). pass_on g m (find g s.goroutines) x (cut stays kept s))
+      (find-only kept s.objects m a.1)
       ∙ cut-pass_on s g m (find g s.goroutines) (find m s.objects)
   cut_change F s _ f a = refl
 
 -- numbers are given in rising order
-grows-by : (s : State) (g m : ℕ) (locked : Bool) (r : GoroutineView) → (s.last_object ≤ (pass_on_by locked g m r s).last_object) × (s.next_goroutine ≤ (pass_on_by locked g m r s).next_goroutine)
+grows-by : (s : State) (g m : ℕ) (locked : Bool) (r : GoroutineView)
+    → (s.last_object ≤ (pass_on_by locked g m r s).last_object)
+    × (s.next_goroutine ≤ (pass_on_by locked g m r s).next_goroutine)
 grows-by s g m true r = (omega arith, omega arith)
 grows-by s g m false r = (omega arith, omega arith)
 
-grows-at : (s : State) (g m : ℕ) (x : Object) (r : GoroutineView) → (s.last_object ≤ (pass_on_at x g m r s).last_object) × (s.next_goroutine ≤ (pass_on_at x g m r s).next_goroutine)
+grows-at : (s : State) (g m : ℕ) (x : Object) (r : GoroutineView) → (s.last_object ≤ (pass_on_at x g m r s).last_object)
+    × (s.next_goroutine ≤ (pass_on_at x g m r s).next_goroutine)
 grows-at s g m (Object.Struct fields) r = (omega arith, omega arith)
 grows-at s g m (Object.Slice elements) r = (omega arith, omega arith)
 grows-at s g m (Object.Chan d) r = (omega arith, omega arith)
@@ -74,12 +88,14 @@ grows-at s g m (Object.Group k) r = (omega arith, omega arith)
 grows-at s g m (Object.Rw k) r = (omega arith, omega arith)
 grows-at s g m (Object.Cond v) r = (omega arith, omega arith)
 
-grows-pass_on : (s : State) (g m : ℕ) (r : Option GoroutineView) (x : Option Object) → (s.last_object ≤ (pass_on g m r x s).last_object) × (s.next_goroutine ≤ (pass_on g m r x s).next_goroutine)
+grows-pass_on : (s : State) (g m : ℕ) (r : Option GoroutineView) (x : Option Object)
+    → (s.last_object ≤ (pass_on g m r x s).last_object) × (s.next_goroutine ≤ (pass_on g m r x s).next_goroutine)
 grows-pass_on s g m None x = (omega arith, omega arith)
 grows-pass_on s g m (Some r) None = (omega arith, omega arith)
 grows-pass_on s g m (Some r) (Some x) = grows-at s g m x r
 
-pub grows : (s : State) (c : Change) → (s.last_object ≤ (apply c s).last_object) × (s.next_goroutine ≤ (apply c s).next_goroutine)
+pub grows : (s : State) (c : Change) → (s.last_object ≤ (apply c s).last_object)
+    × (s.next_goroutine ≤ (apply c s).next_goroutine)
 grows s (Change.Make x) = (omega arith, omega arith)
 grows s (Change.Replace p y) = (omega arith, omega arith)
 grows s (Change.SetGlobal k v) = (omega arith, omega arith)
@@ -102,13 +118,18 @@ module _ (stays kept : ℕ → Bool) where
     goroutines = λ g l. f.goroutines g (let h = (grows s c).1 in omega arith);
   }
 
-  pub keeps_fresh-all : (cs : List Change) (s : State) → KeepsFresh stays kept s → KeepsFresh stays kept (apply_all cs s)
+  pub keeps_fresh-all : (cs : List Change) (s : State) → KeepsFresh stays kept s
+      → KeepsFresh stays kept (apply_all cs s)
   keeps_fresh-all [] s f = f
   keeps_fresh-all (c ∷ cs) s f = keeps_fresh-all cs (apply c s) (keeps_fresh s c f)
 
   -- sound changes of the cut state are those changes cut
-  pub cut_changes : (F : ℕ → Type 0) (n : ℕ) (cs : List Change) (s : State) → ((o : ℕ) → n < o → Kept stays kept o) → KeepsFresh stays kept s → Sound (Kept stays kept) (Stays stays kept) F n cs → apply_all cs (cut stays kept s) ≡ cut stays kept (apply_all cs s)
+  pub cut_changes : (F : ℕ → Type 0) (n : ℕ) (cs : List Change) (s : State) → ((o : ℕ) → n < o → Kept stays kept o)
+      → KeepsFresh stays kept s → Sound (Kept stays kept) (Stays stays kept) F n cs
+      → apply_all cs (cut stays kept s) ≡ cut stays kept (apply_all cs s)
   cut_changes F n [] s h f a = refl
   cut_changes F n (c ∷ cs) s h f a =
       ap (apply_all cs) (cut_change stays kept F s c f a.0)
-      ∙ cut_changes (finalisable_after c F) (last_after c n) cs (apply c s) (fresh-after (Kept stays kept) (Stays stays kept) n c h) (keeps_fresh s c f) (rest-sound (Kept stays kept) (Stays stays kept) F n c cs h a.1)
+      ∙ cut_changes (finalisable_after c F) (last_after c n) cs (apply c s)
+      (fresh-after (Kept stays kept) (Stays stays kept) n c h) (keeps_fresh s c f)
+      (rest-sound (Kept stays kept) (Stays stays kept) F n c cs h a.1)

@@ -44,9 +44,11 @@ module _ (s : State) (n : Numbered s) where
   pub goroutine-given : (g : ℕ) (r : GoroutineView) → Entry s.goroutines g r → g < s.next_goroutine
   goroutine-given g r e = Entry-below s.next_goroutine s.goroutines g r n.goroutines_below e
 
-  waited-given : (g : ℕ) (r : GoroutineView) (o : ℕ) → Entry s.goroutines g r → In o (waited (waits_of r.mode)) → o ≤ s.last_object
+  waited-given : (g : ℕ) (r : GoroutineView) (o : ℕ) → Entry s.goroutines g r → In o (waited (waits_of r.mode))
+      → o ≤ s.last_object
   waited-given g r o e w =
-      let a : UpTo s.last_object (goroutine_refs r) = Entry-Every (λ h q. UpTo s.last_object (goroutine_refs q)) s.goroutines n.in_goroutines g r e in
+      let a : UpTo s.last_object (goroutine_refs r) =
+      Entry-Every (λ h q. UpTo s.last_object (goroutine_refs q)) s.goroutines n.in_goroutines g r e in
       waits-object (λ p. p ≤ s.last_object) (waits_of r.mode) o (goroutine-waits (λ p. p ≤ s.last_object) r a) w
 
   -- the live set, with all numbers that are not given yet, is closed
@@ -54,13 +56,15 @@ module _ (s : State) (n : Numbered s) where
   closed-live = record {
     globals = each (refs s.globals) (λ o h. root (Node.AnObject o) (LiveRoot.Global o h));
     queue = each (queue_refs s.queue) (λ o h. root (Node.AnObject o) (LiveRoot.InQueue o h));
-    finalised = λ p f x i e. each (object_refs x) (λ o h. root (Node.AnObject o) (LiveRoot.InFinalised o p x (In-keys s.finalisers p f i) e h));
+    finalised = λ p f x i e. each (object_refs x)
+        (λ o h. root (Node.AnObject o) (LiveRoot.InFinalised o p x (In-keys s.finalisers p f i) e h));
     objects = λ p x i e. elim i [
       | inl a ↦ each (object_refs x) (λ o h. next (Node.AnObject p) (Node.AnObject o) a (LiveStep.InObject p o x e h))
       | inr a ↦ absurd (let b = object-given p x e in omega arith)
     ];
     goroutines = λ g r i e. elim i [
-      | inl a ↦ each (goroutine_refs r) (λ o h. next (Node.AGoroutine g) (Node.AnObject o) a (LiveStep.InGoroutine g o r e h))
+      | inl a ↦ each (goroutine_refs r) (λ o h. next (Node.AGoroutine g) (Node.AnObject o) a
+          (LiveStep.InGoroutine g o r e h))
       | inr a ↦ absurd (let b = goroutine-given g r e in omega arith)
     ];
     running = λ g r e t. inl (root (Node.AGoroutine g) (LiveRoot.Running g r e t));

@@ -8,9 +8,11 @@ use Rattle.golf_model.specs.Values.{value_refs}
 use Rattle.golf_model.specs.Waking.{Waking}
 use Rattle.golf_model.specs.Changes.{Change}
 use Rattle.golf_model.specs.Refs.{object_refs, frames_refs, wait_refs, goroutine_refs}
-use Rattle.golf_model_futures.specs.Invariant.{Good, GoodWaking, AllGood, Nothing, Sound, objects_after, last_after, finalisable_after}
+use Rattle.golf_model_futures.specs.Invariant.{Good, GoodWaking, AllGood, Nothing, Sound, objects_after, last_after}
+use Rattle.golf_model_futures.specs.Invariant.{finalisable_after}
 
-module _ (O O' G G' F F' : ℕ → Type 0) (o : (x : ℕ) → O x → O' x) (g : (x : ℕ) → G x → G' x) (f : (x : ℕ) → F x → F' x) where
+module _ (O O' G G' F F' : ℕ → Type 0) (o : (x : ℕ) → O x → O' x) (g : (x : ℕ) → G x → G' x)
+    (f : (x : ℕ) → F x → F' x) where
   wider : (xs : List ℕ) → Every O xs → Every O' xs
   wider xs a = Every-weaker O O' o xs a
 
@@ -25,7 +27,8 @@ module _ (O O' G G' F F' : ℕ → Type 0) (o : (x : ℕ) → O x → O' x) (g :
   good-wider (Change.Replace p x) a = (o p a.0, wider (object_refs x) a.1)
   good-wider (Change.SetGlobal i v) a = wider (value_refs v) a
   good-wider (Change.Become h r) a = (g h a.0, wider (goroutine_refs r) a.1)
-  good-wider (Change.Block h kind line waits r) a = (g h a.0, wider (frames_refs r.frames) a.1, wider (wait_refs waits) a.2)
+  good-wider (Change.Block h kind line waits r) a =
+      (g h a.0, wider (frames_refs r.frames) a.1, wider (wait_refs waits) a.2)
   good-wider (Change.Spawn r) a = wider (goroutine_refs r) a
   good-wider (Change.Leave h) a = g h a
   good-wider (Change.Finish e) a = tt
@@ -36,7 +39,8 @@ module _ (O O' G G' F F' : ℕ → Type 0) (o : (x : ℕ) → O x → O' x) (g :
   good-wider (Change.WakeAll p how) a = (o p a.0, waking-wider how a.1)
   good-wider (Change.PassOn h m) a = (g h a.0, o m a.1)
 
-pub all_good-append : (O G : ℕ → Type 0) (cs ds : List Change) → AllGood O G cs → AllGood O G ds → AllGood O G (cs ++ ds)
+pub all_good-append : (O G : ℕ → Type 0) (cs ds : List Change) → AllGood O G cs → AllGood O G ds
+    → AllGood O G (cs ++ ds)
 all_good-append O G [] ds a b = b
 all_good-append O G (c ∷ cs) ds a b = (a.0, all_good-append O G cs ds a.1 b)
 
@@ -66,4 +70,5 @@ good-sound O G F n (c ∷ cs) a = (
 )
   where
     all-wider : (O O' G : ℕ → Type 0) (cs : List Change) → ((x : ℕ) → O x → O' x) → AllGood O G cs → AllGood O' G cs
-    all-wider O O' G cs o a = Every-weaker (Good O G Nothing) (Good O' G Nothing) (good-wider O O' G G Nothing Nothing o (λ x h. h) (λ x h. h)) cs a
+    all-wider O O' G cs o a = Every-weaker (Good O G Nothing) (Good O' G Nothing)
+        (good-wider O O' G G Nothing Nothing o (λ x h. h) (λ x h. h)) cs a

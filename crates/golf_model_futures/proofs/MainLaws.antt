@@ -5,7 +5,10 @@ use Rattle.golf_model_futures.specs.Invariant.{Nothing, Unfinalised}
 use Rattle.golf_model_futures.specs.Cutting.{Passes}
 use Rattle.golf_model_futures.proofs.Presence.{references-present, stops-whole}
 use Rattle.golf_model_futures.proofs.Printing.{run-prefixed}
-use Rattle.golf_model_futures.specs.Laws.{DeadAreStill, LeadsNumber, LiveIsClosed, ChangesKeep, InstructionsMoveMembers, InstructionsSame, CollectionsKeep, TurnsKeep, TurnsCut, RecoveryUnseen, ReportedAreStill, RealRunsAgree, BookTellsOfEach, ReferencesPresent, PrintingApart}
+use Rattle.golf_model_futures.specs.Laws.{DeadAreStill, LeadsNumber, LiveIsClosed, ChangesKeep, InstructionsMoveMembers}
+use Rattle.golf_model_futures.specs.Laws.{InstructionsSame, CollectionsKeep, TurnsKeep, TurnsCut, RecoveryUnseen}
+use Rattle.golf_model_futures.specs.Laws.{ReportedAreStill, RealRunsAgree, BookTellsOfEach, ReferencesPresent}
+use Rattle.golf_model_futures.specs.Laws.{PrintingApart}
 use Rattle.golf_model_futures.proofs.Closing.{closed_change, closed-ground}
 use Rattle.golf_model_futures.proofs.Confining.{confined_change}
 use Rattle.golf_model_futures.proofs.GoodTurn.{sound_changes}
@@ -30,19 +33,29 @@ pub live_is_closed : LiveIsClosed
 live_is_closed s n = closed-live s n
 
 pub changes_keep : ChangesKeep
-changes_keep s c kept stays h a = (closed_change (Passes kept) (Passes stays) Nothing s c h a, confined_change (Passes kept) (Passes stays) Nothing s c h a)
+changes_keep s c kept stays h a = (
+  closed_change (Passes kept) (Passes stays) Nothing s c h a,
+  confined_change (Passes kept) (Passes stays) Nothing s c h a,
+)
 
 pub instructions_move_members : InstructionsMoveMembers
-instructions_move_members code s kept stays h a i k choice = sound_changes (Passes kept) (Passes stays) (Unfinalised s) code s (closed-ground (Passes kept) (Passes stays) s h) a i k choice (λ t o u. u)
+instructions_move_members code s kept stays h a i k choice =
+    sound_changes (Passes kept) (Passes stays) (Unfinalised s) code s
+    (closed-ground (Passes kept) (Passes stays) s h) a i k choice (λ t o u. u)
 
 pub instructions_same : InstructionsSame
-instructions_same code s kept stays h a i k choice = same_changes stays kept (Passes kept) (Passes stays) s (closed-ground (Passes kept) (Passes stays) s h) (λ o m. m) (λ g m. m) a i code k choice
+instructions_same code s kept stays h a i k choice =
+    same_changes stays kept (Passes kept) (Passes stays) s (closed-ground (Passes kept) (Passes stays) s h) (λ o m. m)
+    (λ g m. m) a i code k choice
 
 pub collections_keep : CollectionsKeep
 collections_keep s kept stays h = closed-collect (Passes kept) (Passes stays) s h
 
 pub turns_keep : TurnsKeep
-turns_keep code s k kept stays h = (step-closed code (Passes stays) (Passes kept) s h k, step-confined code (Passes stays) (Passes kept) s h k)
+turns_keep code s k kept stays h = (
+  step-closed code (Passes stays) (Passes kept) s h k,
+  step-confined code (Passes stays) (Passes kept) s h k,
+)
 
 pub turns_cut : TurnsCut
 turns_cut code s k kept stays h f = cut_step stays kept (Passes kept) (Passes stays) s h (λ o m. m) (λ g m. m) code k f

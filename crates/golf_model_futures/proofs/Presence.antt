@@ -1,7 +1,8 @@
 -- In every state of a plain run each reference is one to an object that is there.
 -- For: `references_are_present`, src/lib.rt; `IsWhole`, golf_model/specs/Presence.antt
 -- By: cases of the change, then induction over the list of changes
-use Rattle.std.proofs.Common.{◌≡◌, ℕ, ◌+◌, ◌<◌, ◌≤◌, ◌/◌, Bool, true, false, List, [], ◌∷◌, ◌++◌, length, Option, Some, None, ◌⊎◌, inl, inr, refl, sym, subst, arith}
+use Rattle.std.proofs.Common.{◌≡◌, ℕ, ◌+◌, ◌<◌, ◌≤◌, ◌/◌, Bool, true, false, List, [], ◌∷◌, ◌++◌, length, Option, Some}
+use Rattle.std.proofs.Common.{None, ◌⊎◌, inl, inr, refl, sym, subst, arith}
 use Rattle.std.specs.Prelude.{option_to_list}
 use Rattle.std.proofs.lemmas.Bool.{cases_lt}
 use Rattle.golf_theory.specs.Membership.{In, Every}
@@ -76,7 +77,12 @@ module _ (s : State) (x : Object) where
   here-made : SameHere s made
   here-made = record {
     on = λ o h. elim h [ inl i ↦ old-here o i | inr m ↦ fresh-here o m (cases_lt (s.last_object + 1) o) ];
-    back = λ o h. elim h [ inl i ↦ was-here o (In-cases o (keys s.objects) ((s.last_object + 1) ∷ []) (subst (In o) grown i)) | inr m ↦ inr (omega (arith, m)) ];
+    back = λ o h. elim h [
+      | inl i ↦ was-here o
+          (In-cases o (keys s.objects) ((s.last_object + 1) ∷ []) (subst (In o) grown i))
+      | inr m ↦ inr
+          (omega (arith, m))
+    ];
   }
 
 -- passing on makes nothing
@@ -136,7 +142,13 @@ whole-flows s w = record {
 }
 
 whole-ground : (s : State) → Flow (Here s) All s → Ground s (Here s) All
-whole-ground s f = record { globals = f.globals; queue = f.queue; objects = f.objects; goroutines = f.goroutines; awake = λ g r o e i h. tt }
+whole-ground s f = record {
+  globals = f.globals;
+  queue = f.queue;
+  objects = f.objects;
+  goroutines = f.goroutines;
+  awake = λ g r o e i h. tt;
+}
 
 -- a number that was given is there
 module _ (s t : State) (n : Numbered t) (same : SameHere s t) where
@@ -144,13 +156,15 @@ module _ (s t : State) (n : Numbered t) (same : SameHere s t) where
   given-here o h b = elim (same.on o h) [ inl i ↦ i | inr m ↦ absurd (omega (arith, m, b)) ]
 
   all-here : (os : List ℕ) → Every (Here s) os → UpTo t.last_object os → Every (Present t) os
-  all-here os here up = Every-from (Present t) os (λ o i. given-here o (Every-at (Here s) os o here i) (Every-at (λ p. p ≤ t.last_object) os o up i))
+  all-here os here up = Every-from (Present t) os
+      (λ o i. given-here o (Every-at (Here s) os o here i) (Every-at (λ p. p ≤ t.last_object) os o up i))
 
   pub flow-whole : Flow (Here s) All t → IsWhole t
   flow-whole f = record {
     globals = all-here _ f.globals n.globals;
     queue = all-here _ f.queue n.queue;
-    finalised = λ o k e. given-here o (f.finalised o k e) (let b = Entry-below (t.last_object + 1) t.finalisers o k n.finalisers_below e in omega (arith, b));
+    finalised = λ o k e. given-here o (f.finalised o k e)
+        (let b = Entry-below (t.last_object + 1) t.finalisers o k n.finalisers_below e in omega (arith, b));
     objects = λ o x e. all-here _ (f.objects o x (same.back o (inl (In-keys t.objects o x e))) e) (object-in t n o x e);
     goroutines = λ g r e. all-here _ (f.goroutines g r tt e) (goroutine-in t n g r e);
   }
@@ -162,16 +176,22 @@ whole-step code s k n w =
     let t : State = turned code s k in
     let ds : List Change = cleared_after code s k in
     let v = flow_changes (Here s) All All s.last_object cs s (λ o m. inr m) f
-    (sound_turn (Here s) All All code s (whole-ground s f) (λ g at l is t o h. tt) (k / length (runnable s)) (whose_turn s k) (λ g h. tt)) in
-    flow-whole s (step code s k) (numbered-step code s k n) (here-then s t (step code s k) (here-changes cs s) (here-changes ds t))
+    (sound_turn (Here s) All All code s (whole-ground s f) (λ g at l is t o h. tt) (k / length (runnable s))
+    (whose_turn s k) (λ g h. tt)) in
+    flow-whole s (step code s k) (numbered-step code s k n)
+    (here-then s t (step code s k) (here-changes cs s) (here-changes ds t))
     (flow_changes (Here s) All All t.last_object ds t v.new_objects v
-    (good-sound (Here s) All All t.last_object ds (good-clearing (Here s) All code (clears_nothing code s k) (whose_turn s k) t (λ g r i e j. (tt, v.goroutines g r tt (Entry-find g t.goroutines r e))))))
+    (good-sound (Here s) All All t.last_object ds
+    (good-clearing (Here s) All code (clears_nothing code s k) (whose_turn s k) t
+    (λ g r i e j. (tt, v.goroutines g r tt (Entry-find g t.goroutines r e))))))
 
 pub whole-collect : (s : State) → Numbered s → IsWhole s → IsWhole (plain_collect s)
-whole-collect s n w = flow-whole s (plain_collect s) (numbered-collect s n) (here-same s (plain_collect s) refl refl) (flow-collect (Here s) All s (whole-flows s w))
+whole-collect s n w = flow-whole s (plain_collect s) (numbered-collect s n) (here-same s (plain_collect s) refl refl)
+    (flow-collect (Here s) All s (whole-flows s w))
 
 -- the opening state
-first-frames : (P : ℕ → Type 0) (code : Code) (m : Option FrameView) → call_frame code 0 [] true ≡ m → Every P (frames_refs (option_to_list m))
+first-frames : (P : ℕ → Type 0) (code : Code) (m : Option FrameView) → call_frame code 0 [] true ≡ m
+    → Every P (frames_refs (option_to_list m))
 first-frames P code None h = tt
 first-frames P code (Some f) h = frames-cons P f [] (call_frame-in P code 0 [] true f tt h) tt
 
@@ -183,8 +203,14 @@ whole-start code =
       queue = tt;
       finalised = λ o f e. absurd e;
       objects = λ o x e. absurd e;
-      goroutines = Entry-Every (λ g r. Every P (goroutine_refs r)) (start code).goroutines
-          (tt, (Every-append P (frames_refs (option_to_list (call_frame code 0 [] true))) [] (first-frames P code (call_frame code 0 [] true) refl) tt, tt));
+      goroutines = Entry-Every (λ g r. Every P (goroutine_refs r)) (start code).goroutines (
+        tt,
+        (
+          Every-append P (frames_refs (option_to_list (call_frame code 0 [] true))) []
+              (first-frames P code (call_frame code 0 [] true) refl) tt,
+          tt,
+        ),
+      );
     }
 
 -- numbers in order, and every reference to an object that is there
@@ -196,7 +222,10 @@ pub sane-start : (code : Code) → Sane (start code)
 sane-start code = record { numbered = numbered-start code; whole = whole-start code }
 
 pub sane-step : (code : Code) (s : State) (k : ℕ) → Sane s → Sane (step code s k)
-sane-step code s k h = record { numbered = numbered-step code s k h.numbered; whole = whole-step code s k h.numbered h.whole }
+sane-step code s k h = record {
+  numbered = numbered-step code s k h.numbered;
+  whole = whole-step code s k h.numbered h.whole;
+}
 
 sane-collect : (s : State) → Sane s → Sane (plain_collect s)
 sane-collect s h = record { numbered = numbered-collect s h.numbered; whole = whole-collect s h.numbered h.whole }
@@ -208,4 +237,5 @@ pub references-present : (code : Code) (events : List Event) → IsWhole (run co
 references-present code events = (sane-run code events (start code) (sane-start code)).whole
 
 pub stops-whole : (code : Code) (events : List Event) (p : State) → In p (stops code events) → IsWhole p
-stops-whole code events p i = (stops-kept code Sane (sane-step code) sane-collect events (start code) p (sane-start code) i).whole
+stops-whole code events p i = (stops-kept code Sane (sane-step code) sane-collect events (start code) p
+    (sane-start code) i).whole

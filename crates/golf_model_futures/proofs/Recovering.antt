@@ -13,7 +13,9 @@ use Rattle.golf_model_futures.proofs.Removing.{removed-ok, collect-cut, kept_by}
 use Rattle.golf_model_futures.proofs.SameFutures.{same-futures}
 
 -- after a collection the state without what it took has the futures of the whole one
-pub recovery-unseen : (code : Code) (s : State) (recover : Bool) (events : List Event) → Leads code s → futures code (real_collect s recover (sets_finalisers code)) events (removed s recover (sets_finalisers code)) ≡ futures code (plain_collect s) events (removed s recover (sets_finalisers code))
+pub recovery-unseen : (code : Code) (s : State) (recover : Bool) (events : List Event) → Leads code s
+    → futures code (real_collect s recover (sets_finalisers code)) events (removed s recover (sets_finalisers code))
+    ≡ futures code (plain_collect s) events (removed s recover (sets_finalisers code))
 recovery-unseen code s recover events l =
     let n = leads-numbered code s l in
     let gone : List ℕ = removed s recover (sets_finalisers code) in

@@ -1,7 +1,8 @@
 -- What values, lists of values, frames and goroutines refer to.
 -- For: `refs`, golf_model/specs/Values.antt; `frame_refs`, `goroutine_refs`, golf_model/specs/Refs.antt
 -- By: induction over the list of values and over the list of waits
-use Rattle.std.proofs.Common.{◌≡◌, ℕ, zero, suc, ◌+◌, Bool, true, false, cond, List, [], ◌∷◌, ◌++◌, Some, inl, inr, sym, subst, slice_get, slice_set}
+use Rattle.std.proofs.Common.{◌≡◌, ℕ, zero, suc, ◌+◌, Bool, true, false, cond, List, [], ◌∷◌, ◌++◌, Some, inl, inr, sym}
+use Rattle.std.proofs.Common.{subst, slice_get, slice_set}
 use Rattle.std.specs.Prelude.{replicate, pos}
 use Rattle.golf_theory.specs.Membership.{In, Every}
 use Rattle.golf_theory.proofs.Lists.{Every-append, Every-left, Every-right}
@@ -38,7 +39,8 @@ module _ (O : ℕ → Type 0) where
   pub vals-set : (vs : List Value) (i : ℕ) (v : Value) → Val v → Vals vs → Vals (slice_set vs i v)
   vals-set [] i v a b = tt
   vals-set (w ∷ ws) zero v a b = vals-cons v ws a (vals-tail w ws b)
-  vals-set (w ∷ ws) (suc i) v a b = vals-cons w (slice_set ws i v) (vals-head w ws b) (vals-set ws i v a (vals-tail w ws b))
+  vals-set (w ∷ ws) (suc i) v a b = vals-cons w (slice_set ws i v) (vals-head w ws b)
+      (vals-set ws i v a (vals-tail w ws b))
 
   pub vals-get : (vs : List Value) (i : ℕ) (v : Value) → Vals vs → slice_get vs i ≡ Some v → Val v
   vals-get [] i v a h = cc
@@ -51,7 +53,8 @@ module _ (O : ℕ → Type 0) where
 
   pub vals-cleared : (test : ℕ → Bool) (i : ℕ) (vs : List Value) → Vals vs → Vals (cleared_from test i vs)
   vals-cleared test i [] a = tt
-  vals-cleared test i (v ∷ vs) a = vals-cons (cond (test i) v (Value.Int (pos 0))) (cleared_from test (i + 1) vs) (chosen (test i)) (vals-cleared test (i + 1) vs (vals-tail v vs a))
+  vals-cleared test i (v ∷ vs) a = vals-cons (cond (test i) v (Value.Int (pos 0))) (cleared_from test (i + 1) vs)
+      (chosen (test i)) (vals-cleared test (i + 1) vs (vals-tail v vs a))
     where
       chosen : (b : Bool) → Val (cond b v (Value.Int (pos 0)))
       chosen true = vals-head v vs a
@@ -61,12 +64,20 @@ module _ (O : ℕ → Type 0) where
   frame-in f a =
       let b = Every-right O (refs f.slots) _ a in
       let c = Every-right O (refs f.operands) _ b in
-      record { slots = Every-left O (refs f.slots) _ a; operands = Every-left O (refs f.operands) _ b; deferred = Every-left O (deferred_refs f.deferred) _ c; leaving = Every-right O (deferred_refs f.deferred) _ c }
+      record {
+        slots = Every-left O (refs f.slots) _ a;
+        operands = Every-left O (refs f.operands) _ b;
+        deferred = Every-left O (deferred_refs f.deferred) _ c;
+        leaving =
+            Every-right O (deferred_refs f.deferred) _ c;
+      }
 
   pub frame-refs : (f : FrameView) → FrameIn O f → Every O (frame_refs f)
-  frame-refs f a = Every-append O (refs f.slots) _ a.slots (Every-append O (refs f.operands) _ a.operands (Every-append O (deferred_refs f.deferred) _ a.deferred a.leaving))
+  frame-refs f a = Every-append O (refs f.slots) _ a.slots
+      (Every-append O (refs f.operands) _ a.operands (Every-append O (deferred_refs f.deferred) _ a.deferred a.leaving))
 
-  pub frames-cons : (f : FrameView) (fs : List FrameView) → FrameIn O f → Every O (frames_refs fs) → Every O (frames_refs (f ∷ fs))
+  pub frames-cons : (f : FrameView) (fs : List FrameView) → FrameIn O f → Every O (frames_refs fs)
+      → Every O (frames_refs (f ∷ fs))
   frames-cons f fs a b = Every-append O (frame_refs f) (frames_refs fs) (frame-refs f a) b
 
   pub frames-head : (f : FrameView) (fs : List FrameView) → Every O (frames_refs (f ∷ fs)) → FrameIn O f
@@ -81,13 +92,18 @@ module _ (O : ℕ → Type 0) where
   pub goroutine-waits : (r : GoroutineView) → Every O (goroutine_refs r) → Every O (wait_refs (waits_of r.mode))
   goroutine-waits r a = Every-right O (frames_refs r.frames) (wait_refs (waits_of r.mode)) a
 
-  pub goroutine-both : (r : GoroutineView) → Every O (frames_refs r.frames) → Every O (wait_refs (waits_of r.mode)) → Every O (goroutine_refs r)
+  pub goroutine-both : (r : GoroutineView) → Every O (frames_refs r.frames) → Every O (wait_refs (waits_of r.mode))
+      → Every O (goroutine_refs r)
   goroutine-both r a b = Every-append O (frames_refs r.frames) (wait_refs (waits_of r.mode)) a b
 
-  pub waits-append : (ws us : List Wait) → Every O (wait_refs ws) → Every O (wait_refs us) → Every O (wait_refs (ws ++ us))
+  pub waits-append : (ws us : List Wait) → Every O (wait_refs ws) → Every O (wait_refs us)
+      → Every O (wait_refs (ws ++ us))
   waits-append [] us a b = b
-  waits-append (w ∷ ws) us a b =
-      (a.0, Every-append O (value_refs w.value) _ (Every-left O (value_refs w.value) _ a.1) (waits-append ws us (Every-right O (value_refs w.value) _ a.1) b))
+  waits-append (w ∷ ws) us a b = (
+    a.0,
+    Every-append O (value_refs w.value) _ (Every-left O (value_refs w.value) _ a.1)
+        (waits-append ws us (Every-right O (value_refs w.value) _ a.1) b),
+  )
 
   -- what is waited on is referred to, and so is what is to be sent
   pub waits-object : (ws : List Wait) (o : ℕ) → Every O (wait_refs ws) → In o (waited ws) → O o

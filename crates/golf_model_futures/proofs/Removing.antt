@@ -1,8 +1,10 @@
 -- What a collection removes and frees: the removed goroutines are dead, and all that is live is retained.
 -- For: `removed`, `retained`, golf_model/specs/Collecting.antt
 -- By: induction over the path by which a node is live
-use Rattle.std.proofs.Common.{◌≡◌, ℕ, ◌+◌, ◌<◌, ◌≤◌, Bool, true, false, not, ◌||◌, List, inl, inr, refl, sym, arith, nat_lt}
-use Rattle.std.proofs.lemmas.Bool.{or_left, or_right, or_cases, not-true, not_from_false, both_ways, lt-ltb, le-ltb, ltb-true, cases_Bool}
+use Rattle.std.proofs.Common.{◌≡◌, ℕ, ◌+◌, ◌<◌, ◌≤◌, Bool, true, false, not, ◌||◌, List, inl, inr, refl, sym, arith}
+use Rattle.std.proofs.Common.{nat_lt}
+use Rattle.std.proofs.lemmas.Bool.{or_left, or_right, or_cases, not-true, not_from_false, both_ways, lt-ltb, le-ltb}
+use Rattle.std.proofs.lemmas.Bool.{ltb-true, cases_Bool}
 use Rattle.golf_theory.specs.Membership.{In, Every, is_in}
 use Rattle.golf_theory.specs.Maps.{Entry, find, keys}
 use Rattle.golf_theory.proofs.Lists.{In-left, In-right, In-cases, In-filter, Every-from}
@@ -15,7 +17,8 @@ use Rattle.golf_data.specs.declared.value.Object.{Object}
 use Rattle.golf_model.specs.Views.{GoroutineView}
 use Rattle.golf_model.specs.Values.{refs}
 use Rattle.golf_model.specs.State.{State}
-use Rattle.golf_model.specs.Refs.{object_refs, goroutine_refs, queue_refs, goroutine_refs_where, has_finaliser, refs_of_goroutine}
+use Rattle.golf_model.specs.Refs.{object_refs, goroutine_refs, queue_refs, goroutine_refs_where, has_finaliser}
+use Rattle.golf_model.specs.Refs.{refs_of_goroutine}
 use Rattle.golf_model.specs.Reaching.{RefersTo, reach, sources}
 use Rattle.golf_model.specs.Living.{Node, Live, LiveRoot, LiveStep, dead}
 use Rattle.golf_model.specs.Collecting.{plain_collect, prevents_removal, keeps, removed, retained, cut}
@@ -27,8 +30,10 @@ use Rattle.golf_model_futures.proofs.DeadStill.{LiveObject, LiveGoroutine}
 use Rattle.golf_model_futures.proofs.Flowing.{Flow}
 
 -- what a reached object refers to is reached
-pub reach-step : (s : State) (xs : List ℕ) (p o : ℕ) (x : Object) → In p (reach s xs) → Entry s.objects p x → In o (object_refs x) → In o (reach s xs)
-reach-step s xs p o x h e i = reach-complete s xs o (Reached-step (λ q. In q xs) (RefersTo s) p o (reach-sound s xs p h) (x, e, i))
+pub reach-step : (s : State) (xs : List ℕ) (p o : ℕ) (x : Object) → In p (reach s xs) → Entry s.objects p x
+    → In o (object_refs x) → In o (reach s xs)
+reach-step s xs p o x h e i = reach-complete s xs o
+    (Reached-step (λ q. In q xs) (RefersTo s) p o (reach-sound s xs p h) (x, e, i))
 
 -- the tests of a collection that removes these goroutines: who stays, and which objects are kept
 abbrev pub stays_by : List ℕ → ℕ → Bool
@@ -38,36 +43,50 @@ abbrev pub kept_by : State → List ℕ → ℕ → Bool
 kept_by s gone o = is_in o (retained s gone) || nat_lt s.last_object o
 
 module _ (s : State) (recover sets_finalisers : Bool) where
-  gone-unkept : (b : Bool) (g : ℕ) → In g (removed s b sets_finalisers) → In g (dead s) × (keeps s sets_finalisers g ≡ false)
-  gone-unkept true g h = let r = In-filter (λ k. not (keeps s sets_finalisers k)) g (dead s) h in (r.0, not-true (keeps s sets_finalisers g) r.1)
+  gone-unkept : (b : Bool) (g : ℕ) → In g (removed s b sets_finalisers) → In g (dead s)
+      × (keeps s sets_finalisers g ≡ false)
+  gone-unkept true g h = let r = In-filter (λ k. not (keeps s sets_finalisers k)) g
+      (dead s) h in (r.0, not-true (keeps s sets_finalisers g) r.1)
   gone-unkept false g h = absurd h
 
   -- a removed goroutine is there, and is not live
-  pub gone-dead : (g : ℕ) → In g (removed s recover sets_finalisers) → (r : GoroutineView) × Entry s.goroutines g r × (Live s (Node.AGoroutine g) → ⊥)
+  pub gone-dead : (g : ℕ) → In g (removed s recover sets_finalisers) → (r : GoroutineView) × Entry s.goroutines g r
+      × (Live s (Node.AGoroutine g) → ⊥)
   gone-dead g h = let d = dead-sound s g (gone-unkept recover g h).0 in (d.0, d.1, d.3)
 
   -- nothing that it reaches is finalised, and nothing is live if the code sets finalisers
-  pub gone-prevents_removal : (g o : ℕ) → In g (removed s recover sets_finalisers) → In o (reach s (refs_of_goroutine (find g s.goroutines))) → prevents_removal s sets_finalisers o ≡ false
+  pub gone-prevents_removal : (g o : ℕ) → In g (removed s recover sets_finalisers)
+      → In o (reach s (refs_of_goroutine (find g s.goroutines))) → prevents_removal s sets_finalisers o ≡ false
   gone-prevents_removal g o h i = elim (cases_Bool (prevents_removal s sets_finalisers o)) [
-    | inl t ↦ absurd (both_ways (keeps s sets_finalisers g) (gone-unkept recover g h).1 (any_of-from (prevents_removal s sets_finalisers) (reach s (refs_of_goroutine (find g s.goroutines))) o i t))
+    | inl t ↦ absurd (both_ways (keeps s sets_finalisers g) (gone-unkept recover g h).1
+        (any_of-from (prevents_removal s sets_finalisers) (reach s (refs_of_goroutine (find g s.goroutines))) o i t))
     | inr f ↦ f
   ]
 
--- these goroutines are there and not live; nothing that they reach is finalised, and nothing is live if the code sets finalisers
+-- these goroutines are there and not live; nothing that they reach is finalised, and nothing is live if the code sets
+-- finalisers
 pub record GoneOk (s : State) (sets_finalisers : Bool) (gone : List ℕ) : Type 0 where
   pub dead : (g : ℕ) → In g gone → (r : GoroutineView) × Entry s.goroutines g r × (Live s (Node.AGoroutine g) → ⊥)
-  pub barred : (g o : ℕ) → In g gone → In o (reach s (refs_of_goroutine (find g s.goroutines))) → prevents_removal s sets_finalisers o ≡ false
+  pub barred : (g o : ℕ) → In g gone → In o (reach s (refs_of_goroutine (find g s.goroutines)))
+      → prevents_removal s sets_finalisers o ≡ false
 
-pub removed-ok : (s : State) (recover sets_finalisers : Bool) → GoneOk s sets_finalisers (removed s recover sets_finalisers)
-removed-ok s recover sets_finalisers = record { dead = gone-dead s recover sets_finalisers; barred = gone-prevents_removal s recover sets_finalisers }
+pub removed-ok : (s : State) (recover sets_finalisers : Bool)
+    → GoneOk s sets_finalisers (removed s recover sets_finalisers)
+removed-ok s recover sets_finalisers = record {
+  dead = gone-dead s recover sets_finalisers;
+  barred = gone-prevents_removal s recover sets_finalisers;
+}
 
-module _ (s : State) (n : Numbered s) (gone : List ℕ) (dead_all : (g : ℕ) → In g gone → (r : GoroutineView) × Entry s.goroutines g r × (Live s (Node.AGoroutine g) → ⊥)) where
+module _ (s : State) (n : Numbered s) (gone : List ℕ)
+    (dead_all : (g : ℕ) → In g gone → (r : GoroutineView) × Entry s.goroutines g r
+    × (Live s (Node.AGoroutine g) → ⊥)) where
   pub stays-live : (g : ℕ) → Live s (Node.AGoroutine g) → stays_by gone g ≡ true
   stays-live g l = not_from_false (is_in g gone) (is_in-out g gone (λ h. (dead_all g h).2 l))
 
   pub stays-fresh : (g : ℕ) → s.next_goroutine ≤ g → stays_by gone g ≡ true
   stays-fresh g l = not_from_false (is_in g gone)
-      (is_in-out g gone (λ h. let d = dead_all g h in let b = Entry-below s.next_goroutine s.goroutines g d.0 n.goroutines_below d.1 in omega arith))
+      (is_in-out g gone (λ h. let d = dead_all g h in let b = Entry-below s.next_goroutine s.goroutines g d.0
+      n.goroutines_below d.1 in omega arith))
 
   pub kept-retained : (o : ℕ) → In o (retained s gone) → kept_by s gone o ≡ true
   kept-retained o h = or_left (is_in o (retained s gone)) _ (is_in-from o (retained s gone) h)
@@ -85,13 +104,17 @@ module _ (s : State) (n : Numbered s) (gone : List ℕ) (dead_all : (g : ℕ) �
   pub source-queue : (o : ℕ) → In o (queue_refs s.queue) → In o (sources s gone)
   source-queue o h = In-right o (refs s.globals) _ (In-left o (queue_refs s.queue) _ h)
 
-  pub source-goroutine : (o g : ℕ) (r : GoroutineView) → Entry s.goroutines g r → stays_by gone g ≡ true → In o (goroutine_refs r) → In o (sources s gone)
+  pub source-goroutine : (o g : ℕ) (r : GoroutineView) → Entry s.goroutines g r → stays_by gone g ≡ true
+      → In o (goroutine_refs r) → In o (sources s gone)
   source-goroutine o g r e t h = In-right o (refs s.globals) _ (In-right o (queue_refs s.queue) _
-      (In-left o (goroutine_refs_where (stays_by gone) s.goroutines) _ (In-goroutine_refs_where (stays_by gone) s.goroutines g o r e t h)))
+      (In-left o (goroutine_refs_where (stays_by gone) s.goroutines) _
+      (In-goroutine_refs_where (stays_by gone) s.goroutines g o r e t h)))
 
-  pub source-finalised : (o p : ℕ) (x : Object) → In p (keys s.finalisers) → Entry s.objects p x → In o (object_refs x) → In o (sources s gone)
+  pub source-finalised : (o p : ℕ) (x : Object) → In p (keys s.finalisers) → Entry s.objects p x → In o (object_refs x)
+      → In o (sources s gone)
   source-finalised o p x k e h = In-right o (refs s.globals) _ (In-right o (queue_refs s.queue) _
-      (In-right o (goroutine_refs_where (stays_by gone) s.goroutines) _ (In-refs_where (has_finaliser s) s.objects p o x e (is_in-from p (keys s.finalisers) k) h)))
+      (In-right o (goroutine_refs_where (stays_by gone) s.goroutines) _
+      (In-refs_where (has_finaliser s) s.objects p o x e (is_in-from p (keys s.finalisers) k) h)))
 
   -- live, and reached if it is an object
   abbrev Found : Node → Type 0
@@ -134,15 +157,19 @@ module _ (s : State) (n : Numbered s) (gone : List ℕ) (dead_all : (g : ℕ) �
 
   -- what is kept refers to what is kept
   kept-each : (xs : List ℕ) → ((o : ℕ) → In o xs → In o (sources s gone)) → Every (λ o. kept_by s gone o ≡ true) xs
-  kept-each xs h = Every-from (λ o. kept_by s gone o ≡ true) xs (λ o i. kept-retained o (In-left o (reach s (sources s gone)) _ (from_sources o (h o i))))
+  kept-each xs h = Every-from (λ o. kept_by s gone o ≡ true) xs
+      (λ o i. kept-retained o (In-left o (reach s (sources s gone)) _ (from_sources o (h o i))))
 
-  kept-refs : (p : ℕ) (x : Object) → kept_by s gone p ≡ true → Entry s.objects p x → Every (λ o. kept_by s gone o ≡ true) (object_refs x)
+  kept-refs : (p : ℕ) (x : Object) → kept_by s gone p ≡ true → Entry s.objects p x
+      → Every (λ o. kept_by s gone o ≡ true) (object_refs x)
   kept-refs p x t e = elim (or_cases (is_in p (retained s gone)) (nat_lt s.last_object p) t) [
     | inl a ↦ elim (In-cases p (reach s (sources s gone)) (keys s.finalisers) (In-from p (retained s gone) a)) [
-      | inl b ↦ Every-from (λ o. kept_by s gone o ≡ true) (object_refs x) (λ o i. kept-retained o (In-left o (reach s (sources s gone)) _ (reach-step s (sources s gone) p o x b e i)))
+      | inl b ↦ Every-from (λ o. kept_by s gone o ≡ true) (object_refs x)
+          (λ o i. kept-retained o (In-left o (reach s (sources s gone)) _ (reach-step s (sources s gone) p o x b e i)))
       | inr b ↦ kept-each (object_refs x) (λ o i. source-finalised o p x b e i)
     ]
-    | inr a ↦ let l = ltb-true s.last_object p a in let b = Entry-below (s.last_object + 1) s.objects p x n.objects_below e in absurd (omega arith)
+    | inr a ↦ let l = ltb-true s.last_object p a in let b =
+        Entry-below (s.last_object + 1) s.objects p x n.objects_below e in absurd (omega arith)
   ]
 
   pub flow-kept : Flow (λ o. kept_by s gone o ≡ true) (λ g. stays_by gone g ≡ true) s
@@ -161,7 +188,9 @@ module _ (s : State) (n : Numbered s) (gone : List ℕ) (dead_all : (g : ℕ) �
   or-false false b e = sym e
 
   -- the real collection is the plain one, cut
-  pub collect-cut : cut (stays_by gone) (λ o. is_in o (retained s gone)) (plain_collect s) ≡ cut (stays_by gone) (kept_by s gone) (plain_collect s)
+  pub collect-cut : cut (stays_by gone) (λ o. is_in o (retained s gone)) (plain_collect s) ≡ cut (stays_by gone)
+      (kept_by s gone) (plain_collect s)
   collect-cut = parts (plain_collect s) _ _ _ _
       (only-same (λ o. is_in o (retained s gone)) (kept_by s gone) s.objects
-      (λ p x e. let b = Entry-below (s.last_object + 1) s.objects p x n.objects_below e in or-false (is_in p (retained s gone)) (nat_lt s.last_object p) (le-ltb s.last_object p (omega arith)))) refl
+      (λ p x e. let b = Entry-below (s.last_object + 1) s.objects p x n.objects_below e in or-false
+      (is_in p (retained s gone)) (nat_lt s.last_object p) (le-ltb s.last_object p (omega arith)))) refl

@@ -12,7 +12,8 @@ use Rattle.golf_theory.proofs.Agreements.{agree-same, agree-then, agree-wider}
 use Rattle.golf_data.specs.declared.code.Code.{Code}
 use Rattle.golf_model.specs.Views.{GoroutineView}
 use Rattle.golf_model.specs.State.{State, is_running, can_run, runnable}
-use Rattle.golf_model.specs.Turn.{turned, cleared_after, step, turn_changes, whose_turn, wants_collection, clears_nothing}
+use Rattle.golf_model.specs.Turn.{turned, cleared_after, step, turn_changes, whose_turn, wants_collection}
+use Rattle.golf_model.specs.Turn.{clears_nothing}
 use Rattle.golf_model.specs.Collecting.{plain_collect}
 use Rattle.golf_model.specs.Running.{Event, has_ended, collected_if, happens_in, happens, run}
 use Rattle.golf_model_futures.specs.Invariant.{Closed, Confined, Nothing, Sound, Unfinalised}
@@ -34,22 +35,36 @@ pub record After (O G : ℕ → Type 0) (s t : State) : Type 1 where
 
 module _ (O G : ℕ → Type 0) where
   after-same : (s : State) → Closed s O G → After O G s s
-  after-same s c = record { wide = O; wider = λ o h. h; closed = c; objects = agree-same O s.objects; goroutines = agree-same G s.goroutines }
+  after-same s c = record {
+    wide = O;
+    wider = λ o h. h;
+    closed = c;
+    objects = agree-same O s.objects;
+    goroutines = agree-same G s.goroutines;
+  }
 
   after-then : (s t u : State) (a : After O G s t) → After a.wide G t u → After O G s u
   after-then s t u a b = record {
     wide = b.wide;
     wider = λ o h. b.wider o (a.wider o h);
     closed = b.closed;
-    objects = agree-then b.wide s.objects t.objects u.objects (agree-wider a.wide b.wide s.objects t.objects b.wider a.objects) b.objects;
+    objects = agree-then b.wide s.objects t.objects u.objects
+        (agree-wider a.wide b.wide s.objects t.objects b.wider a.objects) b.objects;
     goroutines = agree-then G s.goroutines t.goroutines u.goroutines a.goroutines b.goroutines;
   }
 
   after-collect : (s : State) → Closed s O G → After O G s (plain_collect s)
-  after-collect s c = record { wide = Joined s O; wider = λ o h. inl h; closed = closed-collect O G s c; objects = agree-same (Joined s O) s.objects; goroutines = agree-same G s.goroutines }
+  after-collect s c = record {
+    wide = Joined s O;
+    wider = λ o h. inl h;
+    closed = closed-collect O G s c;
+    objects = agree-same (Joined s O) s.objects;
+    goroutines = agree-same G s.goroutines;
+  }
 
 -- whose turn it is runs
-pub turn-running : (s : State) (c g : ℕ) → whose_turn s c ≡ Some g → (r : GoroutineView) × Entry s.goroutines g r × (is_running r.mode ≡ true)
+pub turn-running : (s : State) (c g : ℕ) → whose_turn s c ≡ Some g → (r : GoroutineView) × Entry s.goroutines g r
+    × (is_running r.mode ≡ true)
 turn-running s c g h =
     let i : In g (runnable s) = In-slice_get (runnable s) (c % length (runnable s)) g h in
     let r = Entry-keys_where (can_run s.queue) s.goroutines g i in
@@ -60,31 +75,46 @@ module _ (code : Code) (G : ℕ → Type 0) where
     turn-in : (k g : ℕ) → whose_turn s k ≡ Some g → G g
     turn-in k g h = let r = turn-running s k g h in c.running g r.0 r.1 r.2
 
-    pub turn-sound : (k : ℕ) → Sound O G (Unfinalised s) s.last_object (turn_changes code (k / length (runnable s)) s (whose_turn s k))
-    turn-sound k = sound_turn O G (Unfinalised s) code s (closed-ground O G s c) (λ f at l is t o h. h) (k / length (runnable s)) (whose_turn s k) (λ g h. turn-in k g h)
+    pub turn-sound : (k : ℕ) → Sound O G (Unfinalised s) s.last_object
+        (turn_changes code (k / length (runnable s)) s (whose_turn s k))
+    turn-sound k = sound_turn O G (Unfinalised s) code s (closed-ground O G s c) (λ f at l is t o h. h)
+        (k / length (runnable s)) (whose_turn s k) (λ g h. turn-in k g h)
 
     turned-closed : (k : ℕ) → Closed (turned code s k) O G
-    turned-closed k = closed_changes O G (Unfinalised s) s.last_object (turn_changes code (k / length (runnable s)) s (whose_turn s k)) s c.new_objects c (turn-sound k)
+    turned-closed k = closed_changes O G (Unfinalised s) s.last_object
+        (turn_changes code (k / length (runnable s)) s (whose_turn s k)) s c.new_objects c (turn-sound k)
 
     turned-confined : (k : ℕ) → Confined O G s (turned code s k)
-    turned-confined k = confined_changes O G (Unfinalised s) s.last_object (turn_changes code (k / length (runnable s)) s (whose_turn s k)) s c.new_objects c (turn-sound k)
+    turned-confined k = confined_changes O G (Unfinalised s) s.last_object
+        (turn_changes code (k / length (runnable s)) s (whose_turn s k)) s c.new_objects c (turn-sound k)
 
     pub behind-sound : (k : ℕ) → Sound O G Nothing (turned code s k).last_object (cleared_after code s k)
-    behind-sound k = good-sound O G Nothing (turned code s k).last_object (cleared_after code s k) (closed-clearing O G code (clears_nothing code s k) (whose_turn s k) (turned code s k) (turned-closed k))
+    behind-sound k = good-sound O G Nothing (turned code s k).last_object (cleared_after code s k)
+        (closed-clearing O G code (clears_nothing code s k) (whose_turn s k) (turned code s k) (turned-closed k))
 
     pub step-closed : (k : ℕ) → Closed (step code s k) O G
-    step-closed k = let t = turned-closed k in closed_changes O G Nothing (turned code s k).last_object (cleared_after code s k) (turned code s k) t.new_objects t (behind-sound k)
+    step-closed k = let t = turned-closed k in closed_changes O G Nothing (turned code s k).last_object
+        (cleared_after code s k) (turned code s k) t.new_objects t (behind-sound k)
 
     pub step-confined : (k : ℕ) → Confined O G s (step code s k)
     step-confined k =
         let t = turned-closed k in
-        confined-then O G s (turned code s k) (step code s k) (turned-confined k) (confined_changes O G Nothing (turned code s k).last_object (cleared_after code s k) (turned code s k) t.new_objects t (behind-sound k))
+        confined-then O G s (turned code s k) (step code s k) (turned-confined k)
+        (confined_changes O G Nothing (turned code s k).last_object (cleared_after code s k)
+        (turned code s k) t.new_objects t (behind-sound k))
 
     pub after-step : (k : ℕ) → After O G s (step code s k)
-    after-step k = let f = step-confined k in record { wide = O; wider = λ o h. h; closed = step-closed k; objects = f.objects; goroutines = f.goroutines }
+    after-step k = let f = step-confined k in record {
+      wide = O;
+      wider = λ o h. h;
+      closed = step-closed k;
+      objects = f.objects;
+      goroutines = f.goroutines;
+    }
 
     after-turn : (k : ℕ) (b : Bool) → After O G s (collected_if plain_collect code b (step code s k))
-    after-turn k true = let a = after-step k in after-then O G s (step code s k) (plain_collect (step code s k)) a (after-collect a.wide G (step code s k) a.closed)
+    after-turn k true = let a = after-step k in after-then O G s (step code s k) (plain_collect (step code s k)) a
+        (after-collect a.wide G (step code s k) a.closed)
     after-turn k false = after-step k
 
     after-in : (b : Bool) (e : Event) → After O G s (happens_in plain_collect code b s e)
@@ -100,4 +130,5 @@ module _ (code : Code) (G : ℕ → Type 0) where
   after-run [] O s c = after-same O G s c
   after-run (e ∷ es) O s c =
       let a = after-happens O s c e in
-      after-then O G s (happens code s e) (run code (happens code s e) es) a (after-run es a.wide (happens code s e) a.closed)
+      after-then O G s (happens code s e) (run code (happens code s e) es) a
+      (after-run es a.wide (happens code s e) a.closed)

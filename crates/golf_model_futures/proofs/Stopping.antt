@@ -9,14 +9,16 @@ use Rattle.golf_model.specs.State.{State, start}
 use Rattle.golf_model.specs.Turn.{step, wants_collection}
 use Rattle.golf_model.specs.Living.{dead}
 use Rattle.golf_model.specs.Collecting.{plain_collect}
-use Rattle.golf_model.specs.Running.{Event, has_ended, collected_if, happens_in, happens, run, stop_if, stop_in, stops_by, stops}
+use Rattle.golf_model.specs.Running.{Event, has_ended, collected_if, happens_in, happens, run, stop_if, stop_in}
+use Rattle.golf_model.specs.Running.{stops_by, stops}
 use Rattle.golf_model.specs.Futures.{Numbered, Still}
 use Rattle.golf_model.proofs.Agreeing.{dead-sound}
 use Rattle.golf_model_futures.proofs.DeadStill.{dead_still}
 use Rattle.golf_model_futures.proofs.Leading.{numbered-start, numbered-step, numbered-collect}
 
 -- what each turn and each collection keeps
-module _ (code : Code) (P : State → Type 0) (kept-step : (s : State) (k : ℕ) → P s → P (step code s k)) (kept-collect : (s : State) → P s → P (plain_collect s)) where
+module _ (code : Code) (P : State → Type 0) (kept-step : (s : State) (k : ℕ) → P s → P (step code s k))
+    (kept-collect : (s : State) → P s → P (plain_collect s)) where
   collected-kept : (b : Bool) (s : State) → P s → P (collected_if plain_collect code b s)
   collected-kept true s n = kept-collect s n
   collected-kept false s n = n
@@ -37,7 +39,8 @@ module _ (code : Code) (P : State → Type 0) (kept-step : (s : State) (k : ℕ)
 
   stop-kept : (b : Bool) (s p : State) (e : Event) → P s → In p (stop_in plain_collect code b s e) → P p
   stop-kept true s p e n h = absurd h
-  stop-kept false s p (Event.Turn k) n h = stop_if-kept (wants_collection code s k) (step code s k) p (kept-step s k n) h
+  stop-kept false s p (Event.Turn k) n h =
+      stop_if-kept (wants_collection code s k) (step code s k) p (kept-step s k n) h
   stop-kept false s p Event.Collect n (inl e) = subst P (sym e) n
   stop-kept false s p Event.Collect n (inr h) = absurd h
 
@@ -48,5 +51,8 @@ module _ (code : Code) (P : State → Type 0) (kept-step : (s : State) (k : ℕ)
     | inr i ↦ stops-kept es (happens code s e) p (happens-kept (has_ended s) s e n) i
   ]
 
-pub reported-still : (code : Code) (es : List Event) (p : State) (g : ℕ) → In p (stops code es) → In g (dead p) → Still code p g
-reported-still code es p g h i = dead_still code p g (stops-kept code Numbered (numbered-step code) numbered-collect es (start code) p (numbered-start code) h) (dead-sound p g i)
+pub reported-still : (code : Code) (es : List Event) (p : State) (g : ℕ) → In p (stops code es) → In g (dead p)
+    → Still code p g
+reported-still code es p g h i = dead_still code p g
+    (stops-kept code Numbered (numbered-step code) numbered-collect es (start code) p (numbered-start code) h)
+    (dead-sound p g i)

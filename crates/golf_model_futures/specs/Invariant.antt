@@ -12,7 +12,8 @@ use Rattle.golf_model.specs.Waking.{Waking}
 use Rattle.golf_model.specs.Changes.{Change}
 use Rattle.golf_model.specs.Acting.{Actor}
 use Rattle.golf_model.specs.Reaching.{reach, sources}
-use Rattle.golf_model.specs.Refs.{object_refs, deferred_refs, leaving_refs, frames_refs, wait_refs, goroutine_refs, queue_refs, waited}
+use Rattle.golf_model.specs.Refs.{object_refs, deferred_refs, leaving_refs, frames_refs, wait_refs, goroutine_refs}
+use Rattle.golf_model.specs.Refs.{queue_refs, waited}
 
 -- globals, the queue, finalised objects, the set's objects and the set's goroutines refer to objects of the set alone;
 -- who runs, and who waits on an object of the set, is in the set, and so are goroutine 0 and every number not given yet
@@ -40,7 +41,8 @@ GoodWaking O (Waking.Closing zero) = Every O (value_refs zero)
 GoodWaking O Waking.AtZero = Unit {0}
 GoodWaking O (Waking.ToReaders below) = Unit {0}
 
--- a change that concerns members of the sets alone, and stores references to members alone; a finaliser is set for an object of the third set
+-- a change that concerns members of the sets alone, and stores references to members alone; a finaliser is set for an
+-- object of the third set
 abbrev pub Good : (ℕ → Type 0) → (ℕ → Type 0) → (ℕ → Type 0) → Change → Type 0
 Good O G F (Change.Make x) = Every O (object_refs x)
 Good O G F (Change.Replace o x) = O o × Every O (object_refs x)
@@ -65,7 +67,8 @@ Nothing n = ⊥
 abbrev pub AllGood : (ℕ → Type 0) → (ℕ → Type 0) → List Change → Type 0
 AllGood O G cs = Every (Good O G Nothing) cs
 
--- the sets and the last object number after a change: an object that was made joins its set, and no second finaliser is set
+-- the sets and the last object number after a change: an object that was made joins its set, and no second finaliser is
+-- set
 abbrev pub objects_after : Change → (ℕ → Type 0) → ℕ → ℕ → Type 0
 objects_after (Change.Make x) O n = λ o. O o ⊎ (o ≡ n + 1)
 objects_after _ O n = O

@@ -28,26 +28,32 @@ LeadsNumber = (code : Code) (s : State) → Leads code s → Numbered s
 
 -- the live nodes, with all numbers that are not given yet, are closed
 abbrev pub LiveIsClosed : Type 0
-LiveIsClosed = (s : State) → Numbered s → Closed s (λ o. Live s (Node.AnObject o) ⊎ (s.last_object < o)) (λ g. Live s (Node.AGoroutine g) ⊎ (s.next_goroutine ≤ g))
+LiveIsClosed = (s : State) → Numbered s → Closed s (λ o. Live s (Node.AnObject o) ⊎ (s.last_object < o))
+    (λ g. Live s (Node.AGoroutine g) ⊎ (s.next_goroutine ≤ g))
 
 -- a change that concerns members alone keeps closed sets closed, and leaves what is outside them as it was
 abbrev pub ChangesKeep : Type 0
-ChangesKeep = (s : State) (c : Change) (kept stays : ℕ → Bool) → Closed s (Passes kept) (Passes stays) → Good (Passes kept) (Passes stays) Nothing c
+ChangesKeep = (s : State) (c : Change) (kept stays : ℕ → Bool) → Closed s (Passes kept) (Passes stays)
+    → Good (Passes kept) (Passes stays) Nothing c
     → Closed (apply c s) (Passes kept) (Passes stays) × Confined (Passes kept) (Passes stays) s (apply c s)
 
--- an instruction moves what its goroutine refers to: its changes concern members of every closed pair of sets that the goroutine belongs to
+-- an instruction moves what its goroutine refers to: its changes concern members of every closed pair of sets that the
+-- goroutine belongs to
 abbrev pub InstructionsMoveMembers : Type 0
-InstructionsMoveMembers = (code : Code) (s : State) (kept stays : ℕ → Bool) → Closed s (Passes kept) (Passes stays) → (a : Actor) → ActorIn (Passes kept) (Passes stays) a → (i : Instr) (choice : ℕ)
+InstructionsMoveMembers = (code : Code) (s : State) (kept stays : ℕ → Bool) → Closed s (Passes kept) (Passes stays)
+    → (a : Actor) → ActorIn (Passes kept) (Passes stays) a → (i : Instr) (choice : ℕ)
     → Sound (Passes kept) (Passes stays) (Unfinalised s) s.last_object (changes code i a choice s)
 
 -- an instruction has the same changes in a state that lacks what is outside such sets
 abbrev pub InstructionsSame : Type 0
-InstructionsSame = (code : Code) (s : State) (kept stays : ℕ → Bool) → Closed s (Passes kept) (Passes stays) → (a : Actor) → ActorIn (Passes kept) (Passes stays) a → (i : Instr) (choice : ℕ)
+InstructionsSame = (code : Code) (s : State) (kept stays : ℕ → Bool) → Closed s (Passes kept) (Passes stays)
+    → (a : Actor) → ActorIn (Passes kept) (Passes stays) a → (i : Instr) (choice : ℕ)
     → changes code i a choice (cut stays kept s) ≡ changes code i a choice s
 
 -- a collection keeps closed sets closed, once the objects that it queues have joined them
 abbrev pub CollectionsKeep : Type 0
-CollectionsKeep = (s : State) (kept stays : ℕ → Bool) → Closed s (Passes kept) (Passes stays) → Closed (plain_collect s) (λ o. Passes kept o ⊎ Queueing s o) (Passes stays)
+CollectionsKeep = (s : State) (kept stays : ℕ → Bool) → Closed s (Passes kept) (Passes stays)
+    → Closed (plain_collect s) (λ o. Passes kept o ⊎ Queueing s o) (Passes stays)
 
 -- a turn keeps closed sets closed, and leaves what is outside them as it was
 abbrev pub TurnsKeep : Type 0
@@ -56,19 +62,25 @@ TurnsKeep = (code : Code) (s : State) (k : ℕ) (kept stays : ℕ → Bool) → 
 
 -- a turn of a state that is cut down to closed sets is that turn, cut down
 abbrev pub TurnsCut : Type 0
-TurnsCut = (code : Code) (s : State) (k : ℕ) (kept stays : ℕ → Bool) → Closed s (Passes kept) (Passes stays) → KeepsFresh stays kept s
+TurnsCut = (code : Code) (s : State) (k : ℕ) (kept stays : ℕ → Bool) → Closed s (Passes kept) (Passes stays)
+    → KeepsFresh stays kept s
     → step code (cut stays kept s) k ≡ cut stays kept (step code s k)
 
--- recovery cannot be seen: after a collection that removes goroutines and frees objects every continuation shows what it shows after the plain one, but for the removed goroutines
+-- recovery cannot be seen: after a collection that removes goroutines and frees objects every continuation shows what
+-- it shows after the plain one, but for the removed goroutines
 abbrev pub RecoveryUnseen : Type 0
 RecoveryUnseen = (code : Code) (s : State) (recover : Bool) (events : List Event) → Leads code s
-    → futures code (real_collect s recover (sets_finalisers code)) events (removed s recover (sets_finalisers code)) ≡ futures code (plain_collect s) events (removed s recover (sets_finalisers code))
+    → futures code (real_collect s recover (sets_finalisers code)) events (removed s recover (sets_finalisers code))
+    ≡ futures code (plain_collect s) events (removed s recover (sets_finalisers code))
 
 -- each goroutine that is dead right before a collection of a run takes no step in any continuation from there
 abbrev pub ReportedAreStill : Type 0
-ReportedAreStill = (code : Code) (events : List Event) (p : State) (g : ℕ) → In p (stops code events) → In g (dead p) → Still code p g
+ReportedAreStill = (code : Code) (events : List Event) (p : State) (g : ℕ) → In p (stops code events) → In g (dead p)
+    → Still code p g
 
--- a run whose collections remove goroutines and free objects prints what the run prints in which they do neither, ends as it does, calls the same finalisers on the same objects in the same order, and its reports are those of that run's book
+-- a run whose collections remove goroutines and free objects prints what the run prints in which they do neither, ends
+-- as it does, calls the same finalisers on the same objects in the same order, and its reports are those of that run's
+-- book
 abbrev pub RealRunsAgree : Type 0
 RealRunsAgree = (code : Code) (events : List Event) (recover : Bool)
     → ((real_run code events recover).output ≡ (run code (start code) events).output)
@@ -76,14 +88,19 @@ RealRunsAgree = (code : Code) (events : List Event) (recover : Bool)
     × (real_reports code events recover ≡ book_of (stops code events) recover (sets_finalisers code))
     × (real_calls code events recover ≡ finaliser_calls code (start code) events)
 
--- the book of a run reports each goroutine that a stop finds blocked outside the live set once, at the first such stop, and nobody else
+-- the book of a run reports each goroutine that a stop finds blocked outside the live set once, at the first such stop,
+-- and nobody else
 abbrev pub BookTellsOfEach : Type 0
-BookTellsOfEach = (code : Code) (events : List Event) (recover : Bool) → TellsOfEach [] (stops code events) (book_of (stops code events) recover (sets_finalisers code))
+BookTellsOfEach = (code : Code) (events : List Event) (recover : Bool)
+    → TellsOfEach [] (stops code events) (book_of (stops code events) recover (sets_finalisers code))
 
--- in every state of a plain run, and right before each of its collections, each reference is one to an object that is there
+-- in every state of a plain run, and right before each of its collections, each reference is one to an object that is
+-- there
 abbrev pub ReferencesPresent : Type 0
-ReferencesPresent = (code : Code) (events : List Event) → IsWhole (run code (start code) events) × ((p : State) → In p (stops code events) → IsWhole p)
+ReferencesPresent = (code : Code) (events : List Event) → IsWhole (run code (start code) events)
+    × ((p : State) → In p (stops code events) → IsWhole p)
 
 -- what was printed before a run changes nothing of it
 abbrev pub PrintingApart : Type 0
-PrintingApart = (code : Code) (w : List ℕ) (s : State) (events : List Event) → run code (prefixed w s) events ≡ prefixed w (run code s events)
+PrintingApart = (code : Code) (w : List ℕ) (s : State) (events : List Event)
+    → run code (prefixed w s) events ≡ prefixed w (run code s events)

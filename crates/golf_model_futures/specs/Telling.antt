@@ -9,7 +9,8 @@ use Rattle.golf_model.specs.Reporting.{without}
 abbrev pub named : Report → List ℕ
 named r = map (λ e. e.goroutine.0) r.reported
 
--- there is one report for each stop, and it names, in rising number, those who are dead right before it and whom no earlier report named
+-- there is one report for each stop, and it names, in rising number, those who are dead right before it and whom no
+-- earlier report named
 abbrev pub TellsOfEach : List ℕ → List State → List Report → Type 0
 TellsOfEach told [] [] = Unit {0}
 TellsOfEach told [] (r ∷ rs) = ⊥

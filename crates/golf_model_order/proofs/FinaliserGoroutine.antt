@@ -22,14 +22,19 @@ lives s = Reached-root (LiveRoot s) (LiveStep s) (Node.AGoroutine 0) LiveRoot.Fi
 pub not-dead : (s : State) → In 0 (dead s) → ⊥
 not-dead s i = (dead-sound s 0 i).3 (lives s)
 
-untold : (told : List ℕ) (ps : List State) (rs : List Report) → TellsOfEach told ps rs → (r : Report) → In r rs → In 0 (named r) → ⊥
+untold : (told : List ℕ) (ps : List State) (rs : List Report) → TellsOfEach told ps rs → (r : Report) → In r rs
+    → In 0 (named r) → ⊥
 untold told [] [] h r i j = i
 untold told [] (x ∷ xs) h r i j = h
 untold told (p ∷ ps) [] h r i j = i
-untold told (p ∷ ps) (x ∷ xs) h r (inl e) j = not-dead p (In-filter (λ g. not (is_in g told)) 0 (dead p) (subst (In 0) h.0 (subst (λ (z : Report). In 0 (named z)) e j))).0
+untold told (p ∷ ps) (x ∷ xs) h r (inl e) j =
+    not-dead p (In-filter (λ g. not (is_in g told)) 0 (dead p)
+    (subst (In 0) h.0 (subst (λ (z : Report). In 0 (named z)) e j))).0
 untold told (p ∷ ps) (x ∷ xs) h r (inr i) j = untold (told ++ named x) ps xs h.1 r i j
 
-pub unreported : (code : Code) (events : List Event) (recover : Bool) (r : Report) → In r (real_reports code events recover) → In 0 (named r) → ⊥
+pub unreported : (code : Code) (events : List Event) (recover : Bool) (r : Report)
+    → In r (real_reports code events recover) → In 0 (named r) → ⊥
 unreported code events recover r i j =
-    untold [] (stops code events) (book_of (stops code events) recover (sets_finalisers code)) (book_tells_of_each code events recover) r
+    untold [] (stops code events) (book_of (stops code events) recover (sets_finalisers code))
+    (book_tells_of_each code events recover) r
     (subst (In r) (real_runs_agree code events recover).2 i) j

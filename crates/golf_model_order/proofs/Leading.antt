@@ -36,13 +36,22 @@ waited-ref (w ∷ ws) u (inr i) = inr (In-right u.object.0 (value_refs w.value) 
 
 pub leads-whole : (code : Code) (s : State) → Leads code s → IsWhole s
 leads-whole code s Leads.Start = (sane-start code).whole
-leads-whole code s (Leads.Turn t k l e) = (sane-step code t k (record { numbered = leads-numbered code t l; whole = leads-whole code t l })).whole
-leads-whole code s (Leads.Collection t recover l e) = whole-real t recover (sets_finalisers code) (leads-numbered code t l) (leads-whole code t l)
+leads-whole code s (Leads.Turn t k l e) =
+    (sane-step code t k (record { numbered = leads-numbered code t l; whole = leads-whole code t l })).whole
+leads-whole code s (Leads.Collection t recover l e) =
+    whole-real t recover (sets_finalisers code) (leads-numbered code t l) (leads-whole code t l)
 leads-whole code s (Leads.Emptied t l) =
-    let w = leads-whole code t l in record { globals = w.globals; queue = w.queue; finalised = w.finalised; objects = w.objects; goroutines = w.goroutines }
+    let w = leads-whole code t l in record {
+      globals = w.globals;
+      queue = w.queue;
+      finalised = w.finalised;
+      objects = w.objects;
+      goroutines = w.goroutines;
+    }
 
 -- what a collection leaves is as it was
-left-found : (s : State) (recover may_set : Bool) → Numbered s → (o : ℕ) (x : Object) → find o s.objects ≡ Some x → Present (real_collect s recover may_set) o → find o (real_collect s recover may_set).objects ≡ Some x
+left-found : (s : State) (recover may_set : Bool) → Numbered s → (o : ℕ) (x : Object) → find o s.objects ≡ Some x
+    → Present (real_collect s recover may_set) o → find o (real_collect s recover may_set).objects ≡ Some x
 left-found s recover may_set n o x e i =
     let kept : ℕ → Bool = λ p. is_in p (retained s (removed s recover may_set)) in
     let r = Entry-keys (only kept s.objects) o i in
@@ -53,28 +62,40 @@ module _ (s : State) (recover may_set : Bool) (n : Numbered s) (w : IsWhole s) (
   abbrev stays : ℕ → Bool
   stays g = not (is_in g (removed s recover may_set))
 
-  left-mutex : (v : IsWhole (real_collect s recover may_set)) (g : ℕ) (r : GoroutineView) → Entry (only stays s.goroutines) g r → (u : Wait) → In u (waits_of r.mode) → HasMutex s.objects u → HasMutex (real_collect s recover may_set).objects u
+  left-mutex : (v : IsWhole (real_collect s recover may_set)) (g : ℕ) (r : GoroutineView)
+      → Entry (only stays s.goroutines) g r → (u : Wait) → In u (waits_of r.mode) → HasMutex s.objects u
+      → HasMutex (real_collect s recover may_set).objects u
   left-mutex v g r e u i m = λ side.
       let a = m side in
-      let there : Present (real_collect s recover may_set) u.object.0 = Every-at (Present (real_collect s recover may_set)) (wait_refs (waits_of r.mode)) u.object.0 (goroutine-waits (Present (real_collect s recover may_set)) r (v.goroutines g r e)) (waited-ref (waits_of r.mode) u i) in
+      let there : Present (real_collect s recover may_set) u.object.0 =
+      Every-at (Present (real_collect s recover may_set)) (wait_refs (waits_of r.mode)) u.object.0
+      (goroutine-waits (Present (real_collect s recover may_set)) r (v.goroutines g r e))
+      (waited-ref (waits_of r.mode) u i) in
       let c = left-found s recover may_set n u.object.0 (Object.Cond (reference a.0)) a.2 there in
-      let l = left-found s recover may_set n a.0 (Object.Mutex a.1) a.3 (v.objects u.object.0 (Object.Cond (reference a.0)) (Entry-find u.object.0 (real_collect s recover may_set).objects (Object.Cond (reference a.0)) c)).0 in
+      let l = left-found s recover may_set n a.0 (Object.Mutex a.1) a.3
+      (v.objects u.object.0 (Object.Cond (reference a.0))
+      (Entry-find u.object.0 (real_collect s recover may_set).objects (Object.Cond (reference a.0)) c)).0 in
       (a.0, a.1, c, l)
 
   pub order-real : IsOrderly (real_collect s recover may_set)
   order-real = record {
-    goroutines = order-only s.goroutines s.next_ticket h.goroutines stays (ap not (is_in-out 0 (removed s recover may_set) (λ i. (gone-dead s recover may_set 0 i).2 (lives s))));
+    goroutines = order-only s.goroutines s.next_ticket h.goroutines stays
+        (ap not (is_in-out 0 (removed s recover may_set) (λ i. (gone-dead s recover may_set 0 i).2 (lives s))));
     conditions = λ g r e.
         let b = h.conditions g r (Entry-only stays s.goroutines g r e).1 in
-        Every-from (HasMutex (real_collect s recover may_set).objects) (waits_of r.mode) (λ u i. left-mutex (whole-real s recover may_set n w) g r e u i (Every-at (HasMutex s.objects) (waits_of r.mode) u b i));
+        Every-from (HasMutex (real_collect s recover may_set).objects) (waits_of r.mode)
+        (λ u i. left-mutex (whole-real s recover may_set n w) g r e u i
+        (Every-at (HasMutex s.objects) (waits_of r.mode) u b i));
   }
 
 -- nobody is blocked in the opening state
 nobody-blocked : (code : Code) (g : ℕ) (r : GoroutineView) → IsBlocked (first_goroutines code) g r → ⊥
 nobody-blocked code g r b = elim b.entry [
-  | inl a ↦ (let t : is_running r.mode ≡ true = ap (λ (z : GoroutineView). is_running z.mode) a.1 in let f = b.blocked in cc)
+  | inl a ↦ (let t : is_running r.mode ≡ true = ap
+      (λ (z : GoroutineView). is_running z.mode) a.1 in let f = b.blocked in cc)
   | inr c ↦ elim c [
-    | inl a ↦ (let t : is_running r.mode ≡ true = ap (λ (z : GoroutineView). is_running z.mode) a.1 in let f = b.blocked in cc)
+    | inl a ↦ (let t : is_running r.mode ≡ true = ap
+        (λ (z : GoroutineView). is_running z.mode) a.1 in let f = b.blocked in cc)
     | inr a ↦ a
   ]
 ]
@@ -87,11 +108,16 @@ order-start code = record {
     below = λ g r b. absurd (nobody-blocked code g r b);
     different = λ g h q r a b e. absurd (nobody-blocked code g q a);
   };
-  conditions = λ g r e. Entry-Every (λ k q. Every (HasMutex []) (waits_of q.mode)) (first_goroutines code) (tt, (tt, tt)) g r e;
+  conditions = λ g r e. Entry-Every (λ k q. Every (HasMutex []) (waits_of q.mode)) (first_goroutines code)
+      (tt, (tt, tt)) g r e;
 }
 
 pub leads-orderly : (code : Code) (s : State) → Leads code s → IsOrderly s
 leads-orderly code s Leads.Start = order-start code
-leads-orderly code s (Leads.Turn t k l e) = order-step code t k (leads-numbered code t l).goroutines_rise (leads-orderly code t l)
-leads-orderly code s (Leads.Collection t recover l e) = order-real t recover (sets_finalisers code) (leads-numbered code t l) (leads-whole code t l) (leads-orderly code t l)
-leads-orderly code s (Leads.Emptied t l) = let h = leads-orderly code t l in record { goroutines = h.goroutines; conditions = h.conditions }
+leads-orderly code s (Leads.Turn t k l e) =
+    order-step code t k (leads-numbered code t l).goroutines_rise (leads-orderly code t l)
+leads-orderly code s (Leads.Collection t recover l e) =
+    order-real t recover (sets_finalisers code) (leads-numbered code t l) (leads-whole code t l)
+    (leads-orderly code t l)
+leads-orderly code s (Leads.Emptied t l) = let h =
+    leads-orderly code t l in record { goroutines = h.goroutines; conditions = h.conditions }

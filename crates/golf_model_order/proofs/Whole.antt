@@ -29,13 +29,16 @@ module _ (s : State) (recover sets_finalisers : Bool) (n : Numbered s) (w : IsWh
   left = cut stays kept (plain_collect s)
 
   flows : Flow (λ o. kept o ≡ true) (λ g. stays g ≡ true) (plain_collect s)
-  flows = flow-collect (λ o. kept o ≡ true) (λ g. stays g ≡ true) s (flow-kept s n gone (removed-ok s recover sets_finalisers).dead)
+  flows = flow-collect (λ o. kept o ≡ true) (λ g. stays g ≡ true) s
+      (flow-kept s n gone (removed-ok s recover sets_finalisers).dead)
 
   there : (o : ℕ) → kept o ≡ true → Present (plain_collect s) o → Present left o
   there o k i = subst (In o) (sym (keys-only kept s.objects)) (In-filter_old kept o (keys s.objects) k i)
 
-  all-there : (os : List ℕ) → Every (λ o. kept o ≡ true) os → Every (Present (plain_collect s)) os → Every (Present left) os
-  all-there os k h = Every-from (Present left) os (λ o i. there o (Every-at (λ p. kept p ≡ true) os o k i) (Every-at (Present (plain_collect s)) os o h i))
+  all-there : (os : List ℕ) → Every (λ o. kept o ≡ true) os → Every (Present (plain_collect s)) os
+      → Every (Present left) os
+  all-there os k h = Every-from (Present left) os
+      (λ o i. there o (Every-at (λ p. kept p ≡ true) os o k i) (Every-at (Present (plain_collect s)) os o h i))
 
   whole-left : IsWhole left
   whole-left =
@@ -43,8 +46,10 @@ module _ (s : State) (recover sets_finalisers : Bool) (n : Numbered s) (w : IsWh
         globals = all-there _ flows.globals p.globals;
         queue = all-there _ flows.queue p.queue;
         finalised = λ o f e. there o (flows.finalised o f e) (p.finalised o f e);
-        objects = λ o x e. let i = Entry-only kept s.objects o x e in all-there _ (flows.objects o x i.0 i.1) (p.objects o x i.1);
-        goroutines = λ g r e. let i = Entry-only stays s.goroutines g r e in all-there _ (flows.goroutines g r i.0 i.1) (p.goroutines g r i.1);
+        objects = λ o x e. let i = Entry-only kept s.objects o x e in all-there _ (flows.objects o x i.0 i.1)
+            (p.objects o x i.1);
+        goroutines = λ g r e. let i = Entry-only stays s.goroutines g r e in all-there _ (flows.goroutines g r i.0 i.1)
+            (p.goroutines g r i.1);
       }
 
   pub whole-real : IsWhole (real_collect s recover sets_finalisers)

@@ -24,7 +24,8 @@ LeadsWhole = (code : Code) (s : State) → Leads code s → IsWhole s
 
 -- a collection keeps that, whether it removes goroutines or not
 abbrev pub CollectionsKeepWhole : Type 0
-CollectionsKeepWhole = (s : State) (recover sets_finalisers : Bool) → Numbered s → IsWhole s → IsWhole (real_collect s recover sets_finalisers)
+CollectionsKeepWhole = (s : State) (recover sets_finalisers : Bool) → Numbered s → IsWhole s
+    → IsWhole (real_collect s recover sets_finalisers)
 
 -- in every state that moves lead to goroutines are in order
 abbrev pub LeadsOrderly : Type 0
@@ -35,13 +36,15 @@ abbrev pub ChangesKeepOrder : Type 0
 ChangesKeepOrder = (s : State) (c : Change) → KeepsOrder s.objects c → IsOrderly s → IsOrderly (apply c s)
 
 abbrev pub InstructionsKeepOrder : Type 0
-InstructionsKeepOrder = (code : Code) (i : Instr) (a : Actor) (choice : ℕ) (s : State) → AllKeepOrder s.objects (changes code i a choice s)
+InstructionsKeepOrder = (code : Code) (i : Instr) (a : Actor) (choice : ℕ) (s : State)
+    → AllKeepOrder s.objects (changes code i a choice s)
 
 abbrev pub TurnsKeepOrder : Type 0
 TurnsKeepOrder = (code : Code) (s : State) (k : ℕ) → IsRising s.goroutines → IsOrderly s → IsOrderly (step code s k)
 
 abbrev pub CollectionsKeepOrder : Type 0
-CollectionsKeepOrder = (s : State) (recover sets_finalisers : Bool) → Numbered s → IsWhole s → IsOrderly s → IsOrderly (real_collect s recover sets_finalisers)
+CollectionsKeepOrder = (s : State) (recover sets_finalisers : Bool) → Numbered s → IsWhole s → IsOrderly s
+    → IsOrderly (real_collect s recover sets_finalisers)
 
 -- goroutine 0, which runs finalisers, is live, and so it is never dead
 abbrev pub FinaliserGoroutineLives : Type 0
@@ -49,4 +52,5 @@ FinaliserGoroutineLives = (s : State) → Live s (Node.AGoroutine 0) × (In 0 (d
 
 -- no report of a run names it
 abbrev pub FinaliserGoroutineUnreported : Type 0
-FinaliserGoroutineUnreported = (code : Code) (events : List Event) (recover : Bool) (r : Report) → In r (real_reports code events recover) → In 0 (named r) → ⊥
+FinaliserGoroutineUnreported = (code : Code) (events : List Event) (recover : Bool) (r : Report)
+    → In r (real_reports code events recover) → In 0 (named r) → ⊥

@@ -1,4 +1,5 @@
--- Goroutines in order: who is blocked has a frame and a ticket of its own, who waits on a condition waits on one with a mutex, and goroutine 0 is there.
+-- Goroutines in order: who is blocked has a frame and a ticket of its own, who waits on a condition waits on one with a
+-- mutex, and goroutine 0 is there.
 use Rattle.std.specs.Prelude.{◌≡◌, ℕ, ℤ, ◌<◌, Bool, true, false, List, Some}
 use Rattle.golf_theory.specs.Maps.{Entry, find, keys}
 use Rattle.golf_theory.specs.Membership.{In, Every}
@@ -23,13 +24,16 @@ pub record InOrder (goroutines : List (ℕ × GoroutineView)) (n : ℕ) : Type 0
   pub finaliser_goroutine : In 0 (keys goroutines)
   pub frames : (g : ℕ) (r : GoroutineView) → IsBlocked goroutines g r → not_empty r.frames ≡ true
   pub below : (g : ℕ) (r : GoroutineView) → IsBlocked goroutines g r → ticket_of r.mode < n
-  pub different : (g h : ℕ) (q r : GoroutineView) → IsBlocked goroutines g q → IsBlocked goroutines h r → ticket_of q.mode ≡ ticket_of r.mode → g ≡ h
+  pub different : (g h : ℕ) (q r : GoroutineView) → IsBlocked goroutines g q → IsBlocked goroutines h r
+      → ticket_of q.mode ≡ ticket_of r.mode → g ≡ h
 
 -- a wait on a condition is on one that is there with its mutex
 abbrev pub HasMutex : List (ℕ × Object) → Wait → Type 0
-HasMutex objects w = w.side ≡ Side.Cond → (m : ℕ) × (locked : Bool) × (find w.object.0 objects ≡ Some (Object.Cond (reference m))) × (find m objects ≡ Some (Object.Mutex locked))
+HasMutex objects w = w.side ≡ Side.Cond → (m : ℕ) × (locked : Bool)
+    × (find w.object.0 objects ≡ Some (Object.Cond (reference m))) × (find m objects ≡ Some (Object.Mutex locked))
 
--- a blocked goroutine has a frame; tickets of blocked goroutines differ and lie below the next one; goroutine 0 is there; conditions that are waited on have a mutex
+-- a blocked goroutine has a frame; tickets of blocked goroutines differ and lie below the next one; goroutine 0 is
+-- there; conditions that are waited on have a mutex
 pub record IsOrderly (s : State) : Type 0 where
   pub goroutines : InOrder s.goroutines s.next_ticket
   pub conditions : (g : ℕ) (r : GoroutineView) → Entry s.goroutines g r → Every (HasMutex s.objects) (waits_of r.mode)
@@ -44,7 +48,8 @@ SameKind (Object.Group n) y = (k : ℤ) × (y ≡ Object.Group k)
 SameKind (Object.Rw n) y = (k : ℤ) × (y ≡ Object.Rw k)
 SameKind (Object.Cond v) y = y ≡ Object.Cond v
 
--- a goroutine that is replaced or started runs, who blocks has a frame, goroutine 0 does not leave, and an object stays of its kind
+-- a goroutine that is replaced or started runs, who blocks has a frame, goroutine 0 does not leave, and an object stays
+-- of its kind
 abbrev pub KeepsOrder : List (ℕ × Object) → Change → Type 0
 KeepsOrder objects (Change.Replace o x) = (y : Object) × (find o objects ≡ Some y) × SameKind y x
 KeepsOrder objects (Change.Become g r) = is_running r.mode ≡ true

@@ -16,34 +16,73 @@ use Rattle.golf_model_typing.specs.Types.{ValueType, Shape, FunctionTypes, Typin
 use Rattle.golf_model_typing.specs.Shapes.{GoesOn, InstructionFits}
 use Rattle.golf_model_typing.specs.WellTyped.{WellTyped, ChangesFit}
 use Rattle.golf_model_typing.proofs.Changing.{released-at}
-use Rattle.golf_model_progress.proofs.Acting.{Proceeds, of-taking_one, of-reference, of-mutex, ActorFits, proceeds-panics, proceeds-dies, proceeds-goes, proceeds-blocks, taken, on_no, lands}
+use Rattle.golf_model_progress.proofs.Acting.{Proceeds, of-taking_one, of-reference, of-mutex, ActorFits}
+use Rattle.golf_model_progress.proofs.Acting.{proceeds-panics, proceeds-dies, proceeds-goes, proceeds-blocks, taken}
+use Rattle.golf_model_progress.proofs.Acting.{on_no, lands}
 use Rattle.golf_model_progress.proofs.Channels.{first-typed}
 
-module _ (types : Typing) (known : List (ℕ × ValueType)) (s : State) (w : WellTyped types known s) (a : Actor) (ft : FunctionTypes) (sh : Shape) (i : ActorFits types known s a ft sh) where
+module _ (types : Typing) (known : List (ℕ × ValueType)) (s : State) (w : WellTyped types known s) (a : Actor)
+    (ft : FunctionTypes) (sh : Shape) (i : ActorFits types known s a ft sh) where
   abbrev Goes : List Change → Type 0
   Goes cs = Proceeds types known s cs
 
-  proceeds-locks_by : (rest : List Value) (ts : List ValueType) (o : ℕ) (locked : Bool) → ValuesFit types.of known rest ts → GoesOn ft ts sh.assigned (a.frame.at + 1) → HasType known o ValueType.Mutex → Goes (locks_by a rest o locked)
-  proceeds-locks_by rest ts o false hs l k = record { moves = refl; keeps = ((ValueType.Mutex, k, refl), (proceeds-goes types known s a ft sh i rest ts hs l).keeps) }
-  proceeds-locks_by rest ts o true hs l k = proceeds-blocks types known s a ft sh i (next a.frame rest) WaitKind.Lock (bare_wait o Side.Lock ∷ []) i.holds.base
-      ((k, on_no types known s a ft sh i [] (a.frame.at + 1) rest a.frame.slots (lands ts sh.assigned l hs i.assigned)), tt) ((λ e. cc), tt) i.holds.callers
+  proceeds-locks_by : (rest : List Value) (ts : List ValueType) (o : ℕ) (locked : Bool)
+      → ValuesFit types.of known rest ts → GoesOn ft ts sh.assigned (a.frame.at + 1) → HasType known o ValueType.Mutex
+      → Goes (locks_by a rest o locked)
+  proceeds-locks_by rest ts o false hs l k =
+      record {
+        moves = refl;
+        keeps = (
+          (ValueType.Mutex, k, refl),
+          (proceeds-goes types known s a ft sh i rest ts hs l).keeps,
+        );
+      }
+  proceeds-locks_by rest ts o true hs l k =
+      proceeds-blocks types known s a ft sh i (next a.frame rest) WaitKind.Lock
+      (bare_wait o Side.Lock ∷ []) i.holds.base (
+        (
+          k,
+          on_no types known s a ft sh i [] (a.frame.at + 1) rest a.frame.slots
+              (lands ts sh.assigned l hs i.assigned),
+        ),
+        tt,
+      ) ((λ e. cc), tt) i.holds.callers
 
   pub proceeds-locks : InstructionFits types.of ft a.frame.at Instr.Lock sh → Goes (locks a s)
-  proceeds-locks r = of-taking_one types known s Goes _ a.frame.operands ValueType.Mutex r.0 (taken types known s a ft sh i (ValueType.Mutex ∷ r.0) r.1) i.present
-      (λ x rest h hs p. of-reference types known s Goes a _ x ValueType.Mutex tt h p (proceeds-panics types known s a ft PanicKind.NilPointer i.holds)
-      (λ o k there. of-mutex types known s Goes w o ValueType.Mutex k there _ refl (λ locked. proceeds-locks_by rest r.0 o locked hs r.2 k)))
+  proceeds-locks r = of-taking_one types known s Goes _ a.frame.operands ValueType.Mutex r.0
+      (taken types known s a ft sh i (ValueType.Mutex ∷ r.0) r.1) i.present
+      (λ x rest h hs p. of-reference types known s Goes a _ x ValueType.Mutex tt h p
+      (proceeds-panics types known s a ft PanicKind.NilPointer i.holds)
+      (λ o k there. of-mutex types known s Goes w o ValueType.Mutex k there _ refl
+      (λ locked. proceeds-locks_by rest r.0 o locked hs r.2 k)))
 
-  pub hands-over : (t : State) (o : ℕ) (m : Option Waiter) → first o Side.Lock s.goroutines ≡ m → HasType known o ValueType.Mutex → ChangesFit types known t (hands_over o m)
+  pub hands-over : (t : State) (o : ℕ) (m : Option Waiter) → first o Side.Lock s.goroutines ≡ m
+      → HasType known o ValueType.Mutex → ChangesFit types known t (hands_over o m)
   hands-over t o None q k = ((ValueType.Mutex, k, refl), tt)
   hands-over t o (Some u) q k =
-      let is = first-typed types known s w o Side.Lock u q in
-      (released-at types known u.number u.wait (waits_of u.goroutine.mode) u.goroutine (λ e. let f = is.side_is in cc) (λ e. let f = is.side_is in cc) is.in_waits is.blocked, tt)
+      let is = first-typed types known s w o Side.Lock u q in (
+        released-at types known u.number u.wait (waits_of u.goroutine.mode) u.goroutine (λ e. let f = is.side_is in cc)
+            (λ e. let f = is.side_is in cc) is.in_waits is.blocked,
+        tt,
+      )
 
-  proceeds-unlocks_by : (rest : List Value) (ts : List ValueType) (o : ℕ) (locked : Bool) → ValuesFit types.of known rest ts → GoesOn ft ts sh.assigned (a.frame.at + 1) → HasType known o ValueType.Mutex → Goes (unlocks_by a rest s o locked)
+  proceeds-unlocks_by : (rest : List Value) (ts : List ValueType) (o : ℕ) (locked : Bool)
+      → ValuesFit types.of known rest ts → GoesOn ft ts sh.assigned (a.frame.at + 1) → HasType known o ValueType.Mutex
+      → Goes (unlocks_by a rest s o locked)
   proceeds-unlocks_by rest ts o false hs l k = proceeds-dies types known s a ft PanicKind.UnlockUnlocked
-  proceeds-unlocks_by rest ts o true hs l k = record { moves = refl; keeps = ((proceeds-goes types known s a ft sh i rest ts hs l).keeps.0, hands-over _ o (first o Side.Lock s.goroutines) refl k) }
+  proceeds-unlocks_by rest ts o true hs l k =
+      record {
+        moves = refl;
+        keeps = (
+          (proceeds-goes types known s a ft sh i rest ts hs l).keeps.0,
+          hands-over _ o (first o Side.Lock s.goroutines) refl k,
+        );
+      }
 
   pub proceeds-unlocks : InstructionFits types.of ft a.frame.at Instr.Unlock sh → Goes (unlocks a s)
-  proceeds-unlocks r = of-taking_one types known s Goes _ a.frame.operands ValueType.Mutex r.0 (taken types known s a ft sh i (ValueType.Mutex ∷ r.0) r.1) i.present
-      (λ x rest h hs p. of-reference types known s Goes a _ x ValueType.Mutex tt h p (proceeds-panics types known s a ft PanicKind.NilPointer i.holds)
-      (λ o k there. of-mutex types known s Goes w o ValueType.Mutex k there _ refl (λ locked. proceeds-unlocks_by rest r.0 o locked hs r.2 k)))
+  proceeds-unlocks r = of-taking_one types known s Goes _ a.frame.operands ValueType.Mutex r.0
+      (taken types known s a ft sh i (ValueType.Mutex ∷ r.0) r.1) i.present
+      (λ x rest h hs p. of-reference types known s Goes a _ x ValueType.Mutex tt h p
+      (proceeds-panics types known s a ft PanicKind.NilPointer i.holds)
+      (λ o k there. of-mutex types known s Goes w o ValueType.Mutex k there _ refl
+      (λ locked. proceeds-unlocks_by rest r.0 o locked hs r.2 k)))

@@ -15,16 +15,19 @@ use Rattle.golf_model_typing.specs.WellTyped.{WellTyped}
 -- a well-typed state without an ending moves on, whoever's turn it is
 abbrev pub TypedStatesMoveOn : Type 0
 TypedStatesMoveOn = (code : Code) (types : Typing) (known : List (ℕ × ValueType)) (s : State) (c : ℕ)
-    → HasShapes code types → WellTyped types known s → IsWhole s → Numbered s → IsOrderly s → ending s ≡ None → MovesOn code s c
+    → HasShapes code types → WellTyped types known s → IsWhole s → Numbered s → IsOrderly s → ending s ≡ None
+    → MovesOn code s c
 
 -- a turn keeps types, and what is known stays known
 abbrev pub TurnsKeepTypes : Type 0
 TurnsKeepTypes = (code : Code) (types : Typing) (known : List (ℕ × ValueType)) (s : State) (c : ℕ)
-    → HasShapes code types → WellTyped types known s → IsWhole s → Numbered s → IsOrderly s → (later : List (ℕ × ValueType)) × WellTyped types later (step code s c) × Grows known later
+    → HasShapes code types → WellTyped types known s → IsWhole s → Numbered s → IsOrderly s
+    → (later : List (ℕ × ValueType)) × WellTyped types later (step code s c) × Grows known later
 
 -- a collection keeps types, whether it removes goroutines or not
 abbrev pub CollectionsKeepTypes : Type 0
-CollectionsKeepTypes = (types : Typing) (known : List (ℕ × ValueType)) (s : State) → WellTyped types known s → Numbered s → (recover sets_finalisers : Bool) → WellTyped types known (real_collect s recover sets_finalisers)
+CollectionsKeepTypes = (types : Typing) (known : List (ℕ × ValueType)) (s : State) → WellTyped types known s
+    → Numbered s → (recover sets_finalisers : Bool) → WellTyped types known (real_collect s recover sets_finalisers)
 
 -- the opening state is well typed
 abbrev pub StartIsTyped : Type 0
@@ -32,8 +35,10 @@ StartIsTyped = (code : Code) (types : Typing) → HasShapes code types → WellT
 
 -- so is every state that moves lead to
 abbrev pub LeadsTyped : Type 0
-LeadsTyped = (code : Code) (types : Typing) → HasShapes code types → (s : State) → Leads code s → (known : List (ℕ × ValueType)) × WellTyped types known s
+LeadsTyped = (code : Code) (types : Typing) → HasShapes code types → (s : State) → Leads code s
+    → (known : List (ℕ × ValueType)) × WellTyped types known s
 
 -- no state that moves lead to from the opening state of a code with shapes is stuck before its ending
 abbrev pub NeverStuck : Type 0
-NeverStuck = (code : Code) (types : Typing) → HasShapes code types → (s : State) (c : ℕ) → Leads code s → ending s ≡ None → MovesOn code s c
+NeverStuck = (code : Code) (types : Typing) → HasShapes code types → (s : State) (c : ℕ) → Leads code s
+    → ending s ≡ None → MovesOn code s c

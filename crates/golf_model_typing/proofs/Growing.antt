@@ -15,39 +15,51 @@ use Rattle.golf_data.specs.declared.goroutine.Wait.{Wait}
 use Rattle.golf_model.specs.Views.{FrameView, GoroutineView}
 use Rattle.golf_model_typing.specs.Types.{ValueType, FunctionTypes, Typing, HasType, ValueFits, ValuesFit, ObjectFits}
 use Rattle.golf_model_typing.specs.Shapes.{slot_types}
-use Rattle.golf_model_typing.specs.WellTyped.{gives, received_types, SlotFits, Stands, ResultFits, LeavingFits, CallFits, DeferredFits, FrameBase, FramesFit, WaitFitsAt, WaitFits, BlockedFits, ModeFits, GoroutineFits}
+use Rattle.golf_model_typing.specs.WellTyped.{gives, received_types, SlotFits, Stands, ResultFits, LeavingFits}
+use Rattle.golf_model_typing.specs.WellTyped.{CallFits, DeferredFits, FrameBase, FramesFit, WaitFitsAt, WaitFits}
+use Rattle.golf_model_typing.specs.WellTyped.{BlockedFits, ModeFits, GoroutineFits}
 
-module _ (types : Typing) (known later : List (ℕ × ValueType)) (grows : (o : ℕ) (t : ValueType) → HasType known o t → HasType later o t) where
+module _ (types : Typing) (known later : List (ℕ × ValueType))
+    (grows : (o : ℕ) (t : ValueType) → HasType known o t → HasType later o t) where
   pub value-more : (v : Value) (t : ValueType) → ValueFits types.of known v t → ValueFits types.of later v t
   value-more (Value.Ref o) t h = (grows o.0 t h.0, h.1)
   value-more _ t h = h
 
-  pub values-more : (vs : List Value) (ts : List ValueType) → ValuesFit types.of known vs ts → ValuesFit types.of later vs ts
+  pub values-more : (vs : List Value) (ts : List ValueType) → ValuesFit types.of known vs ts
+      → ValuesFit types.of later vs ts
   values-more [] [] h = tt
   values-more [] (t ∷ ts) h = h
   values-more (v ∷ vs) [] h = h
   values-more (v ∷ vs) (t ∷ ts) h = (value-more v t h.0, values-more vs ts h.1)
 
-  each-more : (e : ValueType) (vs : List Value) → Every (λ v. ValueFits types.of known v e) vs → Every (λ v. ValueFits types.of later v e) vs
-  each-more e vs h = Every-weaker (λ v. ValueFits types.of known v e) (λ v. ValueFits types.of later v e) (λ v i. value-more v e i) vs h
+  each-more : (e : ValueType) (vs : List Value) → Every (λ v. ValueFits types.of known v e) vs
+      → Every (λ v. ValueFits types.of later v e) vs
+  each-more e vs h = Every-weaker (λ v. ValueFits types.of known v e) (λ v. ValueFits types.of later v e)
+      (λ v i. value-more v e i) vs h
 
   pub object-more : (x : Object) (t : ValueType) → ObjectFits types.of known x t → ObjectFits types.of later x t
   object-more (Object.Struct fields) t h = (h.0, h.1, h.2, h.3, values-more fields h.1 h.4)
   object-more (Object.Slice elements) t h = (h.0, h.1, each-more h.0 elements h.2)
-  object-more (Object.Chan c) t h = (h.0, h.1, record { buffer = each-more h.0 c.buffer h.2.buffer; zero = value-more c.zero h.0 h.2.zero })
+  object-more (Object.Chan c) t h = (
+    h.0,
+    h.1,
+    record { buffer = each-more h.0 c.buffer h.2.buffer; zero = value-more c.zero h.0 h.2.zero },
+  )
   object-more (Object.Mutex locked) t h = h
   object-more (Object.Group n) t h = h
   object-more (Object.Rw n) t h = h
   object-more (Object.Cond m) t h = (h.0, value-more m ValueType.Mutex h.1)
 
-  stands-more : (ft : FunctionTypes) (ts : List ValueType) (at : ℕ) (vs slots : List Value) → Stands types known ft ts at vs slots → Stands types later ft ts at vs slots
+  stands-more : (ft : FunctionTypes) (ts : List ValueType) (at : ℕ) (vs slots : List Value)
+      → Stands types known ft ts at vs slots → Stands types later ft ts at vs slots
   stands-more ft ts at vs slots h = record {
     shape = h.shape;
     here = h.here;
     rest = h.rest;
     lacks = h.lacks;
     held = values-more vs h.rest h.held;
-    assigned = Every-weaker (SlotFits types known (slot_types ft) slots) (SlotFits types later (slot_types ft) slots) (λ i a. (a.0, a.1, a.2, a.3, value-more a.1 a.0 a.4)) h.shape.assigned h.assigned;
+    assigned = Every-weaker (SlotFits types known (slot_types ft) slots) (SlotFits types later (slot_types ft) slots)
+        (λ i a. (a.0, a.1, a.2, a.3, value-more a.1 a.0 a.4)) h.shape.assigned h.assigned;
   }
 
   result-more : (v : Option Value) (t : Option ValueType) → ResultFits types known v t → ResultFits types later v t
@@ -56,7 +68,8 @@ module _ (types : Typing) (known later : List (ℕ × ValueType)) (grows : (o : 
   result-more (Some v) None h = h
   result-more (Some v) (Some t) h = value-more v t h
 
-  leaving-more : (ft : FunctionTypes) (ts : List ValueType) (at : ℕ) (vs slots : List Value) (l : Leaving) → LeavingFits types known ft ts at vs slots l → LeavingFits types later ft ts at vs slots l
+  leaving-more : (ft : FunctionTypes) (ts : List ValueType) (at : ℕ) (vs slots : List Value) (l : Leaving)
+      → LeavingFits types known ft ts at vs slots l → LeavingFits types later ft ts at vs slots l
   leaving-more ft ts at vs slots Leaving.No h = stands-more ft ts at vs slots h
   leaving-more ft ts at vs slots (Leaving.Returning v) h = result-more v ft.result h
   leaving-more ft ts at vs slots (Leaving.Unwinding x) h = tt
@@ -64,15 +77,18 @@ module _ (types : Typing) (known later : List (ℕ × ValueType)) (grows : (o : 
   pub call-more : (f : ℕ) (vs : List Value) → CallFits types known f vs → CallFits types later f vs
   call-more f vs h = (h.0, h.1, values-more vs h.0.params h.2)
 
-  pub base-more : (ft : FunctionTypes) (f : ℕ) (slots : List Value) (ds : List Deferred) → FrameBase types known ft f slots ds → FrameBase types later ft f slots ds
+  pub base-more : (ft : FunctionTypes) (f : ℕ) (slots : List Value) (ds : List Deferred)
+      → FrameBase types known ft f slots ds → FrameBase types later ft f slots ds
   base-more ft f slots ds h = record {
     typed = h.typed;
     shaped = h.shaped;
     full = h.full;
-    deferred_calls = Every-weaker (DeferredFits types known) (DeferredFits types later) (λ d i. call-more d.function d.arguments i) ds h.deferred_calls;
+    deferred_calls = Every-weaker (DeferredFits types known) (DeferredFits types later)
+        (λ d i. call-more d.function d.arguments i) ds h.deferred_calls;
   }
 
-  pub frames-more : (ts : List ValueType) (fs : List FrameView) → FramesFit types known ts fs → FramesFit types later ts fs
+  pub frames-more : (ts : List ValueType) (fs : List FrameView) → FramesFit types known ts fs
+      → FramesFit types later ts fs
   frames-more ts [] h = tt
   frames-more ts (f ∷ fs) h = (
     h.0,
@@ -80,21 +96,48 @@ module _ (types : Typing) (known later : List (ℕ × ValueType)) (grows : (o : 
     frames-more (gives f.discards h.0.result) fs h.2,
   )
 
-  wait-more : (ft : FunctionTypes) (f : FrameView) (w : Wait) (side : Side) → WaitFitsAt types known ft f w side → WaitFitsAt types later ft f w side
-  wait-more ft f w Side.Receive h = (h.0, grows w.object.0 (ValueType.Chan h.0) h.1, leaving-more ft (received_types w.with_ok h.0) (unwrap_or w.target f.at) f.operands f.slots f.leaving h.2)
-  wait-more ft f w Side.Send h = (h.0, grows w.object.0 (ValueType.Chan h.0) h.1, value-more w.value h.0 h.2, leaving-more ft [] (unwrap_or w.target f.at) f.operands f.slots f.leaving h.3)
-  wait-more ft f w Side.Lock h = (grows w.object.0 ValueType.Mutex h.0, leaving-more ft [] f.at f.operands f.slots f.leaving h.1)
-  wait-more ft f w Side.Group h = (grows w.object.0 ValueType.Group h.0, leaving-more ft [] f.at f.operands f.slots f.leaving h.1)
-  wait-more ft f w Side.Read h = (grows w.object.0 ValueType.Rw h.0, leaving-more ft [] f.at f.operands f.slots f.leaving h.1)
-  wait-more ft f w Side.Write h = (grows w.object.0 ValueType.Rw h.0, leaving-more ft [] f.at f.operands f.slots f.leaving h.1)
-  wait-more ft f w Side.Cond h = (grows w.object.0 ValueType.Cond h.0, leaving-more ft [] f.at f.operands f.slots f.leaving h.1)
+  wait-more : (ft : FunctionTypes) (f : FrameView) (w : Wait) (side : Side) → WaitFitsAt types known ft f w side
+      → WaitFitsAt types later ft f w side
+  wait-more ft f w Side.Receive h = (
+    h.0,
+    grows w.object.0 (ValueType.Chan h.0) h.1,
+    leaving-more ft (received_types w.with_ok h.0) (unwrap_or w.target f.at) f.operands f.slots f.leaving h.2,
+  )
+  wait-more ft f w Side.Send h = (
+    h.0,
+    grows w.object.0 (ValueType.Chan h.0) h.1,
+    value-more w.value h.0 h.2,
+    leaving-more ft [] (unwrap_or w.target f.at) f.operands f.slots f.leaving h.3,
+  )
+  wait-more ft f w Side.Lock h = (
+    grows w.object.0 ValueType.Mutex h.0,
+    leaving-more ft [] f.at f.operands f.slots f.leaving h.1,
+  )
+  wait-more ft f w Side.Group h = (
+    grows w.object.0 ValueType.Group h.0,
+    leaving-more ft [] f.at f.operands f.slots f.leaving h.1,
+  )
+  wait-more ft f w Side.Read h = (
+    grows w.object.0 ValueType.Rw h.0,
+    leaving-more ft [] f.at f.operands f.slots f.leaving h.1,
+  )
+  wait-more ft f w Side.Write h = (
+    grows w.object.0 ValueType.Rw h.0,
+    leaving-more ft [] f.at f.operands f.slots f.leaving h.1,
+  )
+  wait-more ft f w Side.Cond h = (
+    grows w.object.0 ValueType.Cond h.0,
+    leaving-more ft [] f.at f.operands f.slots f.leaving h.1,
+  )
 
-  blocked-more : (waits : List Wait) (fs : List FrameView) → BlockedFits types known waits fs → BlockedFits types later waits fs
+  blocked-more : (waits : List Wait) (fs : List FrameView) → BlockedFits types known waits fs
+      → BlockedFits types later waits fs
   blocked-more waits [] h = h
   blocked-more waits (f ∷ fs) h = (
     h.0,
     base-more h.0 f.function f.slots f.deferred h.1,
-    Every-weaker (WaitFits types known h.0 f) (WaitFits types later h.0 f) (λ w i. wait-more h.0 f w w.side i) waits h.2,
+    Every-weaker (WaitFits types known h.0 f) (WaitFits types later h.0 f)
+        (λ w i. wait-more h.0 f w w.side i) waits h.2,
     frames-more (gives f.discards h.0.result) fs h.3,
   )
 

@@ -6,6 +6,9 @@ use Rattle.golf_model_typing.specs.Types.{ValueType, Typing}
 use Rattle.golf_model_typing.specs.Grows.{Grows}
 use Rattle.golf_model_typing.specs.WellTyped.{WellTyped, ChangesFit}
 
--- changes that fit types leave a well-typed state, in which the objects that were made are known, and those that were known before
+-- changes that fit types leave a well-typed state, in which the objects that were made are known, and those that were
+-- known before
 abbrev pub ChangesKeepTypes : Type 0
-ChangesKeepTypes = (types : Typing) (known : List (ℕ × ValueType)) (cs : List Change) (s : State) → WellTyped types known s → ChangesFit types known s cs → (later : List (ℕ × ValueType)) × WellTyped types later (apply_all cs s) × Grows known later
+ChangesKeepTypes = (types : Typing) (known : List (ℕ × ValueType)) (cs : List Change) (s : State)
+    → WellTyped types known s → ChangesFit types known s cs → (later : List (ℕ × ValueType))
+    × WellTyped types later (apply_all cs s) × Grows known later

@@ -21,7 +21,9 @@ live_types live ft = record ft { shapes = live_shapes live 0 ft.shapes }
 -- a body that fits shapes fits them when they ask for needed slots alone
 abbrev pub NeededSlotsSuffice : Type 0
 NeededSlotsSuffice =
-    (types : Types) (fn : Function) (ft : FunctionTypes) (live : ℕ → ℕ → Bool) → FunctionFits types fn ft → ((k slot : ℕ) → live k slot ≡ true → Needed fn.body slot k) → ((k slot : ℕ) → Needed fn.body slot k → live k slot ≡ true)
+    (types : Types) (fn : Function) (ft : FunctionTypes) (live : ℕ → ℕ → Bool) → FunctionFits types fn ft
+    → ((k slot : ℕ) → live k slot ≡ true → Needed fn.body slot k)
+    → ((k slot : ℕ) → Needed fn.body slot k → live k slot ≡ true)
     → FunctionFits types fn (live_types live ft)
 
 -- a body that fits shapes and has its masks fits shapes whose slots all stay under them

@@ -35,12 +35,14 @@ IsNilable ValueType.Cond = Unit {0}
 IsNilable (ValueType.Slice e) = Unit {0}
 IsNilable (ValueType.Chan e) = Unit {0}
 
--- what is known at a position before its instruction: the types of the operands, the top one first, and which slots hold a value of their type
+-- what is known at a position before its instruction: the types of the operands, the top one first, and which slots
+-- hold a value of their type
 pub record Shape : Type 0 where
   pub operands : List ValueType
   pub assigned : List ℕ
 
--- a function as its callers see it, and its other slots: its parameters stand in the first slots, and each slot has one type
+-- a function as its callers see it, and its other slots: its parameters stand in the first slots, and each slot has one
+-- type
 pub record Signature : Type 0 where
   pub params : List ValueType
   pub locals : List ValueType
@@ -98,7 +100,8 @@ module _ (types : Types) (known : List (ℕ × ValueType)) where
 
   -- an object to which references of the type lead
   abbrev pub ObjectFits : Object → ValueType → Type 0
-  ObjectFits (Object.Struct fields) t = (k : ℕ) × (ts : List ValueType) × (t ≡ ValueType.Struct k) × (slice_get types.structs k ≡ Some ts) × ValuesFit fields ts
+  ObjectFits (Object.Struct fields) t = (k : ℕ) × (ts : List ValueType) × (t ≡ ValueType.Struct k)
+      × (slice_get types.structs k ≡ Some ts) × ValuesFit fields ts
   ObjectFits (Object.Slice elements) t = (e : ValueType) × (t ≡ ValueType.Slice e) × Every (λ v. ValueFits v e) elements
   ObjectFits (Object.Chan c) t = (e : ValueType) × (t ≡ ValueType.Chan e) × ChannelFits c e
   ObjectFits (Object.Mutex locked) t = t ≡ ValueType.Mutex

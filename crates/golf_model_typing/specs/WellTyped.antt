@@ -1,5 +1,7 @@
--- Well-typed states: values, frames and waits are of the types of a code. What is known is the types of objects, by their numbers.
-use Rattle.std.specs.Prelude.{◌≡◌, ℕ, ◌+◌, ◌<◌, ◌≤◌, Bool, true, false, ◌||◌, List, [], ◌∷◌, ◌++◌, length, Option, Some, None, option_to_list, unwrap_or, ◌==◌, slice_get}
+-- Well-typed states: values, frames and waits are of the types of a code. What is known is the types of objects, by
+-- their numbers.
+use Rattle.std.specs.Prelude.{◌≡◌, ℕ, ◌+◌, ◌<◌, ◌≤◌, Bool, true, false, ◌||◌, List, [], ◌∷◌, ◌++◌, length, Option, Some}
+use Rattle.std.specs.Prelude.{None, option_to_list, unwrap_or, ◌==◌, slice_get}
 use Rattle.golf_theory.specs.Maps.{Entry, find, add}
 use Rattle.golf_theory.specs.Membership.{Every}
 use Rattle.golf_data.specs.declared.value.Value.{Value}
@@ -14,7 +16,8 @@ use Rattle.golf_model.specs.Views.{FrameView, GoroutineView}
 use Rattle.golf_model.specs.State.{State, not_empty}
 use Rattle.golf_model.specs.Waking.{Waking}
 use Rattle.golf_model.specs.Changes.{Change, apply}
-use Rattle.golf_model_typing.specs.Types.{ValueType, Shape, Signature, FunctionTypes, Typing, signature, HasType, ValueFits, ValuesFit, ObjectFits}
+use Rattle.golf_model_typing.specs.Types.{ValueType, Shape, Signature, FunctionTypes, Typing, signature, HasType}
+use Rattle.golf_model_typing.specs.Types.{ValueFits, ValuesFit, ObjectFits}
 use Rattle.golf_model_typing.specs.Shapes.{slot_types}
 
 -- what a receive leaves, the top type first
@@ -30,10 +33,12 @@ gives false result = option_to_list result
 module _ (types : Typing) (known : List (ℕ × ValueType)) where
   -- the slot holds a value of its type
   abbrev pub SlotFits : List ValueType → List Value → ℕ → Type 0
-  SlotFits ts slots i = (t : ValueType) × (v : Value) × (slice_get ts i ≡ Some t) × (slice_get slots i ≡ Some v) × ValueFits types.of known v t
+  SlotFits ts slots i = (t : ValueType) × (v : Value) × (slice_get ts i ≡ Some t) × (slice_get slots i ≡ Some v)
+      × ValueFits types.of known v t
 
   -- a frame at this position, which lacks the operands that it will be given
-  pub record Stands (ft : FunctionTypes) (lacking : List ValueType) (at : ℕ) (operands slots : List Value) : Type 0 where
+  pub record Stands (ft : FunctionTypes) (lacking : List ValueType) (at : ℕ)
+      (operands slots : List Value) : Type 0 where
     pub shape : Shape
     pub here : slice_get ft.shapes at ≡ Some shape
     pub rest : List ValueType
@@ -56,20 +61,23 @@ module _ (types : Typing) (known : List (ℕ × ValueType)) where
 
   -- a call of a function with these arguments
   abbrev pub CallFits : ℕ → List Value → Type 0
-  CallFits f arguments = (sig : Signature) × (slice_get types.of.functions f ≡ Some sig) × ValuesFit types.of known arguments sig.params
+  CallFits f arguments = (sig : Signature) × (slice_get types.of.functions f ≡ Some sig)
+      × ValuesFit types.of known arguments sig.params
 
   abbrev pub DeferredFits : Deferred → Type 0
   DeferredFits d = CallFits d.function d.arguments
 
   -- what holds of a frame wherever it stands
-  pub record FrameBase (ft : FunctionTypes) (function : ℕ) (slots : List Value) (deferred : List Deferred) : Type 0 where
+  pub record FrameBase (ft : FunctionTypes) (function : ℕ) (slots : List Value)
+      (deferred : List Deferred) : Type 0 where
     pub typed : slice_get types.of.functions function ≡ Some (signature ft)
     pub shaped : slice_get types.shapes function ≡ Some ft.shapes
     pub full : length slots ≡ length (slot_types ft)
     pub deferred_calls : Every DeferredFits deferred
 
   abbrev pub FrameFits : FunctionTypes → List ValueType → FrameView → Type 0
-  FrameFits ft lacking f = FrameBase ft f.function f.slots f.deferred × LeavingFits ft lacking f.at f.operands f.slots f.leaving
+  FrameFits ft lacking f = FrameBase ft f.function f.slots f.deferred
+      × LeavingFits ft lacking f.at f.operands f.slots f.leaving
 
   -- each frame lacks what the one above it will leave
   abbrev pub FramesFit : List ValueType → List FrameView → Type 0
@@ -78,13 +86,20 @@ module _ (types : Typing) (known : List (ℕ × ValueType)) where
 
   -- the frame would go on, once the wait is served
   abbrev pub WaitFitsAt : FunctionTypes → FrameView → Wait → Side → Type 0
-  WaitFitsAt ft f w Side.Receive = (e : ValueType) × HasType known w.object.0 (ValueType.Chan e) × LeavingFits ft (received_types w.with_ok e) (unwrap_or w.target f.at) f.operands f.slots f.leaving
-  WaitFitsAt ft f w Side.Send = (e : ValueType) × HasType known w.object.0 (ValueType.Chan e) × ValueFits types.of known w.value e × LeavingFits ft [] (unwrap_or w.target f.at) f.operands f.slots f.leaving
-  WaitFitsAt ft f w Side.Lock = HasType known w.object.0 ValueType.Mutex × LeavingFits ft [] f.at f.operands f.slots f.leaving
-  WaitFitsAt ft f w Side.Group = HasType known w.object.0 ValueType.Group × LeavingFits ft [] f.at f.operands f.slots f.leaving
-  WaitFitsAt ft f w Side.Read = HasType known w.object.0 ValueType.Rw × LeavingFits ft [] f.at f.operands f.slots f.leaving
-  WaitFitsAt ft f w Side.Write = HasType known w.object.0 ValueType.Rw × LeavingFits ft [] f.at f.operands f.slots f.leaving
-  WaitFitsAt ft f w Side.Cond = HasType known w.object.0 ValueType.Cond × LeavingFits ft [] f.at f.operands f.slots f.leaving
+  WaitFitsAt ft f w Side.Receive = (e : ValueType) × HasType known w.object.0 (ValueType.Chan e)
+      × LeavingFits ft (received_types w.with_ok e) (unwrap_or w.target f.at) f.operands f.slots f.leaving
+  WaitFitsAt ft f w Side.Send = (e : ValueType) × HasType known w.object.0 (ValueType.Chan e)
+      × ValueFits types.of known w.value e × LeavingFits ft [] (unwrap_or w.target f.at) f.operands f.slots f.leaving
+  WaitFitsAt ft f w Side.Lock = HasType known w.object.0 ValueType.Mutex
+      × LeavingFits ft [] f.at f.operands f.slots f.leaving
+  WaitFitsAt ft f w Side.Group = HasType known w.object.0 ValueType.Group
+      × LeavingFits ft [] f.at f.operands f.slots f.leaving
+  WaitFitsAt ft f w Side.Read = HasType known w.object.0 ValueType.Rw
+      × LeavingFits ft [] f.at f.operands f.slots f.leaving
+  WaitFitsAt ft f w Side.Write = HasType known w.object.0 ValueType.Rw
+      × LeavingFits ft [] f.at f.operands f.slots f.leaving
+  WaitFitsAt ft f w Side.Cond = HasType known w.object.0 ValueType.Cond
+      × LeavingFits ft [] f.at f.operands f.slots f.leaving
 
   abbrev pub WaitFits : FunctionTypes → FrameView → Wait → Type 0
   WaitFits ft f w = WaitFitsAt ft f w w.side
@@ -93,7 +108,8 @@ module _ (types : Typing) (known : List (ℕ × ValueType)) where
   abbrev pub BlockedFits : List Wait → List FrameView → Type 0
   BlockedFits waits [] = ⊥
   BlockedFits waits (f ∷ fs) =
-      (ft : FunctionTypes) × FrameBase ft f.function f.slots f.deferred × Every (WaitFits ft f) waits × FramesFit (gives f.discards ft.result) fs
+      (ft : FunctionTypes) × FrameBase ft f.function f.slots f.deferred × Every (WaitFits ft f) waits
+      × FramesFit (gives f.discards ft.result) fs
 
   -- a wait on a condition is the only one
   abbrev pub WaitsAlone : List Wait → Type 0
@@ -115,7 +131,8 @@ module _ (types : Typing) (known : List (ℕ × ValueType)) where
   -- numbers that are not given yet are not known, and no object has one
   pub record WellTyped (s : State) : Type 0 where
     pub globals : ValuesFit types.of known s.globals types.of.globals
-    pub objects : (o : ℕ) (t : ValueType) (x : Object) → HasType known o t → find o s.objects ≡ Some x → ObjectFits types.of known x t
+    pub objects : (o : ℕ) (t : ValueType) (x : Object) → HasType known o t → find o s.objects ≡ Some x
+        → ObjectFits types.of known x t
     pub goroutines : (g : ℕ) (r : GoroutineView) → Entry s.goroutines g r → GoroutineFits g r
     pub finalisers : (o f : ℕ) → Entry s.finalisers o f → FinaliserFits o f
     pub queue : Every (λ (q : Queued). FinaliserFits q.object.0 q.function) s.queue
@@ -124,7 +141,8 @@ module _ (types : Typing) (known : List (ℕ × ValueType)) where
 
   -- what a waking hands out is of the type of the object's elements
   abbrev pub WakingFits : ℕ → Waking → Type 0
-  WakingFits o (Waking.Closing zero) = (e : ValueType) × HasType known o (ValueType.Chan e) × ValueFits types.of known zero e
+  WakingFits o (Waking.Closing zero) = (e : ValueType) × HasType known o (ValueType.Chan e)
+      × ValueFits types.of known zero e
   WakingFits o Waking.AtZero = Unit {0}
   WakingFits o (Waking.ToReaders below) = Unit {0}
 
@@ -138,7 +156,8 @@ module _ (types : Typing) (known : List (ℕ × ValueType)) where
   abbrev pub ChangeFits : State → Change → Type 0
   ChangeFits s (Change.Make x) = ⊥
   ChangeFits s (Change.Replace o x) = (t : ValueType) × HasType known o t × ObjectFits types.of known x t
-  ChangeFits s (Change.SetGlobal i v) = (t : ValueType) × (slice_get types.of.globals i ≡ Some t) × ValueFits types.of known v t
+  ChangeFits s (Change.SetGlobal i v) = (t : ValueType) × (slice_get types.of.globals i ≡ Some t)
+      × ValueFits types.of known v t
   ChangeFits s (Change.Become g r) = GoroutineFits g r
   ChangeFits s (Change.Block g kind line waits r) = BlockedFits waits r.frames × WaitsAlone waits
   ChangeFits s (Change.Spawn r) = ModeFits r.frames r.mode × (not_empty r.frames ≡ true)
@@ -149,10 +168,12 @@ module _ (types : Typing) (known : List (ℕ × ValueType)) where
   ChangeFits s Change.TakeQueued = Unit {0}
   ChangeFits s (Change.Output bytes) = Unit {0}
   ChangeFits s (Change.WakeAll o how) = WakingFits o how
-  ChangeFits s (Change.PassOn g m) = HasType known m ValueType.Mutex × ((r : GoroutineView) → find g s.goroutines ≡ Some r → LacksNothing r.mode)
+  ChangeFits s (Change.PassOn g m) = HasType known m ValueType.Mutex
+      × ((r : GoroutineView) → find g s.goroutines ≡ Some r → LacksNothing r.mode)
 
 -- changes that keep types one after another; an object that is made becomes known
 abbrev pub ChangesFit : Typing → List (ℕ × ValueType) → State → List Change → Type 0
 ChangesFit types known s [] = Unit {0}
-ChangesFit types known s (Change.Make x ∷ cs) = (t : ValueType) × ObjectFits types.of known x t × ChangesFit types (add (s.last_object + 1) t known) (apply (Change.Make x) s) cs
+ChangesFit types known s (Change.Make x ∷ cs) = (t : ValueType) × ObjectFits types.of known x t
+    × ChangesFit types (add (s.last_object + 1) t known) (apply (Change.Make x) s) cs
 ChangesFit types known s (c ∷ cs) = ChangeFits types known s c × ChangesFit types known (apply c s) cs

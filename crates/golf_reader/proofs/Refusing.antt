@@ -19,48 +19,62 @@ use Rattle.golf_code_of.specs.Files.{CodeOf}
 use Rattle.golf_code_places.proofs.Files.{files-have-places}
 use Rattle.golf_reader.specs.declared.refusal.Refusal.{Refusal}
 use Rattle.golf_reader.specs.declared.refusal.Refusal.TheVariants as refusals
-use Rattle.golf_reader.specs.Refusals.{HasTypedTree, IsOnly, IsNotTyped, IsUnlexed, HasCode, Parses, Keeps, WasParsed, WasTyped}
+use Rattle.golf_reader.specs.Refusals.{HasTypedTree, IsOnly, IsNotTyped, IsUnlexed, HasCode, Parses, Keeps, WasParsed}
+use Rattle.golf_reader.specs.Refusals.{WasTyped}
 
 -- the bytes of a file lex
 unlexed-none : (bytes : List ℕ) (place : ℕ) → IsFault bytes place → IsNotTyped bytes
 unlexed-none bytes place f = λ file h. f.refused h.tree.tokens h.tree.lexes
 
 -- in one way, and the file reads their tokens
-unparsed-none : (bytes : List ℕ) (tokens : List Token) → Lexes bytes tokens → ((file : File) → ReadsTokens tokens file → ⊥) → IsNotTyped bytes
-unparsed-none bytes tokens l none = λ file h. none file (subst (λ (ts : List Token). ReadsTokens ts file) (lexes-once bytes h.tree.tokens tokens h.tree.lexes l) h.tree.reads)
+unparsed-none : (bytes : List ℕ) (tokens : List Token) → Lexes bytes tokens
+    → ((file : File) → ReadsTokens tokens file → ⊥) → IsNotTyped bytes
+unparsed-none bytes tokens l none = λ file h. none file
+    (subst (λ (ts : List Token). ReadsTokens ts file)
+    (lexes-once bytes h.tree.tokens tokens h.tree.lexes l) h.tree.reads)
 
-pub unlexed : (bytes : List ℕ) (line byte : ℕ) → IsFault bytes byte → line ≡ line_at bytes byte → IsUnlexed bytes line byte
+pub unlexed : (bytes : List ℕ) (line byte : ℕ) → IsFault bytes byte → line ≡ line_at bytes byte
+    → IsUnlexed bytes line byte
 unlexed bytes line byte f on = record { fault = f; on = on; none = unlexed-none bytes byte f }
 
 -- the tree of the tokens of the bytes, or why there is none
-pub of-tokens : (bytes : List ℕ) (tokens : List Token) (r : Result File Refusal) → Lexes bytes tokens → Parses tokens r → WasParsed bytes r
+pub of-tokens : (bytes : List ℕ) (tokens : List Token) (r : Result File Refusal) → Lexes bytes tokens → Parses tokens r
+    → WasParsed bytes r
 of-tokens bytes tokens (Ok file) l p = record { tokens = tokens; lexes = l; reads = p }
 of-tokens bytes tokens (Err (refusals.Lexical line byte)) l p = absurd p
-of-tokens bytes tokens (Err (refusals.Syntax line)) l p = record { tokens = tokens; lexes = l; refused = p.0; fault = p.1; none = unparsed-none bytes tokens l p.0 }
+of-tokens bytes tokens (Err (refusals.Syntax line)) l p =
+    record { tokens = tokens; lexes = l; refused = p.0; fault = p.1; none = unparsed-none bytes tokens l p.0 }
 of-tokens bytes tokens (Err (refusals.Untyped line rule)) l p = absurd p
 of-tokens bytes tokens (Err refusals.Memory) l p = tt
 
 -- at most one tree reads the bytes
-untyped-none : (bytes : List ℕ) (file : File) (line rule : ℕ) → HasTree bytes file → IsFirst rule line (Broken file) → IsNotTyped bytes
-untyped-none bytes file line rule t first = λ other h. subst (IsFirst rule line) (ap Broken (one-tree bytes file other t h.tree) ∙ h.keeps) first
+untyped-none : (bytes : List ℕ) (file : File) (line rule : ℕ) → HasTree bytes file → IsFirst rule line (Broken file)
+    → IsNotTyped bytes
+untyped-none bytes file line rule t first =
+    λ other h. subst (IsFirst rule line) (ap Broken (one-tree bytes file other t h.tree) ∙ h.keeps) first
 
 is-only : (bytes : List ℕ) (file : File) → HasTree bytes file → IsOnly bytes file
 is-only bytes file t = λ other h. one-tree bytes other file h.tree t
 
 -- whether the tree of the bytes keeps the rules is whether the file is typed
-pub of-tree : (bytes : List ℕ) (file : File) (r : Result Checked Refusal) → HasTree bytes file → Keeps file r → WasTyped bytes r
+pub of-tree : (bytes : List ℕ) (file : File) (r : Result Checked Refusal) → HasTree bytes file → Keeps file r
+    → WasTyped bytes r
 of-tree bytes file (Ok checked) t k =
-    let typed : HasTypedTree bytes checked.file = subst (λ f. HasTypedTree bytes f) (sym k.0) (record { tree = t; keeps = k.3 }) in
+    let typed : HasTypedTree bytes checked.file =
+    subst (λ f. HasTypedTree bytes f) (sym k.0) (record { tree = t; keeps = k.3 }) in
     (typed, is-only bytes checked.file typed.tree, k.1 ∙ ap scope_of (sym k.0), k.2 ∙ ap facts_in (sym k.0))
 of-tree bytes file (Err (refusals.Lexical line byte)) t k = absurd k
 of-tree bytes file (Err (refusals.Syntax line)) t k = absurd k
-of-tree bytes file (Err (refusals.Untyped line rule)) t k = record { file = file; tree = t; first = k; none = untyped-none bytes file line rule t k }
+of-tree bytes file (Err (refusals.Untyped line rule)) t k =
+    record { file = file; tree = t; first = k; none = untyped-none bytes file line rule t k }
 of-tree bytes file (Err refusals.Memory) t k = tt
 
 -- the code of the typed tree is that of each
-pub has-code : (bytes : List ℕ) (file : File) (code : Code) → HasTypedTree bytes file → code ≡ CodeOf file → HasCode bytes code
+pub has-code : (bytes : List ℕ) (file : File) (code : Code) → HasTypedTree bytes file → code ≡ CodeOf file
+    → HasCode bytes code
 has-code bytes file code h is = record { file = file; typed = h; is = is; only = is-only bytes file h.tree }
 
 -- the code of the typed tree of few bytes has places
-pub has-places : (bytes : List ℕ) (file : File) (code : Code) → HasTypedTree bytes file → code ≡ CodeOf file → length bytes < 2 ^ 27 → HasPlaces code
+pub has-places : (bytes : List ℕ) (file : File) (code : Code) → HasTypedTree bytes file → code ≡ CodeOf file
+    → length bytes < 2 ^ 27 → HasPlaces code
 has-places bytes file code h is few = subst HasPlaces (sym is) (files-have-places bytes file h.tree few)

@@ -84,15 +84,19 @@ WasParsed bytes (Err (refusals.Syntax line)) = IsUnparsed bytes line
 WasParsed bytes (Err (refusals.Untyped line rule)) = ⊥
 WasParsed bytes (Err refusals.Memory) = Unit {0}
 
--- the tree, which keeps the rules, with the scope of its names and the facts of its parts; or the first rule that it breaks
+-- the tree, which keeps the rules, with the scope of its names and the facts of its parts; or the first rule that it
+-- breaks
 abbrev pub Keeps : File → Result Checked Refusal → Type 0
-Keeps file (Ok checked) = (checked.file ≡ file) × (checked.scope ≡ scope_of file) × (checked.facts ≡ facts_in file) × Typed file
+Keeps file (Ok checked) = (checked.file ≡ file) × (checked.scope ≡ scope_of file) × (checked.facts ≡ facts_in file)
+    × Typed file
 Keeps file (Err (refusals.Lexical line byte)) = ⊥
 Keeps file (Err (refusals.Syntax line)) = ⊥
 Keeps file (Err (refusals.Untyped line rule)) = IsFirst rule line (Broken file)
 Keeps file (Err refusals.Memory) = Unit {0}
 
--- the tree of the bytes, which alone is typed, with the scope of its names and the facts of its parts; or why there is none
+-- the tree of the bytes, which alone is typed, with the scope of its names and the facts of its parts; or why there is
+-- none
 abbrev pub WasTyped : List ℕ → Result Checked Refusal → Type 0
-WasTyped bytes (Ok checked) = HasTypedTree bytes checked.file × IsOnly bytes checked.file × (checked.scope ≡ scope_of checked.file) × (checked.facts ≡ facts_in checked.file)
+WasTyped bytes (Ok checked) = HasTypedTree bytes checked.file × IsOnly bytes checked.file
+    × (checked.scope ≡ scope_of checked.file) × (checked.facts ≡ facts_in checked.file)
 WasTyped bytes (Err refusal) = IsRefusedBy bytes refusal

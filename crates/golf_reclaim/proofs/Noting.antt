@@ -1,7 +1,8 @@
 -- Who stays reported, as the book grows.
 -- For: `staying_after`, `Ledger::unreported` and `Ledger::note`, src/ledger.rt; `HasStaying`, specs/Noting.antt
 -- By: cases of the lists in which a number stands; no induction
-use Rattle.std.proofs.Common.{◌≡◌, ℕ, ◌+◌, ◌≤◌, Bool, true, false, not, cond, ◌&&◌, ◌||◌, List, [], ◌∷◌, ◌++◌, filter, Result, Ok, Err, inl, inr, refl, sym, ap, ◌∙◌, arith}
+use Rattle.std.proofs.Common.{◌≡◌, ℕ, ◌+◌, ◌≤◌, Bool, true, false, not, cond, ◌&&◌, ◌||◌, List, [], ◌∷◌, ◌++◌, filter}
+use Rattle.std.proofs.Common.{Result, Ok, Err, inl, inr, refl, sym, ap, ◌∙◌, arith}
 use Rattle.std.specs.Prelude.{IsOk, is_ok, nat_lt}
 use Rattle.std.specs.List.Sorted.{IsNonDecreasingBy, IsPermutation}
 use Rattle.std.proofs.lemmas.Bool.{and_parts, and_from, cases_Bool, lt-ltb, le-ltb, true≢false}
@@ -22,7 +23,8 @@ use Rattle.golf_reclaim.proofs.Flags.{map-filter-swap}
 among-filtered : (p : ℕ → Bool) (x : ℕ) (xs : List ℕ) → is_in x (filter p xs) ≡ (p x && is_in x xs)
 among-filtered p x xs = same_test (is_in x (filter p xs)) (p x && is_in x xs)
     (λ t. let i = In-filter p x xs (In-from x (filter p xs) t) in and_from (p x) (is_in x xs) i.1 (is_in-from x xs i.0))
-    (λ t. let a = and_parts (p x) (is_in x xs) t in is_in-from x (filter p xs) (In-filter_old p x xs a.0 (In-from x xs a.1)))
+    (λ t. let a = and_parts (p x) (is_in x xs) t in is_in-from x (filter p xs)
+    (In-filter_old p x xs a.0 (In-from x xs a.1)))
 
 numbers-append : (gs hs : List GoroutineId) → numbers (gs ++ hs) ≡ numbers gs ++ numbers hs
 numbers-append gs hs = map-append (λ (g : GoroutineId). g.0) gs hs
@@ -33,14 +35,20 @@ more-by : (b : Bool) (r c : ℕ) → r ≡ c + cond b 1 0 → nat_lt c r ≡ b
 more-by true r c e = lt-ltb c r (omega (arith, e))
 more-by false r c e = le-ltb c r (omega (arith, e))
 
-pub stays-alike : (book : Book) (staying : List GoroutineId) (g : ℕ) → HasStaying book.reported book.reclaimed staying → stays_reported book g ≡ is_in g (numbers staying)
-stays-alike book staying g has = more-by (is_in g (numbers staying)) (times g (numbers book.reported)) (times g (numbers book.reclaimed)) (has.counts g)
+pub stays-alike : (book : Book) (staying : List GoroutineId) (g : ℕ) → HasStaying book.reported book.reclaimed staying
+    → stays_reported book g ≡ is_in g (numbers staying)
+stays-alike book staying g has = more-by (is_in g (numbers staying)) (times g (numbers book.reported))
+    (times g (numbers book.reclaimed)) (has.counts g)
 
-pub unreported-alike : (book : Book) (staying goroutines : List GoroutineId) → HasStaying book.reported book.reclaimed staying
-    → filter (λ g. not (is_in g.0 (numbers staying))) goroutines ≡ filter (λ g. not (stays_reported book g.0)) goroutines
+pub unreported-alike : (book : Book) (staying goroutines : List GoroutineId)
+    → HasStaying book.reported book.reclaimed staying
+    → filter (λ g. not (is_in g.0 (numbers staying))) goroutines ≡ filter
+    (λ g. not (stays_reported book g.0)) goroutines
 unreported-alike book staying goroutines has =
-    filter-same (λ (g : GoroutineId). not (is_in g.0 (numbers staying))) (λ (g : GoroutineId). not (stays_reported book g.0)) goroutines
-    (Every-from (λ (g : GoroutineId). not (is_in g.0 (numbers staying)) ≡ not (stays_reported book g.0)) goroutines (λ g i. ap not (sym (stays-alike book staying g.0 has))))
+    filter-same (λ (g : GoroutineId). not (is_in g.0 (numbers staying)))
+    (λ (g : GoroutineId). not (stays_reported book g.0)) goroutines
+    (Every-from (λ (g : GoroutineId). not (is_in g.0 (numbers staying)) ≡ not (stays_reported book g.0)) goroutines
+    (λ g i. ap not (sym (stays-alike book staying g.0 has))))
 
 -- ---- once more is noted
 
@@ -52,7 +60,8 @@ once g xs l = elim (cases_Bool (is_in g xs)) [
 ]
 
 -- b: stays before, n: new, o: gone now; r: how often reported before, c: how often removed
-counted-by : (b n o : Bool) (r c : ℕ) → r ≡ c + cond b 1 0 → (n ≡ true → b ≡ false) → (o ≡ true → (b || n) ≡ true) → r + cond n 1 0 ≡ (c + cond o 1 0) + cond (not o && (b || n)) 1 0
+counted-by : (b n o : Bool) (r c : ℕ) → r ≡ c + cond b 1 0 → (n ≡ true → b ≡ false) → (o ≡ true → (b || n) ≡ true)
+    → r + cond n 1 0 ≡ (c + cond o 1 0) + cond (not o && (b || n)) 1 0
 counted-by true true o r c e h k = absurd (true≢false (h refl))
 counted-by true false true r c e h k = omega (arith, e)
 counted-by true false false r c e h k = omega (arith, e)
@@ -61,8 +70,12 @@ counted-by false true false r c e h k = omega (arith, e)
 counted-by false false true r c e h k = absurd (true≢false (sym (k refl)))
 counted-by false false false r c e h k = omega (arith, e)
 
-pub staying-noted : (book : Book) (new gone staying after : List GoroutineId) → HasStaying book.reported book.reclaimed staying → CanNote (numbers new) (numbers gone) book → IsNonDecreasingBy (λ (g : GoroutineId). g.0) after
-    → ((n : ℕ) → is_in n (numbers after) ≡ is_in n (filter (λ k. not (is_in k (numbers gone))) (numbers (staying ++ new)))) → HasStaying (book.reported ++ new) (book.reclaimed ++ gone) after
+pub staying-noted : (book : Book) (new gone staying after : List GoroutineId)
+    → HasStaying book.reported book.reclaimed staying → CanNote (numbers new) (numbers gone) book
+    → IsNonDecreasingBy (λ (g : GoroutineId). g.0) after
+    → ((n : ℕ) → is_in n (numbers after) ≡ is_in n
+    (filter (λ k. not (is_in k (numbers gone))) (numbers (staying ++ new))))
+    → HasStaying (book.reported ++ new) (book.reclaimed ++ gone) after
 staying-noted book new gone staying after has can rises members = record {
   rises = rises;
   counts = λ g.
@@ -74,23 +87,32 @@ staying-noted book new gone staying after has can rises members = record {
       let same = stays-alike book staying g has in
       let stays : is_in g (numbers after) ≡ (not o && (b || n)) =
       members g ∙ among-filtered (λ k. not (is_in k (numbers gone))) g (numbers (staying ++ new))
-      ∙ ap (λ d. not o && d) (ap (is_in g) (numbers-append staying new) ∙ is_in-append g (numbers staying) (numbers new)) in
+      ∙ ap (λ d. not o && d) (ap (is_in g) (numbers-append staying new)
+      ∙ is_in-append g (numbers staying) (numbers new)) in
       ap (times g) (numbers-append book.reported new)
       ∙ times-append g (numbers book.reported) (numbers new)
       ∙ ap (λ k. r + k) (once g (numbers new) (can.new_once g))
-      ∙ counted-by b n o r c (has.counts g) (λ t. sym same ∙ can.unreported g (In-from g (numbers new) t)) (λ t. ap (λ d. d || n) (sym same) ∙ can.reported g (In-from g (numbers gone) t))
+      ∙ counted-by b n o r c (has.counts g) (λ t. sym same ∙ can.unreported g (In-from g (numbers new) t))
+      (λ t. ap (λ d. d || n) (sym same) ∙ can.reported g (In-from g (numbers gone) t))
       ∙ ap (λ k. (c + k) + cond (not o && (b || n)) 1 0) (sym (once g (numbers gone) (can.gone_once g)))
-      ∙ ap (λ k. k + cond (not o && (b || n)) 1 0) (sym (ap (times g) (numbers-append book.reclaimed gone) ∙ times-append g (numbers book.reclaimed) (numbers gone)))
+      ∙ ap (λ k. k + cond (not o && (b || n)) 1 0)
+      (sym (ap (times g) (numbers-append book.reclaimed gone)
+      ∙ times-append g (numbers book.reclaimed) (numbers gone)))
       ∙ ap (λ d. times g (numbers (book.reclaimed ++ gone)) + cond d 1 0) (sym stays);
 }
 
 -- gathered in two steps, and then in another order
-pub staying-among : {now then after : List GoroutineId} (staying new gone : List GoroutineId) (n : ℕ) → now ≡ [] ++ filter (λ g. not (is_in g.0 (numbers gone))) staying → then ≡ now ++ filter (λ g. not (is_in g.0 (numbers gone))) new → IsPermutation then after
+pub staying-among : {now then after : List GoroutineId} (staying new gone : List GoroutineId) (n : ℕ) → now ≡ []
+    ++ filter (λ g. not (is_in g.0 (numbers gone))) staying → then ≡ now
+    ++ filter (λ g. not (is_in g.0 (numbers gone))) new → IsPermutation then after
     → is_in n (numbers after) ≡ is_in n (filter (λ k. not (is_in k (numbers gone))) (numbers (staying ++ new)))
 staying-among {now} {then} {after} staying new gone n first second moved =
-    is_in-same n (numbers after) (numbers then) (λ i. members after then (IsPermutation-sym then after moved) i) (λ i. members then after moved i)
-    ∙ ap (λ (l : List GoroutineId). is_in n (numbers l)) (second ∙ ap (λ (l : List GoroutineId). l ++ filter p new) first ∙ sym (filter-append p staying new))
-    ∙ ap (is_in n) (sym (map-filter-swap (λ (g : GoroutineId). g.0) (λ k. not (is_in k (numbers gone))) (staying ++ new)))
+    is_in-same n (numbers after) (numbers then) (λ i. members after then (IsPermutation-sym then after moved) i)
+    (λ i. members then after moved i)
+    ∙ ap (λ (l : List GoroutineId). is_in n (numbers l))
+    (second ∙ ap (λ (l : List GoroutineId). l ++ filter p new) first ∙ sym (filter-append p staying new))
+    ∙ ap (is_in n) (sym (map-filter-swap (λ (g : GoroutineId). g.0) (λ k. not (is_in k (numbers gone)))
+    (staying ++ new)))
   where
     p : GoroutineId → Bool
     p g = not (is_in g.0 (numbers gone))
@@ -109,9 +131,11 @@ staying-among {now} {then} {after} staying new gone n first second moved =
     from (x ∷ xs) (inr i) = inr (from xs i)
 
     members : (xs ys : List GoroutineId) → IsPermutation xs ys → In n (numbers xs) → In n (numbers ys)
-    members xs ys q i = from ys (In-Contains ys named (Contains-permutation xs ys named q (Contains-In xs named (to xs i))))
+    members xs ys q i = from ys (In-Contains ys named
+        (Contains-permutation xs ys named q (Contains-In xs named (to xs i))))
 
 -- what room was taken for is added
-pub added : {A E : Type 0} (r : Result A E) (old xs after : List GoroutineId) → IsOk r → after ≡ cond (is_ok r) (old ++ xs) old → after ≡ old ++ xs
+pub added : {A E : Type 0} (r : Result A E) (old xs after : List GoroutineId) → IsOk r
+    → after ≡ cond (is_ok r) (old ++ xs) old → after ≡ old ++ xs
 added (Ok x) old xs after g e = e
 added (Err x) old xs after g e = absurd (true≢false (sym g))

@@ -49,7 +49,11 @@ module _ {X : Type 0} (p : ℕ → X → Bool) where
   rising-once k n (e ∷ es) r = let rest = rising-once (suc e.0) n es r.1 in
       elim (p e.0 e.1) as (λ b. times n (cond b (e.0 ∷ keys_where p es) (keys_where p es)) ≤ 1) [
         | true ↦ elim (cases_eq e.0 n) [
-          | inl q ↦ rw q (omega (arith, times-cons_same n (keys_where p es), below (suc e.0) n es r.1 (omega (arith, q))))
+          | inl q ↦ rw q (omega (
+            arith,
+            times-cons_same n (keys_where p es),
+            below (suc e.0) n es r.1 (omega (arith, q)),
+          ))
           | inr apart ↦ omega (arith, rest, times-cons_other n e.0 (keys_where p es) apart)
         ]
         | false ↦ rest

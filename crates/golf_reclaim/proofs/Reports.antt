@@ -1,7 +1,8 @@
 -- A collection's report and book, from what was found; and that its book can note it.
 -- For: `collect`, src/collection.rt; `report_of` and `noted_by`, specs/Collected.antt
 -- By: counting those of a list that pass a test; no other induction
-use Rattle.std.proofs.Common.{◌≡◌, ℕ, ◌+◌, ◌≤◌, Bool, true, false, not, ◌||◌, List, [], ◌∷◌, length, map, filter, cond, inl, inr, refl, sym, ap, subst, ◌∙◌, arith}
+use Rattle.std.proofs.Common.{◌≡◌, ℕ, ◌+◌, ◌≤◌, Bool, true, false, not, ◌||◌, List, [], ◌∷◌, length, map, filter, cond}
+use Rattle.std.proofs.Common.{inl, inr, refl, sym, ap, subst, ◌∙◌, arith}
 use Rattle.std.proofs.lemmas.Bool.{not-true, not_from_false, cases_Bool}
 use Rattle.std.proofs.lemmas.List.{length-map}
 use Rattle.golf_theory.specs.Counting.{times}
@@ -23,10 +24,12 @@ use Rattle.golf_reclaim.proofs.Flags.{map-filter-swap}
 use Rattle.golf_reclaim.proofs.Once.{filter-once, dead-once}
 
 -- those of a list that pass and those that do not are all
-passed-and-failed : (p : ℕ → Bool) (xs : List ℕ) → length (filter p xs) + length (filter (λ x. not (p x)) xs) ≡ length xs
+passed-and-failed : (p : ℕ → Bool) (xs : List ℕ)
+    → length (filter p xs) + length (filter (λ x. not (p x)) xs) ≡ length xs
 passed-and-failed p [] = refl
 passed-and-failed p (x ∷ xs) = let rest = passed-and-failed p xs in
-    elim (p x) as (λ b. length (cond b (x ∷ filter p xs) (filter p xs)) + length (cond (not b) (x ∷ filter (λ y. not (p y)) xs) (filter (λ y. not (p y)) xs)) ≡ length (x ∷ xs)) [
+    elim (p x) as (λ b. length (cond b (x ∷ filter p xs) (filter p xs)) + length
+    (cond (not b) (x ∷ filter (λ y. not (p y)) xs) (filter (λ y. not (p y)) xs)) ≡ length (x ∷ xs)) [
       | true ↦ omega (arith, rest)
       | false ↦ omega (arith, rest)
     ]
@@ -39,13 +42,17 @@ module _ (s : State) (sets : Bool) where
   -- the dead who stay, and those who are removed, are all
   kept-by : (r : Bool) → length (without (dead s) (removed s r sets)) + length (removed s r sets) ≡ length (dead s)
   kept-by true =
-      ap (λ (l : List ℕ). length l + length (unkept s sets)) (filter-same (λ g. not (is_in g (unkept s sets))) (keeps s sets) (dead s) (Every-from (λ g. not (is_in g (unkept s sets)) ≡ keeps s sets g) (dead s) (λ g i.
+      ap (λ (l : List ℕ). length l + length (unkept s sets))
+      (filter-same (λ g. not (is_in g (unkept s sets))) (keeps s sets) (dead s)
+      (Every-from (λ g. not (is_in g (unkept s sets)) ≡ keeps s sets g) (dead s) (λ g i.
       ap not (same_test (is_in g (unkept s sets)) (not (keeps s sets g))
       (λ t. (In-filter (λ k. not (keeps s sets k)) g (dead s) (In-from g (unkept s sets) t)).1)
       (λ t. is_in-from g (unkept s sets) (In-filter_old (λ k. not (keeps s sets k)) g (dead s) t i)))
       ∙ back (keeps s sets g))))
       ∙ passed-and-failed (keeps s sets) (dead s)
-  kept-by false = (let e = ap (λ (l : List ℕ). length l) (filter-all (λ g. not (is_in g [])) (dead s) (Every-from (λ g. not (is_in g []) ≡ true) (dead s) (λ g i. refl))) in omega (arith, e))
+  kept-by false = (let e = ap (λ (l : List ℕ). length l)
+      (filter-all (λ g. not (is_in g [])) (dead s)
+      (Every-from (λ g. not (is_in g []) ≡ true) (dead s) (λ g i. refl))) in omega (arith, e))
 
   removed-dead : (r : Bool) (g : ℕ) → In g (removed s r sets) → In g (dead s)
   removed-dead true g h = (In-filter (λ k. not (keeps s sets k)) g (dead s) h).0
@@ -58,9 +65,15 @@ module _ (s : State) (sets : Bool) where
 counted : (found : List GoroutineId) (those : List ℕ) → numbers found ≡ those → length found ≡ length those
 counted found those are = sym (length-map found (λ (g : GoroutineId). g.0)) ∙ ap length are
 
-module _ (s : State) (b : Book) (recover sets : Bool) (found gone : List GoroutineId) (are : numbers found ≡ dead s) (out : numbers gone ≡ removed s recover sets) where
+module _ (s : State) (b : Book) (recover sets : Bool) (found gone : List GoroutineId) (are : numbers found ≡ dead s)
+    (out : numbers gone ≡ removed s recover sets) where
   pub fewer-gone : length gone ≤ length found
-  fewer-gone = omega (arith, counted found (dead s) are, counted gone (removed s recover sets) out, kept-by s sets recover)
+  fewer-gone = omega (
+    arith,
+    counted found (dead s) are,
+    counted gone (removed s recover sets) out,
+    kept-by s sets recover,
+  )
 
   module _ (new : List GoroutineId) (fresh : new ≡ filter (λ g. not (stays_reported b g.0)) found) where
     new-numbers : numbers new ≡ new_in b s
@@ -68,9 +81,18 @@ module _ (s : State) (b : Book) (recover sets : Bool) (found gone : List Gorouti
         ap numbers fresh ∙ sym (map-filter-swap (λ (g : GoroutineId). g.0) (λ k. not (stays_reported b k)) found)
         ∙ ap (filter (λ k. not (stays_reported b k))) are
 
-    pub report-is : (it : Report) → it.number ≡ b.collections + 1 → it.marked ≡ length (live_objects s) → it.reported ≡ entries s (numbers new) → it.kept + length gone ≡ length found → it.reclaimed ≡ length gone → it.objects ≡ length (retained_objects s (removed s recover sets)) → it ≡ report_of recover sets b s
+    pub report-is : (it : Report) → it.number ≡ b.collections + 1 → it.marked ≡ length (live_objects s)
+        → it.reported ≡ entries s (numbers new) → it.kept + length gone ≡ length found → it.reclaimed ≡ length gone
+        → it.objects ≡ length (retained_objects s (removed s recover sets)) → it ≡ report_of recover sets b s
     report-is it n m r k c o =
-        let many : it.kept ≡ length (without (dead s) (removed s recover sets)) = omega (arith, k, counted gone (removed s recover sets) out, counted found (dead s) are, kept-by s sets recover) in
+        let many : it.kept ≡ length (without (dead s) (removed s recover sets)) =
+        omega (
+          arith,
+          k,
+          counted gone (removed s recover sets) out,
+          counted found (dead s) are,
+          kept-by s sets recover,
+        ) in
         let told : it.reported ≡ entries s (new_in b s) = r ∙ ap (entries s) new-numbers in
         let left : it.reclaimed ≡ length (removed s recover sets) = c ∙ counted gone (removed s recover sets) out in
         λ i. record { number = n i; marked = m i; reported = told i; kept = many i; reclaimed = left i; objects = o i }
@@ -78,20 +100,26 @@ module _ (s : State) (b : Book) (recover sets : Bool) (found gone : List Gorouti
     pub book-is : noted new gone b ≡ noted_by recover sets b s
     book-is =
         let told : new ≡ map goroutine_id (new_in b s) = sym (numbers-ids new) ∙ ap (map goroutine_id) new-numbers in
-        let left : gone ≡ map goroutine_id (removed s recover sets) = sym (numbers-ids gone) ∙ ap (map goroutine_id) out in
+        let left : gone ≡ map goroutine_id (removed s recover sets) = sym (numbers-ids gone)
+        ∙ ap (map goroutine_id) out in
         λ i. noted (told i) (left i) b
 
     -- who is dead is new or stays reported
     known-by : (g : ℕ) → In g (dead s) → (stays_reported b g || is_in g (new_in b s)) ≡ true
     known-by g h = elim (cases_Bool (stays_reported b g)) [
       | inl t ↦ ap (λ d. d || is_in g (new_in b s)) t
-      | inr f ↦ ap (λ d. d || is_in g (new_in b s)) f ∙ is_in-from g (new_in b s) (In-filter_old (λ k. not (stays_reported b k)) g (dead s) (not_from_false (stays_reported b g) f) h)
+      | inr f ↦ ap (λ d. d || is_in g (new_in b s)) f
+          ∙ is_in-from g (new_in b s) (In-filter_old (λ k. not (stays_reported b k)) g (dead s)
+          (not_from_false (stays_reported b g) f) h)
     ]
 
     pub can-note : Numbered s → CanNote (numbers new) (numbers gone) b
     can-note n = record {
-      new_once = λ g. subst (λ (l : List ℕ). times g l ≤ 1) (sym new-numbers) (filter-once (λ k. not (stays_reported b k)) g (dead s) (dead-once s g n));
+      new_once = λ g. subst (λ (l : List ℕ). times g l ≤ 1) (sym new-numbers)
+          (filter-once (λ k. not (stays_reported b k)) g (dead s) (dead-once s g n));
       gone_once = λ g. subst (λ (l : List ℕ). times g l ≤ 1) (sym out) (removed-once s sets recover g n);
-      unreported = λ g h. not-true (stays_reported b g) (In-filter (λ k. not (stays_reported b k)) g (dead s) (subst (In g) new-numbers h)).1;
-      reported = λ g h. subst (λ (l : List ℕ). (stays_reported b g || is_in g l) ≡ true) (sym new-numbers) (known-by g (removed-dead s sets recover g (subst (In g) out h)));
+      unreported = λ g h. not-true (stays_reported b g)
+          (In-filter (λ k. not (stays_reported b k)) g (dead s) (subst (In g) new-numbers h)).1;
+      reported = λ g h. subst (λ (l : List ℕ). (stays_reported b g || is_in g l) ≡ true) (sym new-numbers)
+          (known-by g (removed-dead s sets recover g (subst (In g) out h)));
     }

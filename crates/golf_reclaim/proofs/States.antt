@@ -1,7 +1,8 @@
 -- The state after a collection, from what was found.
 -- For: `collect`, src/collection.rt; `real_collect`, golf_model/specs/Collecting.antt
 -- By: induction over the list of entries
-use Rattle.std.proofs.Common.{◌≡◌, ℕ, Bool, true, false, not, ◌&&◌, cond, List, [], ◌∷◌, map, filter, ◌⊎◌, inl, inr, refl, sym, ap, subst, ◌∙◌}
+use Rattle.std.proofs.Common.{◌≡◌, ℕ, Bool, true, false, not, ◌&&◌, cond, List, [], ◌∷◌, map, filter, ◌⊎◌, inl, inr}
+use Rattle.std.proofs.Common.{refl, sym, ap, subst, ◌∙◌}
 use Rattle.std.proofs.lemmas.Bool.{or_parts, both_ways, cases_Bool, not-false}
 use Rattle.std.specs.Prelude.{is_some}
 use Rattle.golf_theory.specs.Membership.{In, is_in}
@@ -26,13 +27,15 @@ use Rattle.golf_heap.specs.Objects.{kept}
 use Rattle.golf_heap.proofs.Flagged.{kept-only}
 use Rattle.golf_model_futures.proofs.Collecting.{In-goroutine_refs_where, reach-from}
 use Rattle.golf_model_futures.proofs.CutCollecting.{queue_outside-same}
-use Rattle.golf_model_futures.proofs.Removing.{gone-dead, stays_by, reach-step, removed-ok, source-global, source-queue, source-goroutine, source-finalised}
+use Rattle.golf_model_futures.proofs.Removing.{gone-dead, stays_by, reach-step, removed-ok, source-global, source-queue}
+use Rattle.golf_model_futures.proofs.Removing.{source-goroutine, source-finalised}
 
 -- the keys of flagged entries are those that pass
 kept-keys : {X : Type 0} (p : ℕ → Bool) (es : List (ℕ × X)) → kept (map (λ e. p e.0) es) (keys es) ≡ filter p (keys es)
 kept-keys p [] = refl
 kept-keys {X = X} p (e ∷ es) = let rest = kept-keys p es in
-    elim (p e.0) as (λ b. cond b (e.0 ∷ kept (map (λ (d : ℕ × X). p d.0) es) (keys es)) (kept (map (λ (d : ℕ × X). p d.0) es) (keys es)) ≡ cond b (e.0 ∷ filter p (keys es)) (filter p (keys es))) [
+    elim (p e.0) as (λ b. cond b (e.0 ∷ kept (map (λ (d : ℕ × X). p d.0) es) (keys es))
+    (kept (map (λ (d : ℕ × X). p d.0) es) (keys es)) ≡ cond b (e.0 ∷ filter p (keys es)) (filter p (keys es))) [
       | true ↦ ap (λ (ks : List ℕ). e.0 ∷ ks) rest
       | false ↦ rest
     ]
@@ -43,7 +46,9 @@ among-those p ks o h = same_test (is_in o (filter p ks)) (p o)
     (λ t. is_in-from o (filter p ks) (In-filter_old p o ks t h))
 
 module _ (s : State) (n : Numbered s) (recover sets : Bool) where
-  from-source : (o : ℕ) → In o (sources s []) → (In o (reach s (sources s (removed s recover sets))) ⊎ ((g : ℕ) × In g (removed s recover sets) × In o (reach s (refs_of_goroutine (find g s.goroutines)))))
+  from-source : (o : ℕ) → In o (sources s [])
+      → (In o (reach s (sources s (removed s recover sets)))
+      ⊎ ((g : ℕ) × In g (removed s recover sets) × In o (reach s (refs_of_goroutine (find g s.goroutines)))))
   from-source o h =
       let out : List ℕ = removed s recover sets in
       let dead_all = (removed-ok s recover sets).dead in
@@ -58,17 +63,26 @@ module _ (s : State) (n : Numbered s) (recover sets : Bool) where
                   | inl t ↦ inl (reach-from s (sources s out) o (source-goroutine s n out dead_all o r.0 r.1 r.3 t r.4))
                   | inr f ↦
                       let are = ap refs_of_goroutine (find-Entry s.goroutines r.0 r.1 n.goroutines_rise r.3) in
-                      inr (r.0, In-from r.0 out (not-false (is_in r.0 out) f), reach-from s (refs_of_goroutine (find r.0 s.goroutines)) o (subst (In o) (sym are) r.4))
+                      inr (
+                        r.0,
+                        In-from r.0 out (not-false (is_in r.0 out) f),
+                        reach-from s (refs_of_goroutine (find r.0 s.goroutines)) o (subst (In o) (sym are) r.4),
+                      )
                 ]
             | inr d ↦
                 let r = refs_where-sound (has_finaliser s) s.objects o d in
-                inl (reach-from s (sources s out) o (source-finalised s n out dead_all o r.0 r.1 (In-from r.0 (keys s.finalisers) r.2) r.3 r.4))
+                inl (reach-from s (sources s out) o
+                (source-finalised s n out dead_all o r.0 r.1 (In-from r.0 (keys s.finalisers) r.2) r.3 r.4))
           ]
         ]
       ]
 
-  from-reached : (o : ℕ) → In o (reach s (sources s [])) → (In o (reach s (sources s (removed s recover sets))) ⊎ ((g : ℕ) × In g (removed s recover sets) × In o (reach s (refs_of_goroutine (find g s.goroutines)))))
-  from-reached o h = Reached-least (λ p. In p (sources s [])) (RefersTo s) (λ p. In p (reach s (sources s (removed s recover sets))) ⊎ ((g : ℕ) × In g (removed s recover sets) × In p (reach s (refs_of_goroutine (find g s.goroutines)))))
+  from-reached : (o : ℕ) → In o (reach s (sources s []))
+      → (In o (reach s (sources s (removed s recover sets)))
+      ⊎ ((g : ℕ) × In g (removed s recover sets) × In o (reach s (refs_of_goroutine (find g s.goroutines)))))
+  from-reached o h = Reached-least (λ p. In p (sources s [])) (RefersTo s)
+      (λ p. In p (reach s (sources s (removed s recover sets)))
+      ⊎ ((g : ℕ) × In g (removed s recover sets) × In p (reach s (refs_of_goroutine (find g s.goroutines)))))
       from-source
       (λ q p e l. elim e [
         | inl a ↦ inl (reach-step s (sources s (removed s recover sets)) q p l.0 a l.1 l.2)
@@ -83,29 +97,38 @@ module _ (s : State) (n : Numbered s) (recover sets : Bool) where
         | inl a ↦ In-left o (refs s.globals) _ a
         | inr a ↦ In-right o (refs s.globals) _ (elim (In-cases o (queue_refs s.queue) _ a) [
           | inl b ↦ In-left o (queue_refs s.queue) _ b
-          | inr b ↦ In-right o (queue_refs s.queue) _ (elim (In-cases o (goroutine_refs_where (λ g. not (is_in g out)) s.goroutines) _ b) [
-            | inl d ↦
-                let r = goroutine_refs_where-sound (λ g. not (is_in g out)) s.goroutines o d in
-                In-left o (goroutine_refs_where (λ g. not (is_in g [])) s.goroutines) _ (In-goroutine_refs_where (λ g. not (is_in g [])) s.goroutines r.0 o r.1 r.3 refl r.4)
-            | inr d ↦ In-right o (goroutine_refs_where (λ g. not (is_in g [])) s.goroutines) _ d
-          ])
+          | inr b ↦ In-right o (queue_refs s.queue) _
+              (elim (In-cases o (goroutine_refs_where (λ g. not (is_in g out)) s.goroutines) _ b) [
+                | inl d ↦
+                    let r = goroutine_refs_where-sound (λ g. not (is_in g out)) s.goroutines o d in
+                    In-left o (goroutine_refs_where (λ g. not (is_in g [])) s.goroutines) _
+                    (In-goroutine_refs_where (λ g. not (is_in g [])) s.goroutines r.0 o r.1 r.3 refl r.4)
+                | inr d ↦ In-right o (goroutine_refs_where (λ g. not (is_in g [])) s.goroutines) _ d
+              ])
         ])
       ]
 
   fewer-reached : (o : ℕ) → In o (reach s (sources s (removed s recover sets))) → In o (reach s (sources s []))
   fewer-reached o h = reach-complete s (sources s []) o
-      (Reached-over (λ p. In p (sources s (removed s recover sets))) (RefersTo s) (λ p. In p (sources s [])) (RefersTo s) (λ p. p) fewer-sources (λ q p a. a) o (reach-sound s (sources s (removed s recover sets)) o h))
+      (Reached-over (λ p. In p (sources s (removed s recover sets))) (RefersTo s) (λ p. In p (sources s []))
+      (RefersTo s) (λ p. p) fewer-sources (λ q p a. a) o (reach-sound s (sources s (removed s recover sets)) o h))
 
   -- a finalised object is reached without them if it is reached
-  finalised-alike : (o : ℕ) → In o (keys s.finalisers) → is_in o (reach s (sources s (removed s recover sets))) ≡ is_in o (reach s (sources s []))
-  finalised-alike o f = is_in-same o (reach s (sources s (removed s recover sets))) (reach s (sources s [])) (fewer-reached o)
+  finalised-alike : (o : ℕ) → In o (keys s.finalisers)
+      → is_in o (reach s (sources s (removed s recover sets))) ≡ is_in o (reach s (sources s []))
+  finalised-alike o f = is_in-same o (reach s (sources s (removed s recover sets))) (reach s (sources s []))
+      (fewer-reached o)
       (λ h. elim (from-reached o h) [
         | inl a ↦ a
-        | inr l ↦ absurd (both_ways (has_finaliser s o) (or_parts (has_finaliser s o) (sets && has_object (live_list s) o) ((removed-ok s recover sets).barred l.0 o l.1 l.2)).0 (is_in-from o (keys s.finalisers) f))
+        | inr l ↦ absurd (both_ways (has_finaliser s o)
+            (or_parts (has_finaliser s o) (sets && has_object (live_list s) o)
+            ((removed-ok s recover sets).barred l.0 o l.1 l.2)).0 (is_in-from o (keys s.finalisers) f))
       ])
 
   -- so what is queued is what the plain collection queues
-  pub queued-alike : IsWhole s → (flags : List Bool) → flags ≡ map (λ e. is_in e.0 (reach s (sources s (removed s recover sets)))) s.objects → queue_outside (kept flags (keys s.objects)) s ≡ plain_collect s
+  pub queued-alike : IsWhole s → (flags : List Bool)
+      → flags ≡ map (λ e. is_in e.0 (reach s (sources s (removed s recover sets)))) s.objects
+      → queue_outside (kept flags (keys s.objects)) s ≡ plain_collect s
   queued-alike w flags is = queue_outside-same (kept flags (keys s.objects)) (reach s (sources s [])) s (λ o f e.
       ap (λ (fs : List Bool). is_in o (kept fs (keys s.objects))) is
       ∙ ap (is_in o) (kept-keys (λ k. is_in k (reach s (sources s (removed s recover sets)))) s.objects)
@@ -113,22 +136,31 @@ module _ (s : State) (n : Numbered s) (recover sets : Bool) where
       ∙ finalised-alike o (In-keys s.finalisers o f e))
 
   -- and the state after is the real collection
-  pub collected : (t : State) (stays keep : List Bool) → t ≡ plain_collect s → stays ≡ map (λ e. not (is_in e.0 (removed s recover sets))) s.goroutines → keep ≡ map (λ e. is_in e.0 (retained s (removed s recover sets))) s.objects
-      → ◌≡◌ {A = State} (record t { goroutines = kept stays t.goroutines; objects = kept keep t.objects }) (real_collect s recover sets)
+  pub collected : (t : State) (stays keep : List Bool) → t ≡ plain_collect s
+      → stays ≡ map (λ e. not (is_in e.0 (removed s recover sets))) s.goroutines
+      → keep ≡ map (λ e. is_in e.0 (retained s (removed s recover sets))) s.objects
+      → ◌≡◌ {A = State} (record t { goroutines = kept stays t.goroutines; objects = kept keep t.objects })
+      (real_collect s recover sets)
   collected t stays keep is who what =
       let p : State = plain_collect s in
-      let a : kept stays s.goroutines ≡ only (λ g. not (is_in g (removed s recover sets))) s.goroutines = ap (λ (fs : List Bool). kept fs s.goroutines) who ∙ kept-only (λ g. not (is_in g (removed s recover sets))) s.goroutines in
-      let b : kept keep s.objects ≡ only (λ o. is_in o (retained s (removed s recover sets))) s.objects = ap (λ (fs : List Bool). kept fs s.objects) what ∙ kept-only (λ o. is_in o (retained s (removed s recover sets))) s.objects in
+      let a : kept stays s.goroutines ≡ only (λ g. not (is_in g (removed s recover sets))) s.goroutines =
+      ap (λ (fs : List Bool). kept fs s.goroutines) who
+      ∙ kept-only (λ g. not (is_in g (removed s recover sets))) s.goroutines in
+      let b : kept keep s.objects ≡ only (λ o. is_in o (retained s (removed s recover sets))) s.objects =
+      ap (λ (fs : List Bool). kept fs s.objects) what
+      ∙ kept-only (λ o. is_in o (retained s (removed s recover sets))) s.objects in
       ap (λ (u : State). record u { goroutines = kept stays u.goroutines; objects = kept keep u.objects }) is
       ∙ (λ i. record p { goroutines = a i; objects = b i })
 
 -- goroutine 0 is removed by no collection
-pub zero-stays : (s : State) (recover sets : Bool) (stays : List Bool) → stays ≡ map (λ e. not (is_in e.0 (removed s recover sets))) s.goroutines
+pub zero-stays : (s : State) (recover sets : Bool) (stays : List Bool)
+    → stays ≡ map (λ e. not (is_in e.0 (removed s recover sets))) s.goroutines
     → is_some (find 0 s.goroutines) ≡ true → is_some (find 0 (kept stays s.goroutines)) ≡ true
 zero-stays s recover sets stays who there =
     let p : ℕ → Bool = λ g. not (is_in g (removed s recover sets)) in
     let out : p 0 ≡ true = elim (cases_Bool (is_in 0 (removed s recover sets))) [
-      | inl t ↦ absurd ((gone-dead s recover sets 0 (In-from 0 (removed s recover sets) t)).2 (Reached-root (LiveRoot s) (LiveStep s) (Node.AGoroutine 0) LiveRoot.FinaliserGoroutine))
+      | inl t ↦ absurd ((gone-dead s recover sets 0 (In-from 0 (removed s recover sets) t)).2
+          (Reached-root (LiveRoot s) (LiveStep s) (Node.AGoroutine 0) LiveRoot.FinaliserGoroutine))
       | inr f ↦ ap not f
     ] in
     ap (λ (fs : List Bool). is_some (find 0 (kept fs s.goroutines))) who
@@ -136,11 +168,13 @@ zero-stays s recover sets stays who there =
     ∙ ap is_some (find-only p s.goroutines 0 out) ∙ there
 
 -- flags of the list of goroutines are flags of their entries
-pub stays-are : {X : Type 0} (p : ℕ → Bool) (gs : List GoroutineId) (es : List (ℕ × X)) → map (λ g. g.0) gs ≡ keys es → map (λ g. p g.0) gs ≡ map (λ e. p e.0) es
+pub stays-are : {X : Type 0} (p : ℕ → Bool) (gs : List GoroutineId) (es : List (ℕ × X)) → map (λ g. g.0) gs ≡ keys es
+    → map (λ g. p g.0) gs ≡ map (λ e. p e.0) es
 stays-are p [] [] h = refl
 stays-are p [] (e ∷ es) h = cc
 stays-are p (g ∷ gs) [] h = cc
 stays-are p (g ∷ gs) (e ∷ es) h =
     let first : g.0 ≡ e.0 = cc in
     let rest : map (λ (x : GoroutineId). x.0) gs ≡ keys es = cc in
-    ap (λ (k : ℕ). p k ∷ map (λ (x : GoroutineId). p x.0) gs) first ∙ ap (λ (l : List Bool). p e.0 ∷ l) (stays-are p gs es rest)
+    ap (λ (k : ℕ). p k ∷ map (λ (x : GoroutineId). p x.0) gs) first
+    ∙ ap (λ (l : List Bool). p e.0 ∷ l) (stays-are p gs es rest)

@@ -14,9 +14,11 @@ new_in book s = filter (λ g. not (stays_reported book g)) (dead s)
 
 -- the book after the collection: those who are new are reported, and those who are removed are noted as removed
 abbrev pub noted_by : Bool → Bool → Book → State → Book
-noted_by recover sets_finalisers book s = noted (map goroutine_id (new_in book s)) (map goroutine_id (removed s recover sets_finalisers)) book
+noted_by recover sets_finalisers book s =
+    noted (map goroutine_id (new_in book s)) (map goroutine_id (removed s recover sets_finalisers)) book
 
--- the report: it names who is new, and counts the live objects, the dead who stay, the removed, and the objects that are left
+-- the report: it names who is new, and counts the live objects, the dead who stay, the removed, and the objects that
+-- are left
 abbrev pub report_of : Bool → Bool → Book → State → Report
 report_of recover sets_finalisers book s = record {
   number = book.collections + 1;

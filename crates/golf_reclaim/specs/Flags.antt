@@ -18,5 +18,6 @@ either (x ∷ xs) (y ∷ ys) = (x || y) ∷ either xs ys
 
 -- with recovery, the goroutines of the sleepers that are neither awake nor kept; else none
 abbrev pub IsUnkept : Bool → Bool → GraphParts → Marked → List GoroutineId → Type 0
-IsUnkept true sets g m gone = (flags : List Bool) × HasKept g m sets flags × (gone ≡ left_out (either m.awake flags) (map (λ x. x.goroutine) g.sleepers))
+IsUnkept true sets g m gone = (flags : List Bool) × HasKept g m sets flags
+    × (gone ≡ left_out (either m.awake flags) (map (λ x. x.goroutine) g.sleepers))
 IsUnkept false sets g m gone = gone ≡ []

@@ -13,7 +13,8 @@ use Rattle.golf_model.specs.Reporting.{numbers}
 abbrev pub stays_reported : Book → ℕ → Bool
 stays_reported book g = nat_lt (times g (numbers book.reclaimed)) (times g (numbers book.reported))
 
--- the numbers of those who stay rise; each of them was reported once more than it was removed, and any other number as often
+-- the numbers of those who stay rise; each of them was reported once more than it was removed, and any other number as
+-- often
 pub record HasStaying (reported reclaimed staying : List GoroutineId) : Type 0 where
   pub rises : IsNonDecreasingBy (λ (g : GoroutineId). g.0) staying
   pub counts : (g : ℕ) → times g (numbers reported) ≡ times g (numbers reclaimed) + cond (is_in g (numbers staying)) 1 0
@@ -27,7 +28,11 @@ pub record CanNote (new gone : List ℕ) (book : Book) : Type 0 where
 
 -- the book with one collection more, which reported and removed these
 abbrev pub noted : List GoroutineId → List GoroutineId → Book → Book
-noted new gone book = record { collections = book.collections + 1; reported = book.reported ++ new; reclaimed = book.reclaimed ++ gone }
+noted new gone book = record {
+  collections = book.collections + 1;
+  reported = book.reported ++ new;
+  reclaimed = book.reclaimed ++ gone;
+}
 
 -- no goroutine of the state was removed before
 abbrev pub AreGone : Book → State → Type 0

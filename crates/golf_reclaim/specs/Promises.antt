@@ -18,11 +18,14 @@ use Rattle.golf_model.specs.Turn.{MovesOn}
 abbrev pub AreStill : Report → State → Type 0
 AreStill report before = (code : Code) (g : ℕ) → In g (named report) → Still code before g
 
--- whatever the events, and whatever code led to the state before and sets finalisers or not as the option says: what follows on the state after
--- shows the output, the ending, the finaliser calls, the live objects and the dead goroutines that follow on the plain collection, the removed ones apart
+-- whatever the events, and whatever code led to the state before and sets finalisers or not as the option says: what
+-- follows on the state after shows the output, the ending, the finaliser calls, the live objects and the dead
+-- goroutines that follow on the plain collection, the removed ones apart
 abbrev pub IsUnseen : Bool → Bool → State → State → Type 0
-IsUnseen recover sets before after = (code : Code) (events : List Event) → Leads code before → sets_finalisers code ≡ sets
-    → futures code after events (removed before recover sets) ≡ futures code (plain_collect before) events (removed before recover sets)
+IsUnseen recover sets before after = (code : Code) (events : List Event) → Leads code before
+    → sets_finalisers code ≡ sets
+    → futures code after events (removed before recover sets) ≡ futures code (plain_collect before) events
+    (removed before recover sets)
 
 -- with recovery, a dead goroutine that the keep rule does not keep
 abbrev pub IsRemoved : Bool → Bool → State → ℕ → Type 0
@@ -30,9 +33,12 @@ IsRemoved recover sets before g = (recover ≡ true) × Dead before g × (Keeps 
 
 -- exactly those are gone, and exactly the retained objects are left
 pub record LeavesExactly (recover sets : Bool) (before after : State) : Type 0 where
-  pub goroutines : (g : ℕ) → In g (keys after.goroutines) ↔ (In g (keys before.goroutines) × (IsRemoved recover sets before g → ⊥))
-  pub objects : (o : ℕ) → In o (keys after.objects) ↔ (In o (keys before.objects) × Retained before (removed before recover sets) o)
+  pub goroutines : (g : ℕ) → In g (keys after.goroutines)
+      ↔ (In g (keys before.goroutines) × (IsRemoved recover sets before g → ⊥))
+  pub objects : (o : ℕ) → In o (keys after.objects)
+      ↔ (In o (keys before.objects) × Retained before (removed before recover sets) o)
 
 -- code that fits types is not stuck after it
 abbrev pub MovesOnAfter : Bool → State → State → Type 0
-MovesOnAfter sets before after = (code : Code) (types : Typing) (c : ℕ) → HasShapes code types → Leads code before → ending before ≡ None → sets_finalisers code ≡ sets → ending after ≡ None → MovesOn code after c
+MovesOnAfter sets before after = (code : Code) (types : Typing) (c : ℕ) → HasShapes code types → Leads code before
+    → ending before ≡ None → sets_finalisers code ≡ sets → ending after ≡ None → MovesOn code after c

@@ -2,12 +2,12 @@
 
 ghost use Rattle.std.specs.Prelude.{◌≡◌};
 ghost use Rattle.golf_theory.specs.Membership.{any_of};
-ghost use Rattle.golf_model.specs.Collecting.{is_setting as is_setting_instr, sets_finalisers as sets_by};
+ghost use Rattle.golf_model.specs.Collecting.{is_setting as is_setting_of, sets_finalisers as sets_finalisers_of};
 
 use golf_data::{Code, CodeLine, Function, Instr};
 
 fn is_setting(line: &CodeLine) -> bool
-    ensures { result ≡ is_setting_instr line.now.instr }
+    ensures { result ≡ is_setting_of line.now.instr }
 {
     match line.instr {
         Instr::SetFinalizer(_) => true,
@@ -16,7 +16,7 @@ fn is_setting(line: &CodeLine) -> bool
 }
 
 fn sets_one(function: &Function) -> bool
-    ensures { result ≡ any_of (λ l. is_setting_instr l.instr) function.now.body }
+    ensures { result ≡ any_of (λ l. is_setting_of l.instr) function.now.body }
 {
     for line in function.body.as_slice() {
         if is_setting(line) {
@@ -28,7 +28,7 @@ fn sets_one(function: &Function) -> bool
 
 /// Whether an instruction of the code sets a finaliser, so that the code can give an object one.
 pub fn sets_finalisers(code: &Code) -> bool
-    ensures { result ≡ sets_by code.now }
+    ensures { result ≡ sets_finalisers_of code.now }
 {
     for function in code.functions.as_slice() {
         if sets_one(function) {

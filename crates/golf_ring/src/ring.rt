@@ -3,7 +3,8 @@
 //! The items lie in a ring. The view is the list of the items, the oldest first. No clause speaks of the
 //! room or of where the first item lies.
 
-ghost use Rattle.std.specs.Prelude.{◌≡◌, [], ◌∷◌, ◌++◌, ◌<◌, ◌↔◌, List, drop, length, slice_get, IsTrue, MatchOption, OnOk, OnErr};
+ghost use Rattle.std.specs.Prelude.{◌≡◌, [], ◌∷◌, ◌++◌, ◌<◌, ◌↔◌, List, drop, length, slice_get, IsTrue, MatchOption};
+ghost use Rattle.std.specs.Prelude.{OnOk, OnErr};
 
 use golf_base::Memory;
 use std::alloc::Global;

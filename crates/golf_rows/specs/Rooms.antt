@@ -32,7 +32,8 @@ given (row ∷ rows) (suc n) member = row ∷ given rows n member
 abbrev pub roomy_from : ℕ → List ℕ → List ℕ → List ℕ → List (Roomy ℕ)
 roomy_from from [] nexts members = []
 roomy_from from (end ∷ ends) [] members = []
-roomy_from from (end ∷ ends) (next ∷ nexts) members = record { items = take (next - from) members; spare = end - next } ∷ roomy_from end ends nexts (drop (end - from) members)
+roomy_from from (end ∷ ends) (next ∷ nexts) members = record { items = take (next - from) members; spare = end - next }
+    ∷ roomy_from end ends nexts (drop (end - from) members)
 
 -- each next member goes into the room of its own row, and no room ends past the bound
 abbrev pub AreRooms : ℕ → List ℕ → List ℕ → ℕ → Type 0

@@ -68,11 +68,13 @@ step-left code gone s k h =
     below n g f = omega (arith, f)
 
 -- those that a collection removes
-new-removed : (recover sets : Bool) (book : Book) (s : State) (g : ℕ) → In g (new_gone recover sets book s) → In g (removed s recover sets)
+new-removed : (recover sets : Bool) (book : Book) (s : State) (g : ℕ) → In g (new_gone recover sets book s)
+    → In g (removed s recover sets)
 new-removed true sets book s g i = (In-filter _ g (unkept s sets) i).0
 new-removed false sets book s g i = absurd i
 
-pub collect-left : (recover sets : Bool) (book : Book) (s : State) → Numbered s → HasLeft (numbers book.reclaimed) s → HasLeft (numbers (book_after recover sets book s).reclaimed) (real_collect s recover sets)
+pub collect-left : (recover sets : Bool) (book : Book) (s : State) → Numbered s → HasLeft (numbers book.reclaimed) s
+    → HasLeft (numbers (book_after recover sets book s).reclaimed) (real_collect s recover sets)
 collect-left recover sets book s n h = record {
   absent = λ g i j.
       let e = Entry-keys (real_collect s recover sets).goroutines g i in
@@ -83,16 +85,20 @@ collect-left recover sets book s n h = record {
       ];
   not_zero = λ j. elim (cases 0 j) [
     | inl l ↦ h.not_zero l
-    | inr r ↦ (gone-dead s recover sets 0 (new-removed recover sets book s 0 r)).2 (root (Node.AGoroutine 0) LiveRoot.FinaliserGoroutine)
+    | inr r ↦ (gone-dead s recover sets 0 (new-removed recover sets book s 0 r)).2
+        (root (Node.AGoroutine 0) LiveRoot.FinaliserGoroutine)
   ];
   given = λ g j. elim (cases g j) [
     | inl l ↦ h.given g l
-    | inr r ↦ let d = gone-dead s recover sets g (new-removed recover sets book s g r) in Entry-below s.next_goroutine s.goroutines g d.0 n.goroutines_below d.1
+    | inr r ↦ let d = gone-dead s recover sets g
+        (new-removed recover sets book s g r) in Entry-below s.next_goroutine s.goroutines g d.0 n.goroutines_below d.1
   ];
 }
   where
-    cases : (g : ℕ) → In g (numbers (book_after recover sets book s).reclaimed) → In g (numbers book.reclaimed) ⊎ In g (new_gone recover sets book s)
-    cases g j = In-cases g (numbers book.reclaimed) (new_gone recover sets book s) (subst (λ (gs : List ℕ). In g gs) (numbers-append book.reclaimed (new_gone recover sets book s)) j)
+    cases : (g : ℕ) → In g (numbers (book_after recover sets book s).reclaimed) → In g (numbers book.reclaimed)
+        ⊎ In g (new_gone recover sets book s)
+    cases g j = In-cases g (numbers book.reclaimed) (new_gone recover sets book s)
+        (subst (λ (gs : List ℕ). In g gs) (numbers-append book.reclaimed (new_gone recover sets book s)) j)
 
     root : (x : Node) → LiveRoot s x → Live s x
     root x r = Reached-root (LiveRoot s) (LiveStep s) x r

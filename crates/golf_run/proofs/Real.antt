@@ -13,7 +13,8 @@ use Rattle.golf_run.specs.UnderWay.{at, stops_to, reports_to, collecting, real_a
 use Rattle.golf_run.proofs.Appending.{run-append, stops-append, reports-append, books-append}
 
 module _ (code : Code) (recover : Bool) where
-  pub reports-at : (es : List Event) → reports_to code recover es ≡ reports_from recover (sets_finalisers code) new_book (real_stops_to code recover es)
+  pub reports-at : (es : List Event) → reports_to code recover es ≡ reports_from recover (sets_finalisers code) new_book
+      (real_stops_to code recover es)
   unfolding reports_to stops_to real_stops_to
   reports-at es = sym (real-runs code recover es).2
 
@@ -29,24 +30,34 @@ module _ (code : Code) (recover : Bool) where
 
     -- one event more
     module _ (e : Event) where
-      pub real-next : real_at code recover (done ++ e ∷ []) ≡ happens_by (collecting code recover) code (real_at code recover done) e
+      pub real-next : real_at code recover (done ++ e ∷ []) ≡ happens_by (collecting code recover) code
+          (real_at code recover done) e
       unfolding real_at
       real-next = run-append (collecting code recover) code done (e ∷ []) (start code)
 
-      pub real_stops-next : real_stops_to code recover (done ++ e ∷ []) ≡ real_stops_to code recover done ++ stop_in (collecting code recover) code (has_ended (real_at code recover done)) (real_at code recover done) e
+      pub real_stops-next : real_stops_to code recover (done ++ e ∷ []) ≡ real_stops_to code recover done
+          ++ stop_in (collecting code recover) code (has_ended (real_at code recover done))
+          (real_at code recover done) e
       unfolding real_at real_stops_to
       real_stops-next =
           stops-append (collecting code recover) code done (e ∷ []) (start code)
           ∙ ap (λ ps. stops_by (collecting code recover) code (start code) done ++ ps) (append-nil _)
 
       -- what a collection that comes after the others adds
-      module _ (ps : List State) (added : real_stops_to code recover (done ++ e ∷ []) ≡ real_stops_to code recover done ++ ps) where
-        pub real_book-next : real_book_to code recover (done ++ e ∷ []) ≡ books recover (sets_finalisers code) (real_book_to code recover done) ps
+      module _ (ps : List State) (added : real_stops_to code recover (done ++ e ∷ []) ≡ real_stops_to code recover done
+          ++ ps) where
+        pub real_book-next : real_book_to code recover (done ++ e ∷ []) ≡ books recover (sets_finalisers code)
+            (real_book_to code recover done) ps
         unfolding real_book_to
-        real_book-next = ap (books recover (sets_finalisers code) new_book) added ∙ books-append recover (sets_finalisers code) (real_stops_to code recover done) ps new_book
+        real_book-next = ap (books recover (sets_finalisers code) new_book) added
+            ∙ books-append recover (sets_finalisers code) (real_stops_to code recover done) ps new_book
 
-        pub reports-next : reports_to code recover (done ++ e ∷ []) ≡ reports_to code recover done ++ reports_from recover (sets_finalisers code) (real_book_to code recover done) ps
+        pub reports-next : reports_to code recover (done ++ e ∷ []) ≡ reports_to code recover done
+            ++ reports_from recover (sets_finalisers code) (real_book_to code recover done) ps
         unfolding real_book_to
         reports-next =
-            reports-at (done ++ e ∷ []) ∙ ap (reports_from recover (sets_finalisers code) new_book) added ∙ reports-append recover (sets_finalisers code) (real_stops_to code recover done) ps new_book
-            ∙ ap (λ rs. rs ++ reports_from recover (sets_finalisers code) (books recover (sets_finalisers code) new_book (real_stops_to code recover done)) ps) (sym (reports-at done))
+            reports-at (done ++ e ∷ []) ∙ ap (reports_from recover (sets_finalisers code) new_book) added
+            ∙ reports-append recover (sets_finalisers code) (real_stops_to code recover done) ps new_book
+            ∙ ap (λ rs. rs ++ reports_from recover (sets_finalisers code)
+            (books recover (sets_finalisers code) new_book (real_stops_to code recover done)) ps)
+            (sym (reports-at done))

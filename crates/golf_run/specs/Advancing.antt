@@ -9,7 +9,8 @@ use Rattle.golf_run.specs.declared.fault.RunFault.{RunFault}
 use Rattle.golf_run.specs.Happening.{HasTurned}
 
 -- the events before this one were turns after which the outside was not needed, and it comes in this state
-pub record HasComeTo (code : Code) (old : State) (event : Event) (before after : List Event) (given now : ℕ) : Type 0 where
+pub record HasComeTo (code : Code) (old : State) (event : Event) (before after : List Event)
+    (given now : ℕ) : Type 0 where
   pub state : State
   pub earlier : ℕ
   pub begins : ending old ≡ None
@@ -19,10 +20,18 @@ pub record HasComeTo (code : Code) (old : State) (event : Event) (before after :
 -- the program had ended before; or there were such turns alone, and nothing is left
 abbrev pub HasStopped : Code → State → State → List Event → List Event → ℕ → ℕ → Type 0
 HasStopped code old new before after given now =
-    ((is_some (ending old) ≡ true) × (new ≡ old) × (after ≡ before) × (now ≡ given)) ⊎ ((ending old ≡ None) × (after ≡ []) × HasGoneOn code old new before after given now)
+    ((is_some (ending old) ≡ true) × (new ≡ old) × (after ≡ before) × (now ≡ given))
+    ⊎ ((ending old ≡ None) × (after ≡ []) × HasGoneOn code old new before after given now)
 
--- an event came about after such turns, and what it prints was written; or no event is left; or the event did not come about
-abbrev pub HasAdvanced : Result (Option Bool) RunFault → Code → State → State → List Event → List Event → ℕ → ℕ → Option (List ℕ) → Option (List ℕ) → ℕ → ℕ → Type 0
-HasAdvanced (Ok (Some wants)) code old new before after given now out out' f f' = (event : Event) × (come : HasComeTo code old event before after given now) × HasTurned (Ok wants) code event come.state new out out' f f'
-HasAdvanced (Ok None) code old new before after given now out out' f f' = HasStopped code old new before after given now × (out' ≡ out) × (f' ≡ f)
-HasAdvanced (Err e) code old new before after given now out out' f f' = (event : Event) × (come : HasComeTo code old event before after given now) × HasTurned (Err e) code event come.state new out out' f f'
+-- an event came about after such turns, and what it prints was written; or no event is left; or the event did not come
+-- about
+abbrev pub HasAdvanced : Result (Option Bool) RunFault → Code → State → State → List Event → List Event → ℕ → ℕ
+    → Option (List ℕ) → Option (List ℕ) → ℕ → ℕ → Type 0
+HasAdvanced (Ok (Some wants)) code old new before after given now out out' f f' = (event : Event)
+    × (come : HasComeTo code old event before after given now)
+    × HasTurned (Ok wants) code event come.state new out out' f f'
+HasAdvanced (Ok None) code old new before after given now out out' f f' = HasStopped code old new before after given now
+    × (out' ≡ out) × (f' ≡ f)
+HasAdvanced (Err e) code old new before after given now out out' f f' = (event : Event)
+    × (come : HasComeTo code old event before after given now)
+    × HasTurned (Err e) code event come.state new out out' f f'

@@ -30,10 +30,14 @@ abbrev pub collects : Code → Event → State → Bool
 collects code (Event.Turn c) s = wants_collection code s c
 collects code Event.Collect s = true
 
--- what the turn prints was written, and the state is the one after it; or the write failed in the middle; or memory ran out, and nothing was written. Only turns fail.
-abbrev pub HasTurned : Result Bool RunFault → Code → Event → State → State → Option (List ℕ) → Option (List ℕ) → ℕ → ℕ → Type 0
-HasTurned (Ok wants) code e s after out out' before now = (wants ≡ collects code e s) × (after ≡ turned code e s) × Appends out out' (prints code e s) × (now ≡ before)
-HasTurned (Err faults.Write) code (Event.Turn c) s after out out' before now = WritesPrefix out out' (step code s c).output × Rose before now
+-- what the turn prints was written, and the state is the one after it; or the write failed in the middle; or memory ran
+-- out, and nothing was written. Only turns fail.
+abbrev pub HasTurned : Result Bool RunFault → Code → Event → State → State → Option (List ℕ) → Option (List ℕ) → ℕ → ℕ
+    → Type 0
+HasTurned (Ok wants) code e s after out out' before now = (wants ≡ collects code e s) × (after ≡ turned code e s)
+    × Appends out out' (prints code e s) × (now ≡ before)
+HasTurned (Err faults.Write) code (Event.Turn c) s after out out' before now =
+    WritesPrefix out out' (step code s c).output × Rose before now
 HasTurned (Err faults.Memory) code (Event.Turn c) s after out out' before now = (out' ≡ out) × (now ≡ before)
 HasTurned (Err faults.Write) code Event.Collect s after out out' before now = ⊥
 HasTurned (Err faults.Memory) code Event.Collect s after out out' before now = ⊥

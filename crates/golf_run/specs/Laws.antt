@@ -10,7 +10,8 @@ use Rattle.golf_run.specs.HasRun.{Sinks, HasRun}
 
 -- the writes of a run, sink by sink, are its two texts
 abbrev pub WritesAreTexts : Type 0
-WritesAreTexts = (code : Code) (options : RunOptions) → (out_bytes (writes_of code options) ≡ out_of code options) × (err_bytes (writes_of code options) ≡ err_of code options)
+WritesAreTexts = (code : Code) (options : RunOptions) → (out_bytes (writes_of code options) ≡ out_of code options)
+    × (err_bytes (writes_of code options) ≡ err_of code options)
 
 -- each sink got a prefix of its text
 pub record GotPrefixes (code : Code) (options : RunOptions) (old new : Sinks) : Type 0 where
@@ -19,4 +20,5 @@ pub record GotPrefixes (code : Code) (options : RunOptions) (old new : Sinks) : 
 
 -- whatever made a run stop, each sink got a prefix of its text
 abbrev pub FaultsLeavePrefixes : Type 0
-FaultsLeavePrefixes = (fault : RunFault) (code : Code) (options : RunOptions) (old new : Sinks) → HasRun (Err fault) code options old new → GotPrefixes code options old new
+FaultsLeavePrefixes = (fault : RunFault) (code : Code) (options : RunOptions) (old new : Sinks)
+    → HasRun (Err fault) code options old new → GotPrefixes code options old new

@@ -25,7 +25,8 @@ pub record IsStoppedIn (lines : List (List ℕ)) (old new : Option (List ℕ)) :
   pub got : Appends old new (joined done)
 
 -- all lines were written; or a write failed in the middle of one; or memory ran out between two of them
-abbrev pub HasWritten : {X : Type 0} → Result X RunFault → List (List ℕ) → Option (List ℕ) → Option (List ℕ) → ℕ → ℕ → Type 0
+abbrev pub HasWritten : {X : Type 0} → Result X RunFault → List (List ℕ) → Option (List ℕ) → Option (List ℕ) → ℕ → ℕ
+    → Type 0
 HasWritten (Ok x) lines old new before now = Appends old new (joined lines) × (now ≡ before)
 HasWritten (Err faults.Write) lines old new before now = IsCutIn lines old new × Rose before now
 HasWritten (Err faults.Memory) lines old new before now = IsStoppedIn lines old new × (now ≡ before)

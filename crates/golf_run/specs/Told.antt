@@ -1,5 +1,6 @@
 -- What one collection of a run tells, with recovery or without, of a code that sets finalisers or does not.
-use Rattle.std.specs.Prelude.{◌≡◌, ℕ, Bool, true, false, List, [], ◌∷◌, map, length, Option, Some, None, Result, Ok, Err}
+use Rattle.std.specs.Prelude.{◌≡◌, ℕ, Bool, true, false, List, [], ◌∷◌, map, length, Option, Some, None, Result, Ok}
+use Rattle.std.specs.Prelude.{Err}
 use Rattle.std.specs.Io.KnownBytes.{Appends}
 use Rattle.golf_base.specs.Causes.{Rose}
 use Rattle.golf_data.specs.declared.report.Book.{Book}
@@ -42,7 +43,13 @@ noted recover sets book s = book_after recover sets book s
 
 -- the numbers of a book, and those of its last report
 abbrev pub totals_by : Book → Report → Totals
-totals_by book r = record { collections = book.collections; reported = length book.reported; kept = r.kept; reclaimed = length book.reclaimed; objects = r.objects }
+totals_by book r = record {
+  collections = book.collections;
+  reported = length book.reported;
+  kept = r.kept;
+  reclaimed = length book.reclaimed;
+  objects = r.objects;
+}
 
 -- what all reports so far come to
 unfoldable pub totalled : Bool → Bool → Book → State → Totals
@@ -52,9 +59,14 @@ totalled recover sets book s = totals_by (noted recover sets book s) (told recov
 unfoldable pub collected : Bool → Bool → State → State
 collected recover sets s = real_collect s recover sets
 
--- the lines were written, the book has the report and the state is the one after; or a write failed in the middle of one; or memory ran out between two of them
-abbrev pub HasTold : Bool → Bool → Bool → Result Totals RunFault → State → State → Book → Book → Option (List ℕ) → Option (List ℕ) → ℕ → ℕ → Type 0
+-- the lines were written, the book has the report and the state is the one after; or a write failed in the middle of
+-- one; or memory ran out between two of them
+abbrev pub HasTold : Bool → Bool → Bool → Result Totals RunFault → State → State → Book → Book → Option (List ℕ)
+    → Option (List ℕ) → ℕ → ℕ → Type 0
 HasTold recover sets why (Ok totals) s after book book' err err' before now =
-    (totals ≡ totalled recover sets book s) × (after ≡ collected recover sets s) × (book' ≡ noted recover sets book s) × Appends err err' (joined (told_by recover sets why book s)) × (now ≡ before)
-HasTold recover sets why (Err faults.Write) s after book book' err err' before now = IsCutIn (told_by recover sets why book s) err err' × Rose before now
-HasTold recover sets why (Err faults.Memory) s after book book' err err' before now = IsStoppedIn (told_by recover sets why book s) err err' × (now ≡ before)
+    (totals ≡ totalled recover sets book s) × (after ≡ collected recover sets s) × (book' ≡ noted recover sets book s)
+    × Appends err err' (joined (told_by recover sets why book s)) × (now ≡ before)
+HasTold recover sets why (Err faults.Write) s after book book' err err' before now =
+    IsCutIn (told_by recover sets why book s) err err' × Rose before now
+HasTold recover sets why (Err faults.Memory) s after book book' err err' before now =
+    IsStoppedIn (told_by recover sets why book s) err err' × (now ≡ before)

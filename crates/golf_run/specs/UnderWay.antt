@@ -39,7 +39,8 @@ book_to code recover es = books recover (sets_finalisers code) new_book (stops_t
 abbrev pub collecting : Code → Bool → State → State
 collecting code recover s = real_collect s recover (sets_finalisers code)
 
--- the machine whose collections are these, after the events, the states right before its collections, and the book of their reports
+-- the machine whose collections are these, after the events, the states right before its collections, and the book of
+-- their reports
 unfoldable pub real_at : Code → Bool → List Event → State
 real_at code recover es = run_by (collecting code recover) code (start code) es
 
@@ -56,7 +57,8 @@ writes_to code recover why es = writes_from code recover (sets_finalisers code) 
 -- the lines of the collections at these stops, one after another
 abbrev pub stops_text : Bool → Bool → Bool → Book → List State → List ℕ
 stops_text recover sets why book [] = []
-stops_text recover sets why book (p ∷ ps) = joined (told_lines why (report recover sets book p) p) ++ stops_text recover sets why (book_after recover sets book p) ps
+stops_text recover sets why book (p ∷ ps) = joined (told_lines why (report recover sets book p) p)
+    ++ stops_text recover sets why (book_after recover sets book p) ps
 
 -- what the collections of the events tell
 unfoldable pub told_to : Code → Bool → Bool → List Event → List ℕ
@@ -68,8 +70,10 @@ pub record IsCounted (ledger : Book) (rs : List Report) : Type 0 where
   pub reported : length ledger.reported ≡ total_reported rs
   pub reclaimed : length ledger.reclaimed ≡ total_reclaimed rs
 
--- the state is that of this machine but for what was printed; what the plain machine prints and reports was written, and the book has its reports
-pub record IsUnderWay (code : Code) (recover why : Bool) (done : List Event) (state : State) (ledger : Book) (totals : Totals) (old now : Sinks) : Type 0 where
+-- the state is that of this machine but for what was printed; what the plain machine prints and reports was written,
+-- and the book has its reports
+pub record IsUnderWay (code : Code) (recover why : Bool) (done : List Event) (state : State) (ledger : Book)
+    (totals : Totals) (old now : Sinks) : Type 0 where
   pub same : real_at code recover done ≡ prefixed (real_at code recover done).output state
   pub leads : Leads code state
   pub taken : state.output ≡ []
@@ -82,7 +86,8 @@ pub record IsUnderWay (code : Code) (recover why : Bool) (done : List Event) (st
   pub err : Appends old.err now.err (told_to code recover why done)
 
 -- these events of the run are done, in which so many numbers were given, and the others are still to come
-pub record IsGoing (code : Code) (options : RunOptions) (left : List Event) (given : ℕ) (state : State) (ledger : Book) (totals : Totals) (old now : Sinks) : Type 0 where
+pub record IsGoing (code : Code) (options : RunOptions) (left : List Event) (given : ℕ) (state : State) (ledger : Book)
+    (totals : Totals) (old now : Sinks) : Type 0 where
   pub done : List Event
   pub split : events_of options ≡ done ++ left
   pub turns : given ≡ turns_among done

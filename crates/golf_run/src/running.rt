@@ -3,8 +3,8 @@
 ghost use Rattle.std.specs.Prelude.{◌≡◌, IfOk};
 ghost use Rattle.golf_data.specs.Places.{HasPlaces};
 ghost use Rattle.golf_run_schedules.specs.Options.{IsWithinLimits};
-ghost use Rattle.golf_run_texts.specs.Texts.{last_line as last_bytes};
-ghost use Rattle.golf_run_texts.specs.Output.{status_by as status_when};
+ghost use Rattle.golf_run_texts.specs.Texts.{last_line as last_line_of};
+ghost use Rattle.golf_run_texts.specs.Output.{status_by as status_by_of};
 ghost use Rattle.golf_run.specs.HasRun.{HasRun, sinks};
 
 use crate::fault::RunFault;
@@ -23,7 +23,7 @@ pub fn last_line(
     turns: u32,
     ending: Option<Ending>,
 ) -> Result<List<u8>, Memory>
-    ensures { IfOk result (λ line. line ≡ last_bytes texts.now turns ending) }
+    ensures { IfOk result (λ line. line ≡ last_line_of texts.now turns ending) }
 {
     match ending {
         Some(ending) => ending_line(alloc, texts, ending),
@@ -33,7 +33,7 @@ pub fn last_line(
 
 /// How a run ends: whether goroutines were reported tells one that returned clean from one that found some.
 pub fn status_by(reported: bool, ending: Option<Ending>) -> Status
-    ensures { result ≡ status_when reported ending }
+    ensures { result ≡ status_by_of reported ending }
 {
     match ending {
         Some(Ending::Returned) if reported => Status::Found,

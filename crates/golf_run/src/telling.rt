@@ -4,7 +4,8 @@ ghost use Rattle.std.specs.Prelude.{◌<◌, ◌++◌, [], ◌∷◌, IfOk, IfSo
 ghost use Rattle.golf_model.specs.Graph.{sleeper_count};
 ghost use Rattle.golf_model.specs.Presence.{IsWhole};
 ghost use Rattle.golf_why.specs.Explaining.{reached_at, reached_from, IsReady};
-ghost use Rattle.golf_run_texts.specs.Texts.{entry_line as entry_bytes, reached_line as reached_bytes, report_lines};
+ghost use Rattle.golf_run_texts.specs.Texts.{entry_line as entry_line_of, reached_line as reached_line_of};
+ghost use Rattle.golf_run_texts.specs.Texts.{report_lines};
 ghost use Rattle.golf_run.specs.Lines.{HasWritten};
 ghost use Rattle.golf_run.specs.Told.{explained_lines, ExplainsIf};
 
@@ -33,7 +34,7 @@ pub(crate) fn explanation(
 
 // The line of a goroutine that is reported.
 fn write_entry<E: Sink>(alloc: Global, entry: &Entry, err: &mut E) -> Result<(), RunFault>
-    ensures { HasWritten result (entry_bytes entry.now ∷ []) (E.written err.old) (E.written err.new) (E.faults err.old) (E.faults err.new) }
+    ensures { HasWritten result (entry_line_of entry.now ∷ []) (E.written err.old) (E.written err.new) (E.faults err.old) (E.faults err.new) }
 {
     let line = entry_line(alloc, entry)?;
     write_all(err, line.as_bytes())?;
@@ -42,7 +43,7 @@ fn write_entry<E: Sink>(alloc: Global, entry: &Entry, err: &mut E) -> Result<(),
 
 // A line for each goroutine that is reported.
 fn write_entries<E: Sink>(alloc: Global, entries: &[Entry], err: &mut E) -> Result<(), RunFault>
-    ensures { HasWritten result (map entry_bytes entries.now) (E.written err.old) (E.written err.new) (E.faults err.old) (E.faults err.new) }
+    ensures { HasWritten result (map entry_line_of entries.now) (E.written err.old) (E.written err.new) (E.faults err.old) (E.faults err.new) }
 {
     for entry in entries {
         write_entry(alloc, entry, err)?;
@@ -68,7 +69,7 @@ fn write_sleeper<E: Sink>(
 ) -> Result<(), RunFault>
     requires ready { IsReady why.now }
     requires sleeper { sleeper < sleeper_count why.now.graph }
-    ensures { HasWritten result (map reached_bytes (reached_at why.now.graph sleeper (unwrap_or (slice_get why.now.asleep sleeper) None))) (E.written err.old) (E.written err.new) (E.faults err.old) (E.faults err.new) }
+    ensures { HasWritten result (map reached_line_of (reached_at why.now.graph sleeper (unwrap_or (slice_get why.now.asleep sleeper) None))) (E.written err.old) (E.written err.new) (E.faults err.old) (E.faults err.new) }
 {
     let Some(reached) = why.reached(alloc, sleeper)? else {
         return Ok(());
@@ -81,7 +82,7 @@ fn write_sleeper<E: Sink>(
 // A line for each goroutine that waits and is live.
 fn write_reached<E: Sink>(alloc: Global, why: &Explanation, err: &mut E) -> Result<(), RunFault>
     requires { IsReady why.now }
-    ensures { HasWritten result (map reached_bytes (reached_from why.now.graph 0 why.now.asleep)) (E.written err.old) (E.written err.new) (E.faults err.old) (E.faults err.new) }
+    ensures { HasWritten result (map reached_line_of (reached_from why.now.graph 0 why.now.asleep)) (E.written err.old) (E.written err.new) (E.faults err.old) (E.faults err.new) }
 {
     for sleeper in 0..why.sleepers() {
         write_sleeper(alloc, why, sleeper, err)?;

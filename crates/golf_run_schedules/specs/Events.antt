@@ -1,5 +1,6 @@
 -- The numbers of a schedule, and the events of a run (profile).
-use Rattle.std.specs.Prelude.{ℕ, zero, suc, ◌+◌, ◌-◌, ◌*◌, ◌/◌, ◌%◌, ◌^◌, ◌==◌, ◌&&◌, Bool, true, false, not, List, [], ◌∷◌, ◌++◌, take, drop, Option, Some, None}
+use Rattle.std.specs.Prelude.{ℕ, zero, suc, ◌+◌, ◌-◌, ◌*◌, ◌/◌, ◌%◌, ◌^◌, ◌==◌, ◌&&◌, Bool, true, false, not, List, []}
+use Rattle.std.specs.Prelude.{◌∷◌, ◌++◌, take, drop, Option, Some, None}
 use Rattle.golf_model.specs.Running.{Event}
 use Rattle.golf_run_schedules.specs.declared.schedule.Schedule.{Schedule}
 use Rattle.golf_run_schedules.specs.declared.events.Event.{Event as Given}
@@ -59,11 +60,13 @@ turns_of Given.Collect = 0
 
 -- ---- what is still to come
 
--- the numbers for so many turns more, if some were taken; a schedule that is a seed is the last member of its congruence
+-- the numbers for so many turns more, if some were taken; a schedule that is a seed is the last member of its
+-- congruence
 abbrev pub numbers_left : Schedule → ℕ → ℕ → List ℕ
 numbers_left Schedule.Rotate done more = rotation more done
 numbers_left (Schedule.Seed x) done more = congruence more x
 numbers_left (Schedule.Choices cs) done more = take more (drop done cs)
 
 abbrev pub events_left : Events → List Event
-events_left e = collection_if e.is_collection_next ++ turns_from e.every (e.done + 1) (numbers_left e.schedule e.done (e.turns - e.done))
+events_left e = collection_if e.is_collection_next
+    ++ turns_from e.every (e.done + 1) (numbers_left e.schedule e.done (e.turns - e.done))

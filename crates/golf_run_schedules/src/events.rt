@@ -1,7 +1,8 @@
 //! The events of a run, one after the other.
 
 ghost use Rattle.std.specs.Prelude.{◌≡◌, ◌+◌, ◌∷◌, [], MatchOption};
-ghost use Rattle.golf_run_schedules.specs.Events.{event_of, events as events_of, events_left, is_due as is_due_behind, turns_of};
+ghost use Rattle.golf_run_schedules.specs.Events.{event_of, events as events_of, events_left, is_due as is_due_of};
+ghost use Rattle.golf_run_schedules.specs.Events.{turns_of};
 
 use crate::schedule::Schedule;
 
@@ -26,7 +27,7 @@ pub struct Events {
 
 // Whether a collection is due after a turn, by its place from 1.
 fn is_due(every: Option<u32>, turn: u32) -> bool
-    ensures { result ≡ is_due_behind every turn }
+    ensures { result ≡ is_due_of every turn }
 {
     match every {
         Some(n) => n != 0 && turn % n == 0,

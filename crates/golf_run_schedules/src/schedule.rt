@@ -1,7 +1,7 @@
 //! Where the numbers of the turns come from.
 
 ghost use Rattle.std.specs.Prelude.{◌≡◌, ◌<◌, ◌-◌, ◌∷◌, [], MatchOption, ℕ, suc};
-ghost use Rattle.golf_run_schedules.specs.Events.{congruent as congruent_to, numbers_left};
+ghost use Rattle.golf_run_schedules.specs.Events.{congruent as congruent_of, numbers_left};
 
 use golf_base::List;
 
@@ -19,7 +19,7 @@ pub enum Schedule {
 
 // The member of the linear congruence that follows `x`.
 fn congruent(x: u64) -> u64
-    ensures { result ≡ congruent_to x }
+    ensures { result ≡ congruent_of x }
 {
     x.wrapping_mul(6_364_136_223_846_793_005)
         .wrapping_add(1_442_695_040_888_963_407)

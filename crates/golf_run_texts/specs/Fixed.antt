@@ -9,7 +9,8 @@ most_bytes = 1048576
 -- the usage, for words that are no line
 abbrev pub usage_text : List ℕ
 usage_text =
-    codes "usage: golf run [--schedule S] [--turns N] [--every N] [--markers N] [--recover] [--why]\n       golf run --threads N\n       golf generate N\n       golf meaning\n"
+    codes
+    "usage: golf run [--schedule S] [--turns N] [--every N] [--markers N] [--recover] [--why]\n       golf run --threads N\n       golf generate N\n       golf meaning\n"
 
 -- the line for a source that fails
 abbrev pub read_fault_text : List ℕ

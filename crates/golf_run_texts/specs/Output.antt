@@ -36,9 +36,11 @@ end_of code options = last_line code.texts (turns_among (events_of options)) (en
 
 -- the states right before its collections, of the machine that frees and, with recovery, removes goroutines
 unfoldable pub real_stops_of : Code → RunOptions → List State
-real_stops_of code options = stops_by (λ s. real_collect s options.recover (sets_finalisers code)) code (start code) (events_of options)
+real_stops_of code options = stops_by (λ s. real_collect s options.recover (sets_finalisers code)) code (start code)
+    (events_of options)
 
--- what is told of the collection of this number on this state: its certificate, and the goroutines that wait and are live
+-- what is told of the collection of this number on this state: its certificate, and the goroutines that wait and are
+-- live
 abbrev pub why_lines : Bool → ℕ → State → List (List ℕ)
 why_lines false number s = []
 why_lines true number s = certificate_line number (certificate_size s) ∷ map reached_line (reached_in s)
@@ -52,11 +54,13 @@ joined (l ∷ ls) = l ++ joined ls
 abbrev pub collections_text : Bool → List Report → List State → List ℕ
 collections_text why [] ss = []
 collections_text why (r ∷ rs) [] = report_text r ++ collections_text why rs []
-collections_text why (r ∷ rs) (s ∷ ss) = (report_text r ++ joined (why_lines why r.number s)) ++ collections_text why rs ss
+collections_text why (r ∷ rs) (s ∷ ss) = (report_text r ++ joined (why_lines why r.number s))
+    ++ collections_text why rs ss
 
 -- the reports, each with what is told of it, and the last line
 unfoldable pub err_of : Code → RunOptions → List ℕ
-err_of code options = collections_text options.why (reports_of code options) (real_stops_of code options) ++ end_of code options
+err_of code options = collections_text options.why (reports_of code options) (real_stops_of code options)
+    ++ end_of code options
 
 abbrev pub names_someone : List Entry → Bool
 names_someone [] = false

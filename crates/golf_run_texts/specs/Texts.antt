@@ -1,5 +1,6 @@
 -- The lines that a run writes to standard error (profile).
-use Rattle.std.specs.Prelude.{ℕ, Bool, true, false, List, [], ◌∷◌, ◌++◌, map, Option, Some, None, length, codes, decimal, slice_get, unwrap_or}
+use Rattle.std.specs.Prelude.{ℕ, Bool, true, false, List, [], ◌∷◌, ◌++◌, map, Option, Some, None, length, codes}
+use Rattle.std.specs.Prelude.{decimal, slice_get, unwrap_or}
 use Rattle.std.specs.Fmt.{signed_decimal}
 use Rattle.golf_base.specs.declared.ids.GoroutineId.{GoroutineId}
 use Rattle.golf_data.specs.declared.goroutine.Ending.{Ending}
@@ -28,7 +29,9 @@ wait_text WaitKind.Condition = codes "sync.Cond.Wait"
 -- the line of a goroutine that can never run again
 abbrev pub entry_line : Entry → List ℕ
 entry_line e =
-    codes "goroutine " ++ (decimal e.goroutine.0 ++ (codes ": " ++ (wait_text e.wait ++ (codes " at line " ++ (decimal e.line ++ (codes ", started at line " ++ (decimal e.started ++ codes "\n")))))))
+    codes "goroutine " ++ (decimal e.goroutine.0
+    ++ (codes ": " ++ (wait_text e.wait ++
+    (codes " at line " ++ (decimal e.line ++ (codes ", started at line " ++ (decimal e.started ++ codes "\n")))))))
 
 abbrev pub entry_lines : List Entry → List ℕ
 entry_lines [] = []
@@ -37,12 +40,14 @@ entry_lines (e ∷ es) = entry_line e ++ entry_lines es
 -- what a collection found
 abbrev pub found_text : Report → List ℕ
 found_text r =
-    codes "collection " ++ (decimal r.number ++ (codes ": marked " ++ (decimal r.marked ++ (codes ", reported " ++ decimal (length r.reported)))))
+    codes "collection " ++ (decimal r.number
+    ++ (codes ": marked " ++ (decimal r.marked ++ (codes ", reported " ++ decimal (length r.reported)))))
 
 -- what it left
 abbrev pub left_text : Report → List ℕ
 left_text r =
-    codes ", kept " ++ (decimal r.kept ++ (codes ", reclaimed " ++ (decimal r.reclaimed ++ (codes ", objects " ++ (decimal r.objects ++ codes "\n")))))
+    codes ", kept " ++ (decimal r.kept ++ (codes ", reclaimed "
+    ++ (decimal r.reclaimed ++ (codes ", objects " ++ (decimal r.objects ++ codes "\n")))))
 
 -- a collection, and each goroutine that it reports
 abbrev pub report_text : Report → List ℕ
@@ -61,7 +66,8 @@ reports_text (r ∷ rs) = report_text r ++ reports_text rs
 
 -- the line of the certificate of a collection, which has so many places
 abbrev pub certificate_line : ℕ → ℕ → List ℕ
-certificate_line number places = codes "certificate " ++ (decimal number ++ (codes ": " ++ (decimal places ++ codes " places\n")))
+certificate_line number places = codes "certificate "
+    ++ (decimal number ++ (codes ": " ++ (decimal places ++ codes " places\n")))
 
 abbrev pub member_text : Member → List ℕ
 member_text (Member.Object o) = codes "object " ++ decimal o.0
@@ -79,7 +85,8 @@ members_text (m ∷ ms) = member_text m ++ more_members ms
 
 -- how a goroutine that waits and is live is blocked
 abbrev pub blocked_text : Reached → List ℕ
-blocked_text r = codes "goroutine " ++ (decimal r.goroutine.0 ++ (codes ": " ++ (wait_text r.wait ++ (codes " at line " ++ (decimal r.line ++ codes ", reached by ")))))
+blocked_text r = codes "goroutine " ++ (decimal r.goroutine.0
+    ++ (codes ": " ++ (wait_text r.wait ++ (codes " at line " ++ (decimal r.line ++ codes ", reached by ")))))
 
 -- its line
 abbrev pub reached_line : Reached → List ℕ
@@ -112,7 +119,8 @@ fault_word false = codes "panic: "
 -- the line of a panic or of a fatal error of a goroutine
 abbrev pub fault_line : List (List ℕ) → PanicKind → GoroutineId → ℕ → List ℕ
 fault_line texts kind g line =
-    fault_word (is_fatal kind) ++ (panic_text texts kind ++ (codes " (goroutine " ++ (decimal g.0 ++ (codes ", line " ++ (decimal line ++ codes ")\n")))))
+    fault_word (is_fatal kind) ++ (panic_text texts kind
+    ++ (codes " (goroutine " ++ (decimal g.0 ++ (codes ", line " ++ (decimal line ++ codes ")\n")))))
 
 abbrev pub asleep_line : List ℕ
 asleep_line = codes "fatal error: all goroutines are asleep - deadlock!\n"

@@ -59,9 +59,11 @@ module _ (code : Code) where
     -- what the collections at these stops write
     abbrev pub collection_writes : Book → List State → List Write
     collection_writes book [] = []
-    collection_writes book (p ∷ ps) = line_writes (told_lines why (report recover sets book p) p) ++ collection_writes (book_after recover sets book p) ps
+    collection_writes book (p ∷ ps) = line_writes (told_lines why (report recover sets book p) p)
+        ++ collection_writes (book_after recover sets book p) ps
 
-    -- what an event of the machine that frees writes: what its turn prints, and then what the collection that follows tells; nothing if the program has ended
+    -- what an event of the machine that frees writes: what its turn prints, and then what the collection that follows
+    -- tells; nothing if the program has ended
     abbrev pub writes_in : Bool → Book → State → Event → List Write
     writes_in true book s e = []
     writes_in false book s e = prints_in s e ++ collection_writes book (stop_in (freeing recover sets) code false s e)
@@ -69,11 +71,14 @@ module _ (code : Code) where
     -- what the events write, one after another
     abbrev pub writes_from : Book → State → List Event → List Write
     writes_from book s [] = []
-    writes_from book s (e ∷ es) = writes_in (has_ended s) book s e ++ writes_from (books recover sets book (stop_in (freeing recover sets) code (has_ended s) s e)) (happens_by (freeing recover sets) code s e) es
+    writes_from book s (e ∷ es) = writes_in (has_ended s) book s e
+        ++ writes_from (books recover sets book (stop_in (freeing recover sets) code (has_ended s) s e))
+        (happens_by (freeing recover sets) code s e) es
 
 -- what the events of a run write
 unfoldable pub event_writes_of : Code → RunOptions → List Write
-event_writes_of code options = writes_from code options.recover (sets_finalisers code) options.why new_book (start code) (events_of options)
+event_writes_of code options = writes_from code options.recover (sets_finalisers code) options.why new_book (start code)
+    (events_of options)
 
 -- what a run writes: what its events write, and then its last line
 unfoldable pub writes_of : Code → RunOptions → List Write

@@ -1,7 +1,8 @@
 //! The lines of files that are not accepted.
 
 ghost use Rattle.std.specs.Prelude.{◌≡◌, IfOk};
-ghost use Rattle.golf_run_texts.specs.Texts.{lexical_line as lexical_bytes, syntax_line as syntax_bytes, rule_line as rule_bytes};
+ghost use Rattle.golf_run_texts.specs.Texts.{lexical_line as lexical_line_of, syntax_line as syntax_line_of};
+ghost use Rattle.golf_run_texts.specs.Texts.{rule_line as rule_line_of};
 
 use golf_base::{List, Memory};
 use std::alloc::Global;
@@ -18,7 +19,7 @@ pub fn list_of(alloc: Global, text: &[u8]) -> Result<List<u8>, Memory>
 /// The line of a file whose bytes lex as no tokens: `line` counts from 1, `byte` is the offset of the
 /// fault from 0.
 pub fn lexical_line(alloc: Global, line: u32, byte: u32) -> Result<List<u8>, Memory>
-    ensures { IfOk result (λ text. text ≡ lexical_bytes line byte) }
+    ensures { IfOk result (λ text. text ≡ lexical_line_of line byte) }
 {
     let text = format!(in alloc; "refused: line {line}: byte {byte}\n")?;
     list_of(alloc, text.as_bytes())
@@ -26,7 +27,7 @@ pub fn lexical_line(alloc: Global, line: u32, byte: u32) -> Result<List<u8>, Mem
 
 /// The line of a file whose tokens no tree prints: `line` counts from 1.
 pub fn syntax_line(alloc: Global, line: u32) -> Result<List<u8>, Memory>
-    ensures { IfOk result (λ text. text ≡ syntax_bytes line) }
+    ensures { IfOk result (λ text. text ≡ syntax_line_of line) }
 {
     let text = format!(in alloc; "refused: line {line}: syntax\n")?;
     list_of(alloc, text.as_bytes())
@@ -34,7 +35,7 @@ pub fn syntax_line(alloc: Global, line: u32) -> Result<List<u8>, Memory>
 
 /// The line of a file that breaks a rule: `line` counts from 1.
 pub fn rule_line(alloc: Global, line: u32, rule: u32) -> Result<List<u8>, Memory>
-    ensures { IfOk result (λ text. text ≡ rule_bytes line rule) }
+    ensures { IfOk result (λ text. text ≡ rule_line_of line rule) }
 {
     let text = format!(in alloc; "refused: line {line}: rule {rule}\n")?;
     list_of(alloc, text.as_bytes())

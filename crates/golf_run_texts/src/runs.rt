@@ -1,7 +1,7 @@
 //! The texts of a whole run: all its reports, and the numbers of its turns.
 
 ghost use Rattle.std.specs.Prelude.{◌≡◌, ◌++◌, IfOk, OnOk, codes, decimal, string_bytes};
-ghost use Rattle.golf_run_texts.specs.Output.{anyone_reported as is_anyone_reported};
+ghost use Rattle.golf_run_texts.specs.Output.{anyone_reported as anyone_reported_of};
 ghost use Rattle.golf_run_texts.specs.Texts.{
   reports_text as reports_bytes,
   more_numbers as more_bytes,
@@ -37,7 +37,7 @@ pub fn reports_text(alloc: Global, reports: &[Report]) -> Result<List<u8>, Memor
 
 /// Whether one of the reports names a goroutine.
 pub fn anyone_reported(reports: &[Report]) -> bool
-    ensures { result ≡ is_anyone_reported reports.now }
+    ensures { result ≡ anyone_reported_of reports.now }
 {
     for report in reports {
         if !report.reported.is_empty() {

@@ -1,7 +1,8 @@
 -- Places of entries in a map whose keys rise, and what stands at a place.
 -- For: `rank`, golf_heap/specs/Objects.antt; `Rises`, golf_theory/specs/Maps.antt.
 -- By: induction over the list of entries.
-use Rattle.std.proofs.Common.{◌≡◌, ℕ, zero, suc, ◌<◌, ◌≤◌, cond, List, [], ◌∷◌, map, Option, Some, None, ◌⊎◌, inl, inr, refl, sym, ap, ◌∙◌, arith, slice_get}
+use Rattle.std.proofs.Common.{◌≡◌, ℕ, zero, suc, ◌<◌, ◌≤◌, cond, List, [], ◌∷◌, map, Option, Some, None, ◌⊎◌, inl, inr}
+use Rattle.std.proofs.Common.{refl, sym, ap, ◌∙◌, arith, slice_get}
 use Rattle.std.specs.Prelude.{option_map, unwrap_or}
 use Rattle.std.proofs.lemmas.Bool.{lt-ltb, le-ltb}
 use Rattle.std.proofs.lemmas.Option.{slice_get-map}
@@ -13,11 +14,13 @@ use Rattle.golf_heap.specs.Objects.{rank}
 module _ {X : Type 0} where
   pub Entry-at : (es : List (ℕ × X)) (k : ℕ) (e : ℕ × X) → slice_get es k ≡ Some e → Entry es e.0 e.1
   Entry-at [] k e h = cc
-  Entry-at (d ∷ es) zero e h = let s : d ≡ e = cc in inl (ap (λ (x : ℕ × X). x.0) (sym s), ap (λ (x : ℕ × X). x.1) (sym s))
+  Entry-at (d ∷ es) zero e h = let s : d ≡ e =
+      cc in inl (ap (λ (x : ℕ × X). x.0) (sym s), ap (λ (x : ℕ × X). x.1) (sym s))
   Entry-at (d ∷ es) (suc k) e h = inr (Entry-at es k e h)
 
   -- an entry stands at the rank of its key
-  pub at-rank : (j : ℕ) (es : List (ℕ × X)) (o : ℕ) (x : X) → Rises j es → Entry es o x → slice_get es (rank o es) ≡ Some (o, x)
+  pub at-rank : (j : ℕ) (es : List (ℕ × X)) (o : ℕ) (x : X) → Rises j es → Entry es o x
+      → slice_get es (rank o es) ≡ Some (o, x)
   at-rank j [] o x r h = absurd h
   at-rank j (e ∷ es) o x r (inl h) =
       let l : o ≤ e.0 = omega (arith, h.0) in
@@ -29,7 +32,8 @@ module _ {X : Type 0} where
       ap (λ t. slice_get (e ∷ es) (cond t (suc (rank o es)) 0)) (lt-ltb e.0 o m) ∙ at-rank (suc e.0) es o x r.1 h
 
   -- the rank of a key is the place of its entry
-  pub rank-at : (j : ℕ) (es : List (ℕ × X)) (k o : ℕ) (x : X) → Rises j es → slice_get es k ≡ Some (o, x) → rank o es ≡ k
+  pub rank-at : (j : ℕ) (es : List (ℕ × X)) (k o : ℕ) (x : X) → Rises j es → slice_get es k ≡ Some (o, x)
+      → rank o es ≡ k
   rank-at j [] k o x r h = cc
   rank-at j (e ∷ es) zero o x r h =
       let s : e ≡ (o, x) = cc in
@@ -52,10 +56,12 @@ In-place (y ∷ xs) x (inl h) = (0, ap Some (sym h))
 In-place (y ∷ xs) x (inr h) = let r = In-place xs x h in (suc r.0, r.1)
 
 -- the row of a place
-pub row-at : {X : Type 0} (f : X → List ℕ) (xs : List X) (k : ℕ) (x : X) → slice_get xs k ≡ Some x → unwrap_or (slice_get (map f xs) k) [] ≡ f x
+pub row-at : {X : Type 0} (f : X → List ℕ) (xs : List X) (k : ℕ) (x : X) → slice_get xs k ≡ Some x
+    → unwrap_or (slice_get (map f xs) k) [] ≡ f x
 row-at f xs k x h = ap (λ o. unwrap_or o []) (slice_get-map f xs k ∙ ap (option_map f) h)
 
-pub no_row-at : {X : Type 0} (f : X → List ℕ) (xs : List X) (k : ℕ) → slice_get xs k ≡ None → unwrap_or (slice_get (map f xs) k) [] ≡ []
+pub no_row-at : {X : Type 0} (f : X → List ℕ) (xs : List X) (k : ℕ) → slice_get xs k ≡ None
+    → unwrap_or (slice_get (map f xs) k) [] ≡ []
 no_row-at f xs k h = ap (λ o. unwrap_or o []) (slice_get-map f xs k ∙ ap (option_map f) h)
 
 -- the members of an entry list are its entries

@@ -34,8 +34,10 @@ module _ (s : State) (n : Numbered s) (w : IsWhole s) (gone : List ℕ) where
     | inr h2 ↦ elim (In-cases o (queue_refs s.queue) _ h2) [
       | inl i ↦ Every-at (Present s) _ o w.queue i
       | inr h3 ↦ elim (In-cases o (goroutine_refs_where (λ g. not (is_in g gone)) s.goroutines) _ h3) [
-        | inl i ↦ let a = goroutine_refs_where-sound (λ g. not (is_in g gone)) s.goroutines o i in Every-at (Present s) _ o (w.goroutines a.0 a.1 a.3) a.4
-        | inr i ↦ let a = refs_where-sound (has_finaliser s) s.objects o i in Every-at (Present s) _ o (w.objects a.0 a.1 a.3) a.4
+        | inl i ↦ let a = goroutine_refs_where-sound (λ g. not (is_in g gone)) s.goroutines o i in Every-at
+            (Present s) _ o (w.goroutines a.0 a.1 a.3) a.4
+        | inr i ↦ let a = refs_where-sound (has_finaliser s) s.objects o i in Every-at (Present s) _ o
+            (w.objects a.0 a.1 a.3) a.4
       ]
     ]
   ]
@@ -47,17 +49,23 @@ module _ (s : State) (n : Numbered s) (w : IsWhole s) (gone : List ℕ) where
   object-reached : (o : ℕ) → Present s o → Reaches o → IsReached (rank o s.objects)
   object-reached o p r = let e = rank-entry s n w o p in ((o, e.0), e.1, r)
 
-  ranked-reached : (os : List ℕ) (k : ℕ) → ((o : ℕ) → In o os → Present s o × Reaches o) → In k (ranks s.objects os) → IsReached k
-  ranked-reached os k h i = let r = In-map_back (λ o. rank o s.objects) k os i in subst IsReached (sym r.1) (let a = h r.0 r.2 in object-reached r.0 a.0 a.1)
+  ranked-reached : (os : List ℕ) (k : ℕ) → ((o : ℕ) → In o os → Present s o × Reaches o) → In k (ranks s.objects os)
+      → IsReached k
+  ranked-reached os k h i = let r = In-map_back (λ o. rank o s.objects) k os i in subst IsReached (sym r.1)
+      (let a = h r.0 r.2 in object-reached r.0 a.0 a.1)
 
-  children-by : (k : ℕ) (e : ℕ × Object) → slice_get s.objects k ≡ Some e → children_of (retained_parts s gone) k ≡ ranks s.objects (object_refs e.1)
+  children-by : (k : ℕ) (e : ℕ × Object) → slice_get s.objects k ≡ Some e
+      → children_of (retained_parts s gone) k ≡ ranks s.objects (object_refs e.1)
   children-by k e h = row-at (λ (d : ℕ × Object). ranks s.objects (object_refs d.1)) s.objects k e h
 
   step-reached : (q p : ℕ) → IsReached q → Justifies (retained_parts s gone) q p → IsReached p
   step-reached q p (e, at, r) (Justifies.child i) =
       let x = Entry-at s.objects q e at in
       ranked-reached (object_refs e.1) p
-      (λ o m. (Every-at (Present s) (object_refs e.1) o (w.objects e.0 e.1 x) m, Reached-step (λ k. In k (sources s gone)) (RefersTo s) e.0 o r (e.1, x, m)))
+      (λ o m. (
+        Every-at (Present s) (object_refs e.1) o (w.objects e.0 e.1 x) m,
+        Reached-step (λ k. In k (sources s gone)) (RefersTo s) e.0 o r (e.1, x, m),
+      ))
       (subst (In p) (children-by q e at) i)
   step-reached q p h (Justifies.wakes j e i) = absurd i
   step-reached q p h (Justifies.refers j e i) = absurd i
@@ -65,7 +73,8 @@ module _ (s : State) (n : Numbered s) (w : IsWhole s) (gone : List ℕ) where
   closes-reached : (k : ℕ) → Closes k → IsReached k
   closes-reached k h =
       Reached-least (λ q. In q (retained_parts s gone).roots) (Justifies (retained_parts s gone)) IsReached
-      (λ q i. ranked-reached (sources s gone) q (λ o m. (source-present o m, Reached-root (λ j. In j (sources s gone)) (RefersTo s) o m)) i)
+      (λ q i. ranked-reached (sources s gone) q
+      (λ o m. (source-present o m, Reached-root (λ j. In j (sources s gone)) (RefersTo s) o m)) i)
       (λ q p r j. step-reached q p r j) k h
 
   -- if it has a place, that is in the least closed set
@@ -74,13 +83,17 @@ module _ (s : State) (n : Numbered s) (w : IsWhole s) (gone : List ℕ) where
 
   step-shows : (p o : ℕ) → Shows p → RefersTo s p o → Shows o
   step-shows p o h (y, e, i) = λ x m.
-      Reached-step (λ q. In q (retained_parts s gone).roots) (Justifies (retained_parts s gone)) (rank p s.objects) (rank o s.objects) (h y e)
-      (Justifies.child (subst (In (rank o s.objects)) (sym (children-by (rank p s.objects) (p, y) (at-rank 0 s.objects p y n.objects_rise e))) (In-map (λ k. rank k s.objects) o (object_refs y) i)))
+      Reached-step (λ q. In q (retained_parts s gone).roots) (Justifies (retained_parts s gone)) (rank p s.objects)
+      (rank o s.objects) (h y e)
+      (Justifies.child (subst (In (rank o s.objects))
+      (sym (children-by (rank p s.objects) (p, y) (at-rank 0 s.objects p y n.objects_rise e)))
+      (In-map (λ k. rank k s.objects) o (object_refs y) i)))
 
   reached-closes : (o : ℕ) → Reaches o → Shows o
   reached-closes o h =
       Reached-least (λ q. In q (sources s gone)) (RefersTo s) Shows
-      (λ q i. λ x m. Reached-root (λ p. In p (retained_parts s gone).roots) (Justifies (retained_parts s gone)) (rank q s.objects) (In-map (λ k. rank k s.objects) q (sources s gone) i))
+      (λ q i. λ x m. Reached-root (λ p. In p (retained_parts s gone).roots) (Justifies (retained_parts s gone))
+      (rank q s.objects) (In-map (λ k. rank k s.objects) q (sources s gone) i))
       (λ p q r j. step-shows p q r j) o h
 
   key-reached : (k o : ℕ) → IsObject s k o → IsReached k → Reaches o
@@ -89,5 +102,6 @@ module _ (s : State) (n : Numbered s) (w : IsWhole s) (gone : List ℕ) where
 pub retained-graph : RetainedGraph
 retained-graph s gone n w k o i = (
   λ h. key-reached s n w gone k o i (closes-reached s n w gone k h),
-  λ r. subst (Least (retained_parts s gone)) (rank-at 0 s.objects k o i.0 n.objects_rise i.1) (reached-closes s n w gone o r i.0 (Entry-at s.objects k (o, i.0) i.1)),
+  λ r. subst (Least (retained_parts s gone)) (rank-at 0 s.objects k o i.0 n.objects_rise i.1)
+      (reached-closes s n w gone o r i.0 (Entry-at s.objects k (o, i.0) i.1)),
 )

@@ -1,4 +1,5 @@
--- The graph of a state: a node for each object that is there, by its rank; a sleeper for each blocked goroutine but goroutine 0.
+-- The graph of a state: a node for each object that is there, by its rank; a sleeper for each blocked goroutine but
+-- goroutine 0.
 use Rattle.std.specs.Prelude.{ℕ, Bool, not, ◌||◌, List, [], ◌∷◌, ◌++◌, map, filter, ◌==◌}
 use Rattle.golf_base.specs.declared.ids.ObjectId.{ObjectId}
 use Rattle.golf_data.specs.declared.value.Object.{Object}
@@ -27,7 +28,8 @@ awake_refs (e ∷ es) = refs_if (is_awake e.0 e.1) (goroutine_refs e.1) ++ awake
 
 -- the objects that are live at once
 abbrev pub live_roots : State → List ℕ
-live_roots s = refs s.globals ++ (queue_refs s.queue ++ (awake_refs s.goroutines ++ refs_where (has_finaliser s) s.objects))
+live_roots s = refs s.globals ++ (queue_refs s.queue
+    ++ (awake_refs s.goroutines ++ refs_where (has_finaliser s) s.objects))
 
 -- the goroutines that a live object awakens, in rising order
 abbrev pub sleeping : State → List (ℕ × GoroutineView)

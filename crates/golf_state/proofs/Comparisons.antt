@@ -1,7 +1,8 @@
 -- What derived equality says of queues and finalisers, and the goroutine at a place by its number.
 -- For: `same_queues`, `same_pairs` and `same_numbered`, src/comparing.rt
 -- By: no induction
-use Rattle.std.proofs.Common.{◌≡◌, ℕ, ◌<◌, Bool, ◌&&◌, List, map, length, get_or, Some, option_map, sym, ap, ◌∙◌, subst, rules, nat_eq, slice_get}
+use Rattle.std.proofs.Common.{◌≡◌, ℕ, ◌<◌, Bool, ◌&&◌, List, map, length, get_or, Some, option_map, sym, ap, ◌∙◌, subst}
+use Rattle.std.proofs.Common.{rules, nat_eq, slice_get}
 use Rattle.std.specs.Bool.{Decides}
 use Rattle.std.specs.Cmp.Lexicographic.{pointwise}
 use Rattle.std.proofs.lemmas.Option.{slice_get-map, slice_get-get_or}
@@ -28,12 +29,17 @@ pub pairs-decide : (xs ys : List (ℕ × ℕ)) (r : Bool) → r ≡ pointwise ar
 pairs-decide = slice_eq-Decides pair-decides
 
 module _ {X : Type 0} (n : ℕ) (d : GoroutineId) where
-  numbered-at : (es : List (ℕ × X)) (gs : List GoroutineId) → map (λ g. g.0) gs ≡ keys es → n < length gs → slice_get (keys es) n ≡ Some (get_or gs n d).0
-  numbered-at es gs e l = ap (λ (ks : List ℕ). slice_get ks n) (sym e) ∙ slice_get-map (λ g. g.0) gs n ∙ ap (option_map (λ g. g.0)) (slice_get-get_or gs n d l)
+  numbered-at : (es : List (ℕ × X)) (gs : List GoroutineId) → map (λ g. g.0) gs ≡ keys es → n < length gs
+      → slice_get (keys es) n ≡ Some (get_or gs n d).0
+  numbered-at es gs e l = ap (λ (ks : List ℕ). slice_get ks n) (sym e) ∙ slice_get-map (λ g. g.0) gs n
+      ∙ ap (option_map (λ g. g.0)) (slice_get-get_or gs n d l)
 
   -- the entries at one place of two maps, whose keys these numbers are
-  pub numbered-decide : (es fs : List (ℕ × X)) (gs hs : List GoroutineId) (r : Bool) → IsRising es → IsRising fs → map (λ g. g.0) gs ≡ keys es → map (λ g. g.0) hs ≡ keys fs
+  pub numbered-decide : (es fs : List (ℕ × X)) (gs hs : List GoroutineId) (r : Bool) → IsRising es → IsRising fs
+      → map (λ g. g.0) gs ≡ keys es → map (λ g. g.0) hs ≡ keys fs
       → n < length gs → length gs ≡ length hs
-      → Decides r (((get_or gs n d).0 ≡ (get_or hs n d).0) × (find (get_or gs n d).0 es ≡ find (get_or hs n d).0 fs)) → Decides r (slice_get es n ≡ slice_get fs n)
+      → Decides r (((get_or gs n d).0 ≡ (get_or hs n d).0) × (find (get_or gs n d).0 es ≡ find (get_or hs n d).0 fs))
+      → Decides r (slice_get es n ≡ slice_get fs n)
   numbered-decide es fs gs hs r p q ge hf l same =
-      entry-decides 0 es fs n (get_or gs n d).0 (get_or hs n d).0 r p q (numbered-at es gs ge l) (numbered-at fs hs hf (subst (λ k. n < k) same l))
+      entry-decides 0 es fs n (get_or gs n d).0 (get_or hs n d).0 r p q (numbered-at es gs ge l)
+      (numbered-at fs hs hf (subst (λ k. n < k) same l))

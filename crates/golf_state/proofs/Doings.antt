@@ -41,41 +41,54 @@ module _ (g after : ℕ) (s : State) (st : Stands g after s) where
   runs-is = ap is_running_in st.found
 
   -- it has these frames
-  pub reframed-is : (fs : List FrameView) → reframed g fs s ≡ become g (record { frames = fs; mode = Mode.Running; started = st.started }) s
-  reframed-is fs = ap (λ (o : Option GoroutineView). on_goroutine (λ r. become g (record r { frames = fs })) o s) st.found
+  pub reframed-is : (fs : List FrameView)
+      → reframed g fs s ≡ become g (record { frames = fs; mode = Mode.Running; started = st.started }) s
+  reframed-is fs = ap (λ (o : Option GoroutineView). on_goroutine (λ r. become g (record r { frames = fs })) o s)
+      st.found
 
   -- its innermost frame changes
-  pub stands-is : (change : FrameView → FrameView) (fs : List FrameView) (line : ℕ) → fs ≡ on_top change (frames_of g s) → reframed g fs s ≡ apply_all (stands (actor_of st line) (change st.frame)) s
+  pub stands-is : (change : FrameView → FrameView) (fs : List FrameView) (line : ℕ) → fs ≡ on_top change (frames_of g s)
+      → reframed g fs s ≡ apply_all (stands (actor_of st line) (change st.frame)) s
   stands-is change fs line e =
-      reframed-is fs ∙ ap (λ (gs : List FrameView). become g (record { frames = gs; mode = Mode.Running; started = st.started }) s) (e ∙ ap (on_top change) frames-is)
+      reframed-is fs ∙ ap (λ (gs : List FrameView). become g
+      (record { frames = gs; mode = Mode.Running; started = st.started }) s) (e ∙ ap (on_top change) frames-is)
 
   -- the frame that goes on at a place
-  pub went-next : (taken : ℕ) (vs : List Value) → went after taken vs st.frame ≡ next st.frame (vs ++ drop taken st.frame.operands)
+  pub went-next : (taken : ℕ) (vs : List Value)
+      → went after taken vs st.frame ≡ next st.frame (vs ++ drop taken st.frame.operands)
   went-next taken vs = ap (λ n. record st.frame { at = n; operands = vs ++ drop taken st.frame.operands }) st.next
 
   pub operands-is : operands_of g s ≡ st.frame.operands
   operands-is = ap top_operands frames-is
 
   -- the same changes give the same state
-  pub does-same : (act other : Actor → List Change) (line : ℕ) → act (actor_of st line) ≡ other (actor_of st line) → does act g line s ≡ does other g line s
+  pub does-same : (act other : Actor → List Change) (line : ℕ) → act (actor_of st line) ≡ other (actor_of st line)
+      → does act g line s ≡ does other g line s
   does-same act other line e = does-is act line ∙ ap (λ (cs : List Change). apply_all cs s) e ∙ sym (does-is other line)
 
   -- the frame of the goroutine, once it was changed
-  pub found-after : (f : FrameView) (line : ℕ) (t : State) → t ≡ apply_all (stands (actor_of st line) f) s → find g t.goroutines ≡ Some (standing (actor_of st line) f)
-  found-after f line t e = ap (λ (u : State). find g u.goroutines) e ∙ find-put g (standing (actor_of st line) f) s.goroutines (standing (actor_of st line) st.frame) st.found
+  pub found-after : (f : FrameView) (line : ℕ) (t : State) → t ≡ apply_all (stands (actor_of st line) f) s
+      → find g t.goroutines ≡ Some (standing (actor_of st line) f)
+  found-after f line t e = ap (λ (u : State). find g u.goroutines) e
+      ∙ find-put g (standing (actor_of st line) f) s.goroutines (standing (actor_of st line) st.frame) st.found
 
   -- and once that is taken back
-  pub taken-back : (f : FrameView) (line : ℕ) (t : State) (fs : List FrameView) → IsRising t.goroutines → t ≡ apply_all (stands (actor_of st line) f) s → fs ≡ st.frame ∷ st.callers → reframed g fs t ≡ s
+  pub taken-back : (f : FrameView) (line : ℕ) (t : State) (fs : List FrameView) → IsRising t.goroutines
+      → t ≡ apply_all (stands (actor_of st line) f) s → fs ≡ st.frame ∷ st.callers → reframed g fs t ≡ s
   taken-back f line t fs r e is =
       let old = standing (actor_of st line) st.frame in
       let v = standing (actor_of st line) f in
-      let rises : IsRising s.goroutines = Rises-unput 0 g v s.goroutines (subst (λ (u : State). IsRising u.goroutines) e r) in
-      ap (λ (o : Option GoroutineView). on_goroutine (λ q. become g (record q { frames = fs })) o t) (found-after f line t e)
+      let rises : IsRising s.goroutines = Rises-unput 0 g v s.goroutines
+      (subst (λ (u : State). IsRising u.goroutines) e r) in
+      ap (λ (o : Option GoroutineView). on_goroutine (λ q. become g (record q { frames = fs })) o t)
+      (found-after f line t e)
       ∙ ap (λ (gs : List FrameView). become g (record { frames = gs; mode = Mode.Running; started = st.started }) t) is
       ∙ ap (become g old) e
-      ∙ ap (λ (es : List (ℕ × GoroutineView)). record s { goroutines = es }) (put-put g old v s.goroutines ∙ put-same g 0 old s.goroutines rises st.found)
+      ∙ ap (λ (es : List (ℕ × GoroutineView)). record s { goroutines = es })
+      (put-put g old v s.goroutines ∙ put-same g 0 old s.goroutines rises st.found)
 
 -- the top operand is exchanged, if there is one
-pub exchanged-is : (after : ℕ) (v : Value) (f : FrameView) (os : List Value) → IsSome (slice_get os 0) → exchanged_in after v f os ≡ record f { at = after; operands = v ∷ drop 1 os }
+pub exchanged-is : (after : ℕ) (v : Value) (f : FrameView) (os : List Value) → IsSome (slice_get os 0)
+    → exchanged_in after v f os ≡ record f { at = after; operands = v ∷ drop 1 os }
 exchanged-is after v f [] h = cc
 exchanged-is after v f (w ∷ os) h = refl

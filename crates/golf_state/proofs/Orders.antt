@@ -17,17 +17,25 @@ below-in : {X : Type 0} (n o : ℕ) (es : List (ℕ × X)) → AllBelow n es →
 below-in n o [] a h = absurd h
 below-in n o (e ∷ es) a h = elim h [ inl i ↦ omega (arith, i, a.0) | inr j ↦ below-in n o es a.1 j ]
 
-below-present : {X : Type 0} (n : ℕ) (es : List (ℕ × X)) (P : ℕ → Type 0) → ((o f : ℕ) → P o → o < n) → ((k : ℕ) (x : X) → Entry es k x → P k) → AllBelow n es
+below-present : {X : Type 0} (n : ℕ) (es : List (ℕ × X)) (P : ℕ → Type 0) → ((o f : ℕ) → P o → o < n)
+    → ((k : ℕ) (x : X) → Entry es k x → P k) → AllBelow n es
 below-present n [] P l h = tt
-below-present n (e ∷ es) P l h = (l e.0 0 (h e.0 e.1 (inl (refl, refl))), below-present n es P l (λ k x i. h k x (inr i)))
+below-present n (e ∷ es) P l h = (
+  l e.0 0 (h e.0 e.1 (inl (refl, refl))),
+  below-present n es P l (λ k x i. h k x (inr i)),
+)
 
 -- each entry's references
-each-entry : {X : Type 0} (f : X → List ℕ) (n : ℕ) (P : ℕ → Type 0) (es : List (ℕ × X)) → ((o f : ℕ) → P o → o < n + 1) → ((k : ℕ) (x : X) → Entry es k x → Every P (f x)) → Every (λ e. UpTo n (f e.1)) es
+each-entry : {X : Type 0} (f : X → List ℕ) (n : ℕ) (P : ℕ → Type 0) (es : List (ℕ × X)) → ((o f : ℕ) → P o → o < n + 1)
+    → ((k : ℕ) (x : X) → Entry es k x → Every P (f x)) → Every (λ e. UpTo n (f e.1)) es
 each-entry f n P [] l h = tt
-each-entry f n P (e ∷ es) l h =
-    (Every-weaker P (λ o. o ≤ n) (λ o p. let m = l o 0 p in omega (arith, m)) (f e.1) (h e.0 e.1 (inl (refl, refl))), each-entry f n P es l (λ k x i. h k x (inr i)))
+each-entry f n P (e ∷ es) l h = (
+  Every-weaker P (λ o. o ≤ n) (λ o p. let m = l o 0 p in omega (arith, m)) (f e.1) (h e.0 e.1 (inl (refl, refl))),
+  each-entry f n P es l (λ k x i. h k x (inr i)),
+)
 
-pub numbered : (s : State) → IsNumbered (record { objects = s.objects; last = s.last_object }) → IsRising s.finalisers → IsRising s.goroutines → AllBelow s.next_goroutine s.goroutines → IsWhole s → Numbered s
+pub numbered : (s : State) → IsNumbered (record { objects = s.objects; last = s.last_object }) → IsRising s.finalisers
+    → IsRising s.goroutines → AllBelow s.next_goroutine s.goroutines → IsWhole s → Numbered s
 numbered s heap finalisers goroutines below whole = record {
   objects_rise = Rises-less 0 1 s.objects (omega arith) heap.rises;
   objects_below = heap.within;

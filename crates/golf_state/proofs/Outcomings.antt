@@ -12,49 +12,49 @@ use Rattle.golf_state.specs.declared.outcome.Outcome.{Outcome}
 use Rattle.golf_theory.specs.Maps.{find}
 use Rattle.golf_state.specs.Doing.{does, does_by, Stands}
 use Rattle.golf_state.specs.Looked.{frames_of}
-use Rattle.golf_state.specs.Outcomes.{Comes, Leaves, StaysIn, outcome_of, has_block, frame_outcome, faults, carries, StandsToFault}
+use Rattle.golf_state.specs.Outcomes.{Comes, Leaves, StaysIn, outcome_of, has_block, frame_outcome}
 use Rattle.golf_state.proofs.Doings.{actor_of, frames-is}
 
-pub comes-same : (outcome : Outcome) (act other : Actor → List Change) (g line : ℕ) (s t : State) → does_by act g line (find g s.goroutines) ≡ does_by other g line (find g s.goroutines) → Comes outcome act g line s t → Comes outcome other g line s t
-comes-same outcome act other g line s t e h = (leaves-same outcome act other g line s t (ap (λ (cs : List Change). apply_all cs s) e) h.0, λ stays. ap outcome_of (sym e) ∙ h.1 stays)
+pub comes-same : (outcome : Outcome) (act other : Actor → List Change) (g line : ℕ) (s t : State)
+    → does_by act g line (find g s.goroutines) ≡ does_by other g line (find g s.goroutines)
+    → Comes outcome act g line s t → Comes outcome other g line s t
+comes-same outcome act other g line s t e h = (
+  leaves-same outcome act other g line s t (ap (λ (cs : List Change). apply_all cs s) e) h.0,
+  λ stays. ap outcome_of (sym e) ∙ h.1 stays,
+)
   where
-    leaves-same : (outcome : Outcome) (act other : Actor → List Change) (g line : ℕ) (s t : State) → does act g line s ≡ does other g line s → Leaves outcome act g line s t → Leaves outcome other g line s t
+    leaves-same : (outcome : Outcome) (act other : Actor → List Change) (g line : ℕ) (s t : State)
+        → does act g line s ≡ does other g line s → Leaves outcome act g line s t → Leaves outcome other g line s t
     leaves-same Outcome.Done act other g line s t e h = (h.0 ∙ e, h.1)
     leaves-same Outcome.Blocked act other g line s t e h = (h.0 ∙ e, h.1)
     leaves-same (Outcome.Panic kind) act other g line s t e h = (h.0, sym e ∙ h.1)
     leaves-same Outcome.Stuck act other g line s t e h = (h.0, sym e ∙ h.1)
 
--- once what is left is done, the changes are made
-pub carried : (outcome : Outcome) (act : Actor → List Change) (g line : ℕ) (s t u : State) → Comes outcome act g line s t → u ≡ carries outcome g line t → u ≡ does act g line s
-carried Outcome.Done act g line s t u h e = e ∙ h.0.0
-carried Outcome.Blocked act g line s t u h e = e ∙ h.0.0
-carried (Outcome.Panic kind) act g line s t u h e = e ∙ ap (does (λ a. faults a kind) g line) h.0.0 ∙ sym h.0.1
-carried Outcome.Stuck act g line s t u h e = e ∙ h.0.0 ∙ sym h.0.1
-
-pub stands-to-fault : (outcome : Outcome) (act : Actor → List Change) (g after line : ℕ) (s t : State) → Stands g after s → Comes outcome act g line s t → StandsToFault outcome g after t
-stands-to-fault Outcome.Done act g after line s t st h = tt
-stands-to-fault Outcome.Blocked act g after line s t st h = tt
-stands-to-fault (Outcome.Panic kind) act g after line s t st h = record { frame = st.frame; callers = st.callers; started = st.started; found = ap (λ (u : State). find g u.goroutines) h.0.0 ∙ st.found; next = st.next }
-stands-to-fault Outcome.Stuck act g after line s t st h = tt
-
 -- the same changes of the goroutine in its turn
-pub acts-same : (g after line : ℕ) (s : State) (st : Stands g after s) (act other : Actor → List Change) → act (actor_of st line) ≡ other (actor_of st line) → does_by act g line (find g s.goroutines) ≡ does_by other g line (find g s.goroutines)
-acts-same g after line s st act other e = ap (does_by act g line) st.found ∙ e ∙ sym (ap (does_by other g line) st.found)
+pub acts-same : (g after line : ℕ) (s : State) (st : Stands g after s) (act other : Actor → List Change)
+    → act (actor_of st line) ≡ other (actor_of st line)
+    → does_by act g line (find g s.goroutines) ≡ does_by other g line (find g s.goroutines)
+acts-same g after line s st act other e = ap (does_by act g line) st.found ∙ e
+    ∙ sym (ap (does_by other g line) st.found)
 
 -- ---- the goroutine goes on
 
-module _ (g after line : ℕ) (s : State) (st : Stands g after s) (act : Actor → List Change) (h : FrameView) (rest : List Change) (same : h.leaving ≡ st.frame.leaving) (free : has_block rest ≡ false) where
+module _ (g after line : ℕ) (s : State) (st : Stands g after s) (act : Actor → List Change) (h : FrameView)
+    (rest : List Change) (same : h.leaving ≡ st.frame.leaving) (free : has_block rest ≡ false) where
   stays-so : StaysIn (frames_of g s) → h.leaving ≡ Leaving.No
   stays-so stays = same ∙ subst StaysIn (frames-is g after s st) stays
 
   -- with a frame that leaves as its own did
-  pub done-standing : act (actor_of st line) ≡ stands (actor_of st line) h ++ rest → StaysIn (frames_of g s) → outcome_of (does_by act g line (find g s.goroutines)) ≡ Outcome.Done
+  pub done-standing : act (actor_of st line) ≡ stands (actor_of st line) h ++ rest → StaysIn (frames_of g s)
+      → outcome_of (does_by act g line (find g s.goroutines)) ≡ Outcome.Done
   done-standing is stays =
       ap (λ (o : Option GoroutineView). outcome_of (does_by act g line o)) st.found ∙ ap outcome_of is
       ∙ ap (λ b. cond b Outcome.Blocked (frame_outcome h.leaving)) free ∙ ap frame_outcome (stays-so stays)
 
   -- and an object becomes another one before
-  pub done-replacing : (o : ℕ) (x : Object) → act (actor_of st line) ≡ Change.Replace o x ∷ (stands (actor_of st line) h ++ rest) → StaysIn (frames_of g s) → outcome_of (does_by act g line (find g s.goroutines)) ≡ Outcome.Done
+  pub done-replacing : (o : ℕ) (x : Object) → act (actor_of st line) ≡ Change.Replace o x
+      ∷ (stands (actor_of st line) h ++ rest) → StaysIn (frames_of g s)
+      → outcome_of (does_by act g line (find g s.goroutines)) ≡ Outcome.Done
   done-replacing o x is stays =
       ap (λ (o : Option GoroutineView). outcome_of (does_by act g line o)) st.found ∙ ap outcome_of is
       ∙ ap (λ b. cond b Outcome.Blocked (frame_outcome h.leaving)) free ∙ ap frame_outcome (stays-so stays)

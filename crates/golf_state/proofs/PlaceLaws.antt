@@ -1,9 +1,11 @@
 -- What changes of places do to the map of goroutines, and to the list of those that run.
 -- For: `plain_entries`, `running_of` (golf_state_goroutines/specs/Places.antt) and `Roster::get_mut`
 -- By: induction over the entries of the map for one that is put; otherwise the laws of maps and cases
-use Rattle.std.proofs.Common.{◌≡◌, ℕ, suc, ◌+◌, ◌-◌, ◌<◌, ◌≤◌, add-one, Bool, true, false, not, cond, ◌&&◌, ◌||◌, List, [], ◌∷◌, ◌++◌, length, filter, Option, Some, None, ◌==◌, refl, sym, ap, ◌∙◌, subst, arith, slice_get, slice_set}
+use Rattle.std.proofs.Common.{◌≡◌, ℕ, suc, ◌+◌, ◌-◌, ◌<◌, ◌≤◌, Bool, true, false, not, cond, ◌&&◌, ◌||◌, List, [], ◌∷◌}
+use Rattle.std.proofs.Common.{◌++◌, length, filter, Option, Some, None, ◌==◌, refl, sym, ap, ◌∙◌, subst, arith}
+use Rattle.std.proofs.Common.{slice_get, slice_set}
 use Rattle.std.specs.Prelude.{option_map, is_some}
-use Rattle.std.proofs.lemmas.Bool.{eqb-true, eqb-false, eq-eqb, ne_eqb}
+use Rattle.std.proofs.lemmas.Bool.{not-true, eqb-true, eqb-false, eq-eqb, ne_eqb}
 use Rattle.std.proofs.lemmas.List.{map-append, length-set}
 use Rattle.std.proofs.lemmas.Option.{slice_get-map}
 use Rattle.golf_data.specs.declared.goroutine.Goroutine.{Goroutine}
@@ -13,7 +15,8 @@ use Rattle.golf_heap.proofs.Ranks.{at_key, find-rank}
 use Rattle.golf_theory.specs.Maps.{find, put, add, only, keys_where, Rises, AllBelow}
 use Rattle.golf_theory.specs.Stored.{placed, without}
 use Rattle.golf_theory.proofs.MapFinds.{Entry-above, find-Entry, find-put, find-only}
-use Rattle.golf_theory.proofs.MapKeys.{keys_where-same, keys_where-add, keys_where-put_out, keys_where-put_same, keys_where-only}
+use Rattle.golf_theory.proofs.MapKeys.{keys_where-same, keys_where-add, keys_where-put_out, keys_where-put_same}
+use Rattle.golf_theory.proofs.MapKeys.{keys_where-only}
 use Rattle.golf_theory.proofs.MapOrder.{Rises-put, AllBelow-put}
 use Rattle.golf_theory.proofs.Placing.{keys_where-put_in, put_below}
 use Rattle.golf_model.specs.Views.{GoroutineView, goroutine_view}
@@ -25,8 +28,8 @@ use Rattle.golf_state_goroutines.specs.Places.{plain_entry, plain_entries, runni
 use Rattle.golf_state_goroutines.specs.Goroutines.{AllUnder, IsNone}
 use Rattle.golf_state.specs.Ready.{AllReady}
 use Rattle.golf_state.specs.Roominess.{IsReadyIn}
-use Rattle.golf_state_goroutines.specs.declared.places.Place.{Place}
-use Rattle.golf_state_goroutines.proofs.Keyed.{set-keyed}
+use Rattle.golf_state_goroutines.specs.declared.places.NumberedGoroutine.{NumberedGoroutine}
+use Rattle.golf_heap.proofs.Keyed.{set-keyed}
 use Rattle.golf_state.proofs.Readiness.{ready-at, ready-set}
 
 -- ---- what is put
@@ -36,7 +39,8 @@ module _ {X : Type 0} where
   pub put-same : (k j : ℕ) (v : X) (es : List (ℕ × X)) → Rises j es → find k es ≡ Some v → put k v es ≡ es
   put-same k j v [] r h = refl
   put-same k j v (e ∷ es) r h =
-      elim (k == e.0) as (λ b. k == e.0 ≡ b → cond b (Some e.1) (find k es) ≡ Some v → (e.0, cond b v e.1) ∷ put k v es ≡ e ∷ es) [
+      elim (k == e.0) as (λ b. k == e.0 ≡ b → cond b (Some e.1) (find k es) ≡ Some v → (e.0, cond b v e.1)
+      ∷ put k v es ≡ e ∷ es) [
         | true ↦ λ t i.
             let same : k ≡ e.0 = eqb-true k e.0 t in
             let is : v ≡ e.1 = cc in
@@ -57,101 +61,118 @@ pub blocked-there : (o : Option GoroutineView) → is_blocked_in o ≡ true → 
 blocked-there None h = cc
 blocked-there (Some v) h = refl
 
-not-true : (b : Bool) → not b ≡ true → b ≡ false
-not-true true t = cc
-not-true false t = refl
-
 -- one that is not
 pub none-there : (b : Bool) (o : Option GoroutineView) → b ≡ is_some o → b ≡ false → o ≡ None
 none-there b None e h = refl
 none-there b (Some v) e h = cc
 
 -- one that is there stays there
-there-put : (g : ℕ) (v : GoroutineView) (k : ℕ) (es : List (ℕ × GoroutineView)) → is_some (find k es) ≡ true → is_some (find k (put g v es)) ≡ true
+there-put : (g : ℕ) (v : GoroutineView) (k : ℕ) (es : List (ℕ × GoroutineView)) → is_some (find k es) ≡ true
+    → is_some (find k (put g v es)) ≡ true
 there-put g v k [] h = h
-there-put g v k (e ∷ es) h = elim (k == e.0) as (λ b. is_some (cond b (Some e.1) (find k es)) ≡ true → is_some (cond b (Some (cond (g == e.0) v e.1)) (find k (put g v es))) ≡ true) [
-  | true ↦ λ i. refl
-  | false ↦ λ i. there-put g v k es i
-] h
+there-put g v k (e ∷ es) h = elim (k == e.0) as (λ b. is_some (cond b (Some e.1) (find k es)) ≡ true
+    → is_some (cond b (Some (cond (g == e.0) v e.1)) (find k (put g v es))) ≡ true) [
+      | true ↦ λ i. refl
+      | false ↦ λ i. there-put g v k es i
+    ] h
 
-pub there-add : (k : ℕ) (es fs : List (ℕ × GoroutineView)) → is_some (find k es) ≡ true → is_some (find k (es ++ fs)) ≡ true
+pub there-add : (k : ℕ) (es fs : List (ℕ × GoroutineView)) → is_some (find k es) ≡ true
+    → is_some (find k (es ++ fs)) ≡ true
 there-add k [] fs h = cc
-there-add k (e ∷ es) fs h = elim (k == e.0) as (λ b. is_some (cond b (Some e.1) (find k es)) ≡ true → is_some (cond b (Some e.1) (find k (es ++ fs))) ≡ true) [
-  | true ↦ λ i. refl
-  | false ↦ λ i. there-add k es fs i
-] h
+there-add k (e ∷ es) fs h = elim (k == e.0) as (λ b. is_some (cond b (Some e.1) (find k es)) ≡ true
+    → is_some (cond b (Some e.1) (find k (es ++ fs))) ≡ true) [
+      | true ↦ λ i. refl
+      | false ↦ λ i. there-add k es fs i
+    ] h
 
-pub there-left : (g k : ℕ) (es : List (ℕ × GoroutineView)) → k < g → is_some (find k es) ≡ true → is_some (find k (only (λ h. not (h == g)) es)) ≡ true
-there-left g k es l h = ap (λ (o : Option GoroutineView). is_some o) (find-only (λ h. not (h == g)) es k (ap not (ne_eqb k g (λ e. omega (arith, e, l))))) ∙ h
+pub there-left : (g k : ℕ) (es : List (ℕ × GoroutineView)) → k < g → is_some (find k es) ≡ true
+    → is_some (find k (only (λ h. not (h == g)) es)) ≡ true
+there-left g k es l h = ap (λ (o : Option GoroutineView). is_some o)
+    (find-only (λ h. not (h == g)) es k (ap not (ne_eqb k g (λ e. omega (arith, e, l))))) ∙ h
 
-pub push-at : (gs : List Place) (q : Place) (k : ℕ) (v : GoroutineView) → plain_entry q ≡ (k, v) → plain_entries (gs ++ q ∷ []) ≡ add k v (plain_entries gs)
+pub push-at : (gs : List NumberedGoroutine) (q : NumberedGoroutine) (k : ℕ) (v : GoroutineView) → plain_entry q ≡ (k, v)
+    → plain_entries (gs ++ q ∷ []) ≡ add k v (plain_entries gs)
 push-at gs q k v e = map-append plain_entry gs (q ∷ []) ∙ ap (λ (p : ℕ × GoroutineView). plain_entries gs ++ p ∷ []) e
 
 -- ---- none of those that run
 
 none-above : (g j : ℕ) (es : List (ℕ × GoroutineView)) → g < j → Rises j es → IsNone g (running_of es)
 none-above g j [] l r = tt
-none-above g j (e ∷ es) l r = elim (is_running e.1.mode) as (λ b. IsNone g (cond b (e.0 ∷ running_of es) (running_of es))) [
-  | true ↦ (λ i. omega (arith, i, l, r.0), none-above g (suc e.0) es (omega (arith, l, r.0)) r.1)
-  | false ↦ none-above g (suc e.0) es (omega (arith, l, r.0)) r.1
-]
+none-above g j (e ∷ es) l r = elim (is_running e.1.mode) as (λ b. IsNone g
+    (cond b (e.0 ∷ running_of es) (running_of es))) [
+      | true ↦ (λ i. omega (arith, i, l, r.0), none-above g (suc e.0) es (omega (arith, l, r.0)) r.1)
+      | false ↦ none-above g (suc e.0) es (omega (arith, l, r.0)) r.1
+    ]
 
-none-where : (g j : ℕ) (es : List (ℕ × GoroutineView)) (v : GoroutineView) → Rises j es → find g es ≡ Some v → is_running v.mode ≡ false → IsNone g (running_of es)
+none-where : (g j : ℕ) (es : List (ℕ × GoroutineView)) (v : GoroutineView) → Rises j es → find g es ≡ Some v
+    → is_running v.mode ≡ false → IsNone g (running_of es)
 none-where g j [] v r f b = tt
-none-where g j (e ∷ es) v r f b = elim (g == e.0) as (λ t. g == e.0 ≡ t → cond t (Some e.1) (find g es) ≡ Some v → IsNone g (running_of (e ∷ es))) [
-  | true ↦ λ t i.
-      let is : e.1 ≡ v = cc in
-      let same = eqb-true g e.0 t in
-      let out : is_running e.1.mode ≡ false = ap (λ (r : GoroutineView). is_running r.mode) is ∙ b in
-      rw out (none-above g (suc e.0) es (omega (arith, same)) r.1)
-  | false ↦ λ t i.
-      let rest = none-where g (suc e.0) es v r.1 i b in
-      elim (is_running e.1.mode) as (λ c. IsNone g (cond c (e.0 ∷ running_of es) (running_of es))) [
-        | true ↦ (λ q. eqb-false g e.0 t (sym q), rest)
-        | false ↦ rest
-      ]
-] refl f
+none-where g j (e ∷ es) v r f b = elim (g == e.0) as (λ t. g == e.0 ≡ t → cond t (Some e.1) (find g es) ≡ Some v
+    → IsNone g (running_of (e ∷ es))) [
+      | true ↦ λ t i.
+          let is : e.1 ≡ v = cc in
+          let same = eqb-true g e.0 t in
+          let out : is_running e.1.mode ≡ false = ap (λ (r : GoroutineView). is_running r.mode) is ∙ b in
+          rw out (none-above g (suc e.0) es (omega (arith, same)) r.1)
+      | false ↦ λ t i.
+          let rest = none-where g (suc e.0) es v r.1 i b in
+          elim (is_running e.1.mode) as (λ c. IsNone g (cond c (e.0 ∷ running_of es) (running_of es))) [
+            | true ↦ (λ q. eqb-false g e.0 t (sym q), rest)
+            | false ↦ rest
+          ]
+    ] refl f
 
 -- all of them are below
-pub under-next : (n : ℕ) (es : List (ℕ × GoroutineView)) (runs : List ℕ) → runs ≡ running_of es → AllBelow n es → AllUnder n runs
+pub under-next : (n : ℕ) (es : List (ℕ × GoroutineView)) (runs : List ℕ) → runs ≡ running_of es → AllBelow n es
+    → AllUnder n runs
 under-next n es runs is a = rw is (under n es a)
   where
     under : (n : ℕ) (es : List (ℕ × GoroutineView)) → AllBelow n es → AllUnder n (running_of es)
     under n [] a = tt
-    under n (e ∷ es) a = elim (is_running e.1.mode) as (λ b. AllUnder n (cond b (e.0 ∷ running_of es) (running_of es))) [
-      | true ↦ (a.0, under n es a.1)
-      | false ↦ under n es a.1
-    ]
+    under n (e ∷ es) a = elim (is_running e.1.mode) as (λ b. AllUnder n
+        (cond b (e.0 ∷ running_of es) (running_of es))) [
+          | true ↦ (a.0, under n es a.1)
+          | false ↦ under n es a.1
+        ]
 
-pub number-of : (p : Place) (n : ℕ) (v : GoroutineView) → plain_entry p ≡ (n, v) → p.number ≡ n
+pub number-of : (p : NumberedGoroutine) (n : ℕ) (v : GoroutineView) → plain_entry p ≡ (n, v) → p.number ≡ n
 number-of p n v e = ap (λ (d : ℕ × GoroutineView). d.0) e
 
 -- ---- one has left
 
-pub entries-left : (gs : List Place) (g : ℕ) → plain_entries (filter (λ p. not (p.number == g)) gs) ≡ only (λ h. not (h == g)) (plain_entries gs)
+pub entries-left : (gs : List NumberedGoroutine) (g : ℕ)
+    → plain_entries (filter (λ p. not (p.number == g)) gs) ≡ only (λ h. not (h == g)) (plain_entries gs)
 entries-left [] g = refl
-entries-left (p ∷ gs) g = elim (p.number == g) as (λ b. plain_entries (cond (not b) (p ∷ filter (λ p. not (p.number == g)) gs) (filter (λ p. not (p.number == g)) gs)) ≡ cond (not b) (plain_entry p ∷ only (λ h. not (h == g)) (plain_entries gs)) (only (λ h. not (h == g)) (plain_entries gs))) [
-  | true ↦ entries-left gs g
-  | false ↦ ap (λ (es : List (ℕ × GoroutineView)). plain_entry p ∷ es) (entries-left gs g)
-]
+entries-left (p ∷ gs) g = elim (p.number == g) as (λ b. plain_entries
+    (cond (not b) (p ∷ filter (λ p. not (p.number == g)) gs) (filter (λ p. not (p.number == g)) gs)) ≡ cond (not b)
+    (plain_entry p ∷ only (λ h. not (h == g)) (plain_entries gs)) (only (λ h. not (h == g)) (plain_entries gs))) [
+      | true ↦ entries-left gs g
+      | false ↦ ap (λ (es : List (ℕ × GoroutineView)). plain_entry p ∷ es) (entries-left gs g)
+    ]
 
-pub ready-left : (gs : List Place) (g : ℕ) → AllReady gs → AllReady (filter (λ p. not (p.number == g)) gs)
+pub ready-left : (gs : List NumberedGoroutine) (g : ℕ) → AllReady gs → AllReady (filter (λ p. not (p.number == g)) gs)
 ready-left [] g a = tt
-ready-left (p ∷ gs) g a = elim (p.number == g) as (λ b. AllReady (cond (not b) (p ∷ filter (λ p. not (p.number == g)) gs) (filter (λ p. not (p.number == g)) gs))) [
-  | true ↦ ready-left gs g a.1
-  | false ↦ (a.0, ready-left gs g a.1)
-]
+ready-left (p ∷ gs) g a = elim (p.number == g) as (λ b. AllReady
+    (cond (not b) (p ∷ filter (λ p. not (p.number == g)) gs) (filter (λ p. not (p.number == g)) gs))) [
+      | true ↦ ready-left gs g a.1
+      | false ↦ (a.0, ready-left gs g a.1)
+    ]
 
-pub fewer-left : (gs : List Place) (g : ℕ) → length (filter (λ p. not (p.number == g)) gs) ≤ length gs
+pub fewer-left : (gs : List NumberedGoroutine) (g : ℕ) → length (filter (λ p. not (p.number == g)) gs) ≤ length gs
 fewer-left [] g = omega arith
-fewer-left (p ∷ gs) g = let rest = fewer-left gs g in elim (p.number == g) as (λ b. length (cond (not b) (p ∷ filter (λ p. not (p.number == g)) gs) (filter (λ p. not (p.number == g)) gs)) ≤ length (p ∷ gs)) [
-  | true ↦ omega (arith, rest)
-  | false ↦ omega (arith, rest)
-]
+fewer-left (p ∷ gs) g = let rest = fewer-left gs
+    g in elim (p.number == g) as (λ b. length
+    (cond (not b) (p ∷ filter (λ p. not (p.number == g)) gs) (filter (λ p. not (p.number == g)) gs)) ≤ length
+    (p ∷ gs)) [
+      | true ↦ omega (arith, rest)
+      | false ↦ omega (arith, rest)
+    ]
 
 -- ---- the goroutine that a roster lends, which stands at its rank
 
-module _ (gs : List Place) (g : ℕ) (x : Goroutine) (here : slice_get gs (rank g (plain_entries gs)) ≡ Some (record { number = g; goroutine = x })) (rises : Rises 0 (plain_entries gs)) where
+module _ (gs : List NumberedGoroutine) (g : ℕ) (x : Goroutine)
+    (here : slice_get gs (rank g (plain_entries gs)) ≡ Some (record { number = g; goroutine = x }))
+    (rises : Rises 0 (plain_entries gs)) where
   pub lent-found : find g (plain_entries gs) ≡ Some (goroutine_view x)
   lent-found =
       find-rank g 0 (plain_entries gs) rises
@@ -168,16 +189,21 @@ module _ (gs : List Place) (g : ℕ) (x : Goroutine) (here : slice_get gs (rank 
   lent-ready ready = ready-at gs (rank g (plain_entries gs)) (record { number = g; goroutine = x }) ready here
 
   -- it becomes another one
-  pub lent-set : (y : Goroutine) → plain_entries (slice_set gs (rank g (plain_entries gs)) (record { number = g; goroutine = y })) ≡ put g (goroutine_view y) (plain_entries gs)
-  lent-set y = set-keyed (λ (p : Place). p.number) (λ (p : Place). goroutine_view p.goroutine) 0 (rank g (plain_entries gs)) gs (record { number = g; goroutine = x }) (record { number = g; goroutine = y }) rises here refl
+  pub lent-set : (y : Goroutine) → plain_entries
+      (slice_set gs (rank g (plain_entries gs)) (record { number = g; goroutine = y })) ≡ put g (goroutine_view y)
+      (plain_entries gs)
+  lent-set y = set-keyed (λ (p : NumberedGoroutine). p.number) (λ (p : NumberedGoroutine). goroutine_view p.goroutine) 0
+      (rank g (plain_entries gs)) gs (record { number = g; goroutine = x })
+      (record { number = g; goroutine = y }) rises here refl
 
   -- and those that run with it
-  pub lent-kept : {running runs : List ℕ} {next : ℕ} (y : Goroutine) → AreKept gs running next → IsReadyIn y.mode y.frames
+  pub lent-kept : {running runs : List ℕ} {next : ℕ} (y : Goroutine) → AreKept gs running next
+      → IsReadyIn y.mode y.frames
       → runs ≡ running_of (put g (goroutine_view y) (plain_entries gs))
       → AreKept (slice_set gs (rank g (plain_entries gs)) (record { number = g; goroutine = y })) runs next
   lent-kept {next = next} y k ready is =
       let at = rank g (plain_entries gs) in
-      let q : Place = record { number = g; goroutine = y } in
+      let q : NumberedGoroutine = record { number = g; goroutine = y } in
       let w = goroutine_view y in
       let es = plain_entries gs in
       let e = lent-set y in
@@ -191,8 +217,10 @@ module _ (gs : List Place) (g : ℕ) (x : Goroutine) (here : slice_get gs (rank 
         ready = ready-set gs at q k.ready ready;
       }
 
-  pub put-there : (y : Goroutine) → is_some (find g (plain_entries (slice_set gs (rank g (plain_entries gs)) (record { number = g; goroutine = y })))) ≡ true
-  put-there y = ap (λ (es : List (ℕ × GoroutineView)). is_some (find g es)) (lent-set y) ∙ ap is_some (find-put g (goroutine_view y) (plain_entries gs) (goroutine_view x) lent-found)
+  pub put-there : (y : Goroutine) → is_some
+      (find g (plain_entries (slice_set gs (rank g (plain_entries gs)) (record { number = g; goroutine = y })))) ≡ true
+  put-there y = ap (λ (es : List (ℕ × GoroutineView)). is_some (find g es)) (lent-set y)
+      ∙ ap is_some (find-put g (goroutine_view y) (plain_entries gs) (goroutine_view x) lent-found)
 
   -- one that is blocked is none of those that run
   pub none-runs : (runs : List ℕ) → runs ≡ running_of (plain_entries gs) → is_running x.mode ≡ false → IsNone g runs
@@ -201,14 +229,17 @@ module _ (gs : List Place) (g : ℕ) (x : Goroutine) (here : slice_get gs (rank 
 -- ---- those that run
 
 module _ (es : List (ℕ × GoroutineView)) (g : ℕ) where
-  pub runs-blocked : (v : GoroutineView) → is_running v.mode ≡ false → without g (running_of es) ≡ running_of (put g v es)
+  pub runs-blocked : (v : GoroutineView) → is_running v.mode ≡ false
+      → without g (running_of es) ≡ running_of (put g v es)
   runs-blocked v b = sym (keys_where-put_out (λ g r. is_running r.mode) g v es b)
 
-  pub runs-woken : (old v : GoroutineView) → Rises 0 es → find g es ≡ Some old → is_running old.mode ≡ false → is_running v.mode ≡ true
+  pub runs-woken : (old v : GoroutineView) → Rises 0 es → find g es ≡ Some old → is_running old.mode ≡ false
+      → is_running v.mode ≡ true
       → placed g (running_of es) ≡ running_of (put g v es)
   runs-woken old v r f a b = sym (keys_where-put_in (λ g r. is_running r.mode) g v 0 es old r f a b)
 
-  pub runs-same : (old v : GoroutineView) → Rises 0 es → find g es ≡ Some old → is_running old.mode ≡ is_running v.mode → running_of es ≡ running_of (put g v es)
+  pub runs-same : (old v : GoroutineView) → Rises 0 es → find g es ≡ Some old → is_running old.mode ≡ is_running v.mode
+      → running_of es ≡ running_of (put g v es)
   runs-same old v r f e =
       sym (keys_where-put_same (λ g r. is_running r.mode) g v es (λ x i.
       let same = find-Entry es g x r i in
@@ -228,41 +259,42 @@ above queue g r n =
     ap (λ b. is_running r.mode && (not b || (not_empty r.frames || not_empty queue))) (ne_eqb g 0 n)
     ∙ elim (is_running r.mode) as (λ b. (b && true) ≡ b) [ true ↦ refl | false ↦ refl ]
 
-runs_above : (queue : List Queued) (k : ℕ) (es : List (ℕ × GoroutineView)) → Rises (suc k) es → keys_where (can_run queue) es ≡ running_of es
-runs_above queue k es r = keys_where-same (can_run queue) (λ g r. is_running r.mode) es (λ g x i. let a = Entry-above (suc k) es g x r i in above queue g x (λ e. omega (arith, a, e)))
+runs_above : (queue : List Queued) (k : ℕ) (es : List (ℕ × GoroutineView)) → Rises (suc k) es
+    → keys_where (can_run queue) es ≡ running_of es
+runs_above queue k es r = keys_where-same (can_run queue) (λ g r. is_running r.mode) es
+    (λ g x i. let a = Entry-above (suc k) es g x r i in above queue g x (λ e. omega (arith, a, e)))
 
 find-low : (j k : ℕ) (es : List (ℕ × GoroutineView)) → k < j → Rises j es → find k es ≡ None
 find-low j k [] l r = refl
-find-low j k (e ∷ es) l r = ap (λ b. cond b (Some e.1) (find k es)) (ne_eqb k e.0 (λ q. omega (arith, q, l, r.0))) ∙ find-low (suc e.0) k es (omega (arith, l, r.0)) r.1
+find-low j k (e ∷ es) l r = ap (λ b. cond b (Some e.1) (find k es)) (ne_eqb k e.0 (λ q. omega (arith, q, l, r.0)))
+    ∙ find-low (suc e.0) k es (omega (arith, l, r.0)) r.1
 
 -- goroutine 0 is the first, if it is there
-pub idle-found : (es : List (ℕ × GoroutineView)) (v : GoroutineView) → Rises 0 es → find 0 es ≡ Some v → is_idle v ≡ starts_idle es
+pub idle-found : (es : List (ℕ × GoroutineView)) (v : GoroutineView) → Rises 0 es → find 0 es ≡ Some v
+    → is_idle v ≡ starts_idle es
 idle-found [] v r h = cc
-idle-found (e ∷ es) v r h = elim (0 == e.0) as (λ t. 0 == e.0 ≡ t → cond t (Some e.1) (find 0 es) ≡ Some v → is_idle v ≡ ((e.0 == 0) && is_idle e.1)) [
-  | true ↦ λ t i.
-      let same : v ≡ e.1 = cc in
-      ap is_idle same ∙ ap (λ b. b && is_idle e.1) (sym (eq-eqb e.0 0 (sym (eqb-true 0 e.0 t))))
-  | false ↦ λ t i. let none = find-low (suc e.0) 0 es (omega arith) r.1 in cc
-] refl h
+idle-found (e ∷ es) v r h = elim (0 == e.0) as (λ t. 0 == e.0 ≡ t → cond t (Some e.1) (find 0 es) ≡ Some v
+    → is_idle v ≡ ((e.0 == 0) && is_idle e.1)) [
+      | true ↦ λ t i.
+          let same : v ≡ e.1 = cc in
+          ap is_idle same ∙ ap (λ b. b && is_idle e.1) (sym (eq-eqb e.0 0 (sym (eqb-true 0 e.0 t))))
+      | false ↦ λ t i. let none = find-low (suc e.0) 0 es (omega arith) r.1 in cc
+    ] refl h
 
 pub one-fewer : (xs : List ℕ) → length xs - 1 ≡ length (behind_first xs)
 one-fewer [] = omega arith
 one-fewer (x ∷ xs) = omega arith
 
-pub next-behind : (xs : List ℕ) (k : ℕ) → slice_get (behind_first xs) k ≡ slice_get xs (k + 1)
-next-behind xs k = rw add-one (next xs k)
-  where
-    next : (xs : List ℕ) (k : ℕ) → slice_get (behind_first xs) k ≡ slice_get xs (suc k)
-    next [] k = refl
-    next (x ∷ xs) k = refl
-
 -- if goroutine 0 has nothing to do, it runs by its mode alone, and is the first
-pub runs-idle : (queue : List Queued) (es : List (ℕ × GoroutineView)) → Rises 0 es → (not (not_empty queue) && starts_idle es) ≡ true → behind_first (running_of es) ≡ keys_where (can_run queue) es
+pub runs-idle : (queue : List Queued) (es : List (ℕ × GoroutineView)) → Rises 0 es
+    → (not (not_empty queue) && starts_idle es) ≡ true → behind_first (running_of es) ≡ keys_where (can_run queue) es
 runs-idle queue [] r i = refl
 runs-idle queue (e ∷ es) r i =
     rw (runs_above queue e.0 es r.1) (idle (e.0 == 0) (is_running e.1.mode) (not_empty e.1.frames) (not_empty queue) i)
   where
-    idle : (z b c q : Bool) → (not q && (z && (b && not c))) ≡ true → behind_first (cond b (e.0 ∷ running_of es) (running_of es)) ≡ cond (b && (not z || (c || q))) (e.0 ∷ running_of es) (running_of es)
+    idle : (z b c q : Bool) → (not q && (z && (b && not c))) ≡ true
+        → behind_first (cond b (e.0 ∷ running_of es) (running_of es)) ≡ cond (b && (not z || (c || q)))
+        (e.0 ∷ running_of es) (running_of es)
     idle z b c true i = cc
     idle true true true false i = cc
     idle true true false false i = refl
@@ -270,12 +302,15 @@ runs-idle queue (e ∷ es) r i =
     idle false b c false i = cc
 
 -- else those that run are all
-pub runs-busy : (queue : List Queued) (es : List (ℕ × GoroutineView)) → Rises 0 es → (not (not_empty queue) && starts_idle es) ≡ false → running_of es ≡ keys_where (can_run queue) es
+pub runs-busy : (queue : List Queued) (es : List (ℕ × GoroutineView)) → Rises 0 es
+    → (not (not_empty queue) && starts_idle es) ≡ false → running_of es ≡ keys_where (can_run queue) es
 runs-busy queue [] r i = refl
 runs-busy queue (e ∷ es) r i =
     rw (runs_above queue e.0 es r.1) (busy (e.0 == 0) (is_running e.1.mode) (not_empty e.1.frames) (not_empty queue) i)
   where
-    busy : (z b c q : Bool) → (not q && (z && (b && not c))) ≡ false → cond b (e.0 ∷ running_of es) (running_of es) ≡ cond (b && (not z || (c || q))) (e.0 ∷ running_of es) (running_of es)
+    busy : (z b c q : Bool) → (not q && (z && (b && not c))) ≡ false
+        → cond b (e.0 ∷ running_of es) (running_of es) ≡ cond (b && (not z || (c || q))) (e.0 ∷ running_of es)
+        (running_of es)
     busy z false c q i = refl
     busy false true c q i = refl
     busy true true true q i = refl
@@ -287,11 +322,15 @@ some-left [] l = absurd (omega (arith, l))
 some-left (x ∷ xs) l = refl
 
 -- of two that run one can
-pub one-awake : (queue : List Queued) (es : List (ℕ × GoroutineView)) → Rises 0 es → 2 ≤ length (running_of es) → not_empty (keys_where (can_run queue) es) ≡ true
-one-awake queue es r l = elim (not (not_empty queue) && starts_idle es) as (λ b. (not (not_empty queue) && starts_idle es) ≡ b → not_empty (keys_where (can_run queue) es) ≡ true) [
-  | true ↦ λ i.
-      let e = runs-idle queue es r i in
-      let n = ap (λ (xs : List ℕ). length xs) e in
-      some-left (keys_where (can_run queue) es) (omega (arith, l, n, one-fewer (running_of es)))
-  | false ↦ λ i. let n = ap (λ (xs : List ℕ). length xs) (runs-busy queue es r i) in some-left (keys_where (can_run queue) es) (omega (arith, l, n))
-] refl
+pub one-awake : (queue : List Queued) (es : List (ℕ × GoroutineView)) → Rises 0 es → 2 ≤ length (running_of es)
+    → not_empty (keys_where (can_run queue) es) ≡ true
+one-awake queue es r l = elim (not (not_empty queue)
+    && starts_idle es) as (λ b. (not (not_empty queue) && starts_idle es) ≡ b
+    → not_empty (keys_where (can_run queue) es) ≡ true) [
+      | true ↦ λ i.
+          let e = runs-idle queue es r i in
+          let n = ap (λ (xs : List ℕ). length xs) e in
+          some-left (keys_where (can_run queue) es) (omega (arith, l, n, one-fewer (running_of es)))
+      | false ↦ λ i. let n = ap (λ (xs : List ℕ). length xs) (runs-busy queue es r i) in some-left
+          (keys_where (can_run queue) es) (omega (arith, l, n))
+    ] refl

@@ -1,7 +1,8 @@
 -- Goroutines that can be woken without more memory.
 -- For: `AllReady` (golf_state/specs/Ready.antt) and `HasRoom` (golf_state/specs/Roominess.antt)
 -- By: induction over the list of places
-use Rattle.std.proofs.Common.{◌≡◌, ℕ, zero, suc, ◌-◌, ◌<◌, ◌≤◌, true, false, cond, List, [], ◌∷◌, ◌++◌, length, Some, refl, sym, ap, ◌∙◌, subst, arith, slice_get, slice_set}
+use Rattle.std.proofs.Common.{◌≡◌, ℕ, zero, suc, ◌-◌, ◌<◌, ◌≤◌, true, false, cond, List, [], ◌∷◌, ◌++◌, length, Some}
+use Rattle.std.proofs.Common.{refl, sym, ap, ◌∙◌, subst, arith, slice_get, slice_set}
 use Rattle.std.proofs.lemmas.List.{length-set}
 use Rattle.std.proofs.lemmas.Option.{slice_get_within}
 use Rattle.golf_data.specs.declared.goroutine.Frame.{Frame}
@@ -13,7 +14,7 @@ use Rattle.golf_state.specs.Ready.{IsReady, AllReady}
 use Rattle.golf_state.specs.Roominess.{HasRoom, HasRoomIn, IsReadyIn}
 use Rattle.golf_state.specs.Wakening.{wakened}
 use Rattle.golf_state.specs.declared.frames.Wakening.{Wakening}
-use Rattle.golf_state_goroutines.specs.declared.places.Place.{Place}
+use Rattle.golf_state_goroutines.specs.declared.places.NumberedGoroutine.{NumberedGoroutine}
 
 set-here : {X : Type 0} (xs : List X) (i : ℕ) (x : X) → i < length xs → slice_get (slice_set xs i x) i ≡ Some x
 set-here [] i x l = absurd (omega arith)
@@ -21,11 +22,13 @@ set-here (y ∷ ys) zero x l = refl
 set-here (y ∷ ys) (suc i) x l = set-here ys i x (omega arith)
 
 -- the innermost frame was changed
-pub room-set : (fs : List Frame) (f w : Frame) → slice_get fs (length fs - 1) ≡ Some f → 2 ≤ w.operands.spare → HasRoom (slice_set fs (length fs - 1) w)
+pub room-set : (fs : List Frame) (f w : Frame) → slice_get fs (length fs - 1) ≡ Some f → 2 ≤ w.operands.spare
+    → HasRoom (slice_set fs (length fs - 1) w)
 room-set fs f w at l =
     let within = slice_get_within fs (length fs - 1) f at in
     let same : slice_get (slice_set fs (length fs - 1) w) (length (slice_set fs (length fs - 1) w) - 1) ≡ Some w =
-    ap (λ n. slice_get (slice_set fs (length fs - 1) w) (n - 1)) (length-set fs (length fs - 1) w) ∙ set-here fs (length fs - 1) w within in
+    ap (λ n. slice_get (slice_set fs (length fs - 1) w) (n - 1)) (length-set fs (length fs - 1) w)
+    ∙ set-here fs (length fs - 1) w within in
     subst HasRoomIn (sym same) l
 
 pub running-ready : (m : Mode) (fs : List Frame) → is_running m ≡ true → IsReadyIn m fs
@@ -36,17 +39,20 @@ pub blocked-room : (m : Mode) (fs : List Frame) → is_running m ≡ false → I
 blocked-room Mode.Running fs h r = cc
 blocked-room (Mode.Blocked kind line waits ticket) fs h r = r
 
-pub ready-at : (ps : List Place) (i : ℕ) (p : Place) → AllReady ps → slice_get ps i ≡ Some p → IsReady p
+pub ready-at : (ps : List NumberedGoroutine) (i : ℕ) (p : NumberedGoroutine) → AllReady ps → slice_get ps i ≡ Some p
+    → IsReady p
 ready-at [] i p r h = cc
 ready-at (q ∷ ps) zero p r h = let same : q ≡ p = cc in subst IsReady same r.0
 ready-at (q ∷ ps) (suc i) p r h = ready-at ps i p r.1 h
 
-pub ready-set : (ps : List Place) (i : ℕ) (q : Place) → AllReady ps → IsReady q → AllReady (slice_set ps i q)
+pub ready-set : (ps : List NumberedGoroutine) (i : ℕ) (q : NumberedGoroutine) → AllReady ps → IsReady q
+    → AllReady (slice_set ps i q)
 ready-set [] i q r h = tt
 ready-set (p ∷ ps) zero q r h = (h, r.1)
 ready-set (p ∷ ps) (suc i) q r h = (r.0, ready-set ps i q r.1 h)
 
-pub ready-push : (ps : List Place) (q : Place) → AllReady ps → IsReady q → AllReady (ps ++ q ∷ [])
+pub ready-push : (ps : List NumberedGoroutine) (q : NumberedGoroutine) → AllReady ps → IsReady q
+    → AllReady (ps ++ q ∷ [])
 ready-push [] q r h = (h, tt)
 ready-push (p ∷ ps) q r h = (r.0, ready-push ps q r.1 h)
 
@@ -58,7 +64,8 @@ wakened-runs (Wakening.Unwound x) r = refl
 -- no more run than there are
 pub running-few : (es : List (ℕ × GoroutineView)) → length (running_of es) ≤ length es
 running-few [] = omega arith
-running-few (e ∷ es) = let h = running-few es in elim (is_running e.1.mode) as (λ b. length (cond b (e.0 ∷ running_of es) (running_of es)) ≤ suc (length es)) [
-  | true ↦ omega arith
-  | false ↦ omega arith
-]
+running-few (e ∷ es) = let h = running-few
+    es in elim (is_running e.1.mode) as (λ b. length (cond b (e.0 ∷ running_of es) (running_of es)) ≤ suc (length es)) [
+      | true ↦ omega arith
+      | false ↦ omega arith
+    ]

@@ -6,15 +6,17 @@ use Rattle.golf_theory.specs.Maps.{Rises, AllBelow}
 use Rattle.golf_theory.proofs.MapOrder.{Rises-less}
 use Rattle.golf_heap.specs.Objects.{kept}
 use Rattle.golf_state.specs.Ready.{AllReady}
-use Rattle.golf_state_goroutines.specs.declared.places.Place.{Place}
+use Rattle.golf_state_goroutines.specs.declared.places.NumberedGoroutine.{NumberedGoroutine}
 
 -- ---- what is kept
 
-pub map-kept : {X Y : Type 0} (f : X → Y) (flags : List Bool) (xs : List X) → map f (kept flags xs) ≡ kept flags (map f xs)
+pub map-kept : {X Y : Type 0} (f : X → Y) (flags : List Bool) (xs : List X)
+    → map f (kept flags xs) ≡ kept flags (map f xs)
 map-kept f [] xs = refl
 map-kept f (b ∷ bs) [] = refl
 map-kept {X} {Y} f (b ∷ bs) (x ∷ xs) = let rest = map-kept f bs xs in
-    elim b as (λ c. map f (cond c (x ∷ kept bs xs) (kept bs xs)) ≡ cond c (f x ∷ kept bs (map f xs)) (kept bs (map f xs))) [
+    elim b as (λ c. map f (cond c (x ∷ kept bs xs) (kept bs xs)) ≡ cond c (f x ∷ kept bs (map f xs))
+    (kept bs (map f xs))) [
       | true ↦ ap (λ (ys : List Y). f x ∷ ys) rest
       | false ↦ rest
     ]
@@ -28,7 +30,8 @@ kept-short (b ∷ bs) (x ∷ xs) = let rest = kept-short bs xs in
       | false ↦ omega (arith, rest)
     ]
 
-pub AllBelow-kept : {X : Type 0} (n : ℕ) (flags : List Bool) (es : List (ℕ × X)) → AllBelow n es → AllBelow n (kept flags es)
+pub AllBelow-kept : {X : Type 0} (n : ℕ) (flags : List Bool) (es : List (ℕ × X)) → AllBelow n es
+    → AllBelow n (kept flags es)
 AllBelow-kept n [] es a = tt
 AllBelow-kept n (b ∷ bs) [] a = tt
 AllBelow-kept n (b ∷ bs) (e ∷ es) a = let rest = AllBelow-kept n bs es a.1 in
@@ -37,7 +40,7 @@ AllBelow-kept n (b ∷ bs) (e ∷ es) a = let rest = AllBelow-kept n bs es a.1 i
       | false ↦ rest
     ]
 
-pub ready-kept : (flags : List Bool) (ps : List Place) → AllReady ps → AllReady (kept flags ps)
+pub ready-kept : (flags : List Bool) (ps : List NumberedGoroutine) → AllReady ps → AllReady (kept flags ps)
 ready-kept [] ps a = tt
 ready-kept (b ∷ bs) [] a = tt
 ready-kept (b ∷ bs) (p ∷ ps) a = let rest = ready-kept bs ps a.1 in

@@ -1,14 +1,15 @@
 -- A waiter that goes on while the goroutine in its turn does.
 -- For: `handed_over` (golf_state/specs/Handing.antt)
 -- By: induction over the entries of the map for two that are put; otherwise cases of whether there is a waiter
-use Rattle.std.proofs.Common.{◌≡◌, ℕ, true, false, cond, not, List, [], ◌∷◌, Option, Some, None, ◌==◌, refl, sym, ap, ◌∙◌}
+use Rattle.std.proofs.Common.{◌≡◌, ℕ, true, false, not, List, Option, Some, None, refl, sym, ap}
+use Rattle.std.proofs.Common.{◌∙◌}
 use Rattle.std.specs.Prelude.{option_map, IfSome}
-use Rattle.std.proofs.lemmas.Bool.{eqb-true, ne_eqb, true≢false}
+use Rattle.std.proofs.lemmas.Bool.{true≢false}
 use Rattle.golf_data.specs.declared.goroutine.Mode.{Mode}
 use Rattle.golf_data.specs.declared.goroutine.Wait.{Wait}
 use Rattle.golf_data.specs.declared.goroutine.WaitKind.{WaitKind}
 use Rattle.golf_theory.specs.Maps.{find, put}
-use Rattle.golf_theory.proofs.MapFinds.{find-put_other}
+use Rattle.golf_theory.proofs.MapFinds.{find-put_other, put-swap}
 use Rattle.golf_model.specs.Views.{GoroutineView}
 use Rattle.golf_model.specs.State.{State, is_running}
 use Rattle.golf_model.specs.Waiting.{Waiter}
@@ -24,18 +25,6 @@ use Rattle.golf_state.specs.Looked.{on_goroutine, looked_up, is_running_in, is_b
 use Rattle.golf_state.specs.Doing.{Stands}
 use Rattle.golf_state.specs.Handing.{IsBlockedIn, is_blocked_where, handed_over}
 
-module _ {X : Type 0} where
-  -- changes of two goroutines go in either order
-  pub put-swap : (g h : ℕ) (v w : X) (es : List (ℕ × X)) → (g ≡ h → ⊥) → put g v (put h w es) ≡ put h w (put g v es)
-  put-swap g h v w [] n = refl
-  put-swap g h v w (e ∷ es) n =
-      elim (g == e.0) as (λ b. g == e.0 ≡ b → (e.0, cond b v (cond (h == e.0) w e.1)) ∷ put g v (put h w es) ≡ ((e.0, cond (h == e.0) w (cond b v e.1)) ∷ put h w (put g v es))) [
-        | true ↦ λ t.
-            ap (λ (r : List (ℕ × X)). (e.0, v) ∷ r) (put-swap g h v w es n)
-            ∙ ap (λ b. (e.0, cond b w v) ∷ put h w (put g v es)) (sym (ne_eqb h e.0 (λ u. n (eqb-true g e.0 t ∙ sym u))))
-        | false ↦ λ t. ap (λ (r : List (ℕ × X)). (e.0, cond (h == e.0) w e.1) ∷ r) (put-swap g h v w es n)
-      ] refl
-
 -- the first waiter, from what was told of it
 pub record IsServed (s : State) (m : Option Waiter) (x : Waiting) : Type 0 where
   pub waiter : Waiter
@@ -44,7 +33,8 @@ pub record IsServed (s : State) (m : Option Waiter) (x : Waiting) : Type 0 where
   pub found : find waiter.number s.goroutines ≡ Some waiter.goroutine
   pub blocked : is_running waiter.goroutine.mode ≡ false
 
-pub served-from : (s : State) (m : Option Waiter) (x : Waiting) → Some x ≡ option_map waiting_of m → IsBlockedIn s m → IsServed s m x
+pub served-from : (s : State) (m : Option Waiter) (x : Waiting) → Some x ≡ option_map waiting_of m → IsBlockedIn s m
+    → IsServed s m x
 served-from s None x e b = cc
 served-from s (Some w) x e b = record { waiter = w; is = refl; told = cc; found = b.0; blocked = b.1 }
 
@@ -54,7 +44,8 @@ served-none (Some w) e = cc
 
 -- the goroutines of t are those of s, but for those whose turn it is
 pub record Beside (s t : State) : Type 0 where
-  pub others : (n : ℕ) (r : GoroutineView) → find n s.goroutines ≡ Some r → is_running r.mode ≡ false → find n t.goroutines ≡ Some r
+  pub others : (n : ℕ) (r : GoroutineView) → find n s.goroutines ≡ Some r → is_running r.mode ≡ false
+      → find n t.goroutines ≡ Some r
 
 pub beside-same : (s t : State) → t.goroutines ≡ s.goroutines → Beside s t
 beside-same s t e = record { others = λ n r f b. ap (find n) e ∙ f }
@@ -62,10 +53,14 @@ beside-same s t e = record { others = λ n r f b. ap (find n) e ∙ f }
 module _ (g after : ℕ) (s : State) (st : Stands g after s) where
   -- one that is blocked is another
   pub apart : (n : ℕ) (r : GoroutineView) → find n s.goroutines ≡ Some r → is_running r.mode ≡ false → n ≡ g → ⊥
-  apart n r f b e = true≢false (sym (ap is_running_in st.found) ∙ ap (λ k. is_running_in (find k s.goroutines)) (sym e) ∙ ap is_running_in f ∙ b)
+  apart n r f b e = true≢false (sym (ap is_running_in st.found) ∙ ap (λ k. is_running_in (find k s.goroutines)) (sym e)
+      ∙ ap is_running_in f ∙ b)
 
   pub beside-put : (t : State) (v : GoroutineView) → t.goroutines ≡ put g v s.goroutines → Beside s t
-  beside-put t v e = record { others = λ n r f b. ap (find n) e ∙ find-put_other g v s.goroutines n (apart n r f b) ∙ f }
+  beside-put t v e = record {
+    others = λ n r f b. ap (find n) e ∙ find-put_other g v s.goroutines n (apart n r f b)
+        ∙ f;
+  }
 
 module _ (s : State) (m : Option Waiter) (x : Waiting) (w : IsServed s m x) (t : State) (b : Beside s t) where
   pub served-found : find w.waiter.number t.goroutines ≡ Some w.waiter.goroutine
@@ -73,33 +68,41 @@ module _ (s : State) (m : Option Waiter) (x : Waiting) (w : IsServed s m x) (t :
 
   -- it can be woken
   pub served-blocked : is_blocked x.goroutine.0 t ≡ true
-  served-blocked = ap (λ (y : Waiting). is_blocked y.goroutine.0 t) w.told ∙ ap is_blocked_in served-found ∙ ap not w.blocked
+  served-blocked = ap (λ (y : Waiting). is_blocked y.goroutine.0 t) w.told ∙ ap is_blocked_in served-found
+      ∙ ap not w.blocked
 
   -- and goes on
-  pub served-woken : (how : Wakening) → looked_up x.goroutine.0 (λ r. become x.goroutine.0 (wakened how r)) t ≡ become w.waiter.number (wakened how w.waiter.goroutine) t
+  pub served-woken : (how : Wakening) → looked_up x.goroutine.0 (λ r. become x.goroutine.0 (wakened how r)) t
+      ≡ become w.waiter.number (wakened how w.waiter.goroutine) t
   served-woken how =
       ap (λ (y : Waiting). looked_up y.goroutine.0 (λ r. become y.goroutine.0 (wakened how r)) t) w.told
       ∙ ap (λ (o : Option GoroutineView). on_goroutine (λ r. become w.waiter.number (wakened how r)) o t) served-found
 
 -- the first waiter, if there is one, is handed the mutex
-pub handed-ready : (s : State) (m : Option Waiter) (x : Option Waiting) → x ≡ option_map waiting_of m → IsBlockedIn s m → (t : State) → Beside s t → is_blocked_where x t ≡ true
+pub handed-ready : (s : State) (m : Option Waiter) (x : Option Waiting) → x ≡ option_map waiting_of m → IsBlockedIn s m
+    → (t : State) → Beside s t → is_blocked_where x t ≡ true
 handed-ready s m None e i t b = refl
 handed-ready s m (Some x) e i t b = served-blocked s m x (served-from s m x e i) t b
 
-pub handed-is : (s : State) (m : Option Waiter) (x : Option Waiting) → x ≡ option_map waiting_of m → IsBlockedIn s m → (t : State) → Beside s t → (o : ℕ) → handed_over o x t ≡ apply_all (hands_over o m) t
+pub handed-is : (s : State) (m : Option Waiter) (x : Option Waiting) → x ≡ option_map waiting_of m → IsBlockedIn s m
+    → (t : State) → Beside s t → (o : ℕ) → handed_over o x t ≡ apply_all (hands_over o m) t
 handed-is s m None e i t b o = ap (λ (k : Option Waiter). apply_all (hands_over o k) t) (sym (served-none m e))
 handed-is s m (Some x) e i t b o =
     let w = served-from s m x e i in
     served-woken s m x w t b k.Released ∙ ap (λ (k : Option Waiter). apply_all (hands_over o k) t) (sym w.is)
 
 -- a goroutine that blocks, and a mutex that is handed over, in either order
-pub handed-swap : (g : ℕ) (s : State) (kind : WaitKind) (line : ℕ) (waits : List Wait) (r : GoroutineView) (o : ℕ) (m : Option Waiter) → IfSome m (λ w. w.number ≡ g → ⊥)
-    → apply_all (hands_over o m) (block g kind line waits r s) ≡ block g kind line waits r (apply_all (hands_over o m) s)
+pub handed-swap : (g : ℕ) (s : State) (kind : WaitKind) (line : ℕ) (waits : List Wait) (r : GoroutineView) (o : ℕ)
+    (m : Option Waiter) → IfSome m (λ w. w.number ≡ g → ⊥)
+    → apply_all (hands_over o m) (block g kind line waits r s) ≡ block g kind line waits r
+    (apply_all (hands_over o m) s)
 handed-swap g s kind line waits r o None n = refl
 handed-swap g s kind line waits r o (Some w) n =
     ap (λ (es : List (ℕ × GoroutineView)). record (block g kind line waits r s) { goroutines = es })
-    (put-swap w.number g (released w.goroutine) (record r { mode = Mode.Blocked kind line waits s.next_ticket }) s.goroutines n)
+    (put-swap w.number g (released w.goroutine)
+    (record r { mode = Mode.Blocked kind line waits s.next_ticket }) s.goroutines n)
 
-pub apart-some : (g after : ℕ) (s : State) → Stands g after s → (m : Option Waiter) → IsBlockedIn s m → IfSome m (λ w. w.number ≡ g → ⊥)
+pub apart-some : (g after : ℕ) (s : State) → Stands g after s → (m : Option Waiter) → IsBlockedIn s m
+    → IfSome m (λ w. w.number ≡ g → ⊥)
 apart-some g after s st None i = tt
 apart-some g after s st (Some w) i = apart g after s st w.number w.goroutine i.0 i.1

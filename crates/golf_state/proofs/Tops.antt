@@ -1,10 +1,12 @@
 -- The innermost frame, and the last operands.
 -- For: `frame_views` (golf_model/specs/Views.antt) and `on_top` (golf_model/specs/Waking.antt)
 -- By: induction over the list for an item of its first part; otherwise computing with the last frame
-use Rattle.std.proofs.Common.{◌≡◌, ℕ, zero, suc, ◌+◌, ◌-◌, ◌<◌, ◌≤◌, Bool, true, false, not, List, [], ◌∷◌, ◌++◌, length, take, drop, map, Some, refl, sym, ap, ◌∙◌, inl, inr, arith, slice_get, slice_set}
+use Rattle.std.proofs.Common.{◌≡◌, ℕ, zero, suc, ◌+◌, ◌-◌, ◌<◌, ◌≤◌, Bool, true, false, not, List, [], ◌∷◌, ◌++◌}
+use Rattle.std.proofs.Common.{length, take, drop, map, Some, refl, sym, ap, ◌∙◌, inl, inr, arith, slice_get, slice_set}
 use Rattle.std.specs.Prelude.{reverse, IsTrue, ◌↔◌}
 use Rattle.std.proofs.lemmas.Bool.{cases_lt}
-use Rattle.std.proofs.lemmas.List.{take_more, take_all, set_at, length-take-le, reverse-append, length-reverse, drop_at, drop_all, take-append-drop, length-drop, set-append_left}
+use Rattle.std.proofs.lemmas.List.{take_more, take_all, set_at, length-take-le, reverse-append, length-reverse, drop_at}
+use Rattle.std.proofs.lemmas.List.{drop_all, take-append-drop, length-drop, set-append_left}
 use Rattle.std.proofs.lemmas.Option.{slice_get_within, get_or_from_slice_get}
 use Rattle.golf_data.specs.declared.goroutine.Frame.{Frame}
 use Rattle.golf_model.specs.Views.{FrameView, frame_view, frame_views}
@@ -17,7 +19,8 @@ use Rattle.golf_state.specs.Going.{given_back, handed}
 
 module _ {X : Type 0} where
   -- a list with a last item is the items before it, and it
-  pub split_last : (xs : List X) (x : X) → slice_get xs (length xs - 1) ≡ Some x → xs ≡ take (length xs - 1) xs ++ x ∷ []
+  pub split_last : (xs : List X) (x : X) → slice_get xs (length xs - 1) ≡ Some x → xs ≡ take (length xs - 1) xs ++ x
+      ∷ []
   split_last xs x h =
       let l = slice_get_within xs (length xs - 1) x h in
       let n : length xs ≤ length xs - 1 + 1 = omega arith in
@@ -26,7 +29,8 @@ module _ {X : Type 0} where
       ∙ ap (λ (y : X). take (length xs - 1) xs ++ y ∷ []) (get_or_from_slice_get xs (length xs - 1) x x h)
 
   -- and with another last item
-  pub set_last : (xs : List X) (x y : X) → slice_get xs (length xs - 1) ≡ Some x → slice_set xs (length xs - 1) y ≡ take (length xs - 1) xs ++ y ∷ []
+  pub set_last : (xs : List X) (x y : X) → slice_get xs (length xs - 1) ≡ Some x
+      → slice_set xs (length xs - 1) y ≡ take (length xs - 1) xs ++ y ∷ []
   set_last xs x y h =
       ap (λ (zs : List X). slice_set zs (length xs - 1) y) (split_last xs x h)
       ∙ set_at (take (length xs - 1) xs) x [] y (length xs - 1) (length-take-le (length xs - 1) xs (omega arith))
@@ -35,7 +39,8 @@ module _ {X : Type 0} where
   pub reverse-take : (n : ℕ) (xs : List X) → reverse (take (length xs - n) xs) ≡ drop n (reverse xs)
   reverse-take n xs =
       let m = length xs - n in
-      let parts : reverse xs ≡ reverse (drop m xs) ++ reverse (take m xs) = ap reverse (sym (take-append-drop m xs)) ∙ reverse-append (take m xs) (drop m xs) in
+      let parts : reverse xs ≡ reverse (drop m xs) ++ reverse (take m xs) = ap reverse (sym (take-append-drop m xs))
+      ∙ reverse-append (take m xs) (drop m xs) in
       let front = length-reverse (drop m xs) in
       let tail = length-drop m xs in
       elim (cases_lt n (length xs)) [
@@ -56,15 +61,18 @@ slice_get-append (x ∷ xs) ys zero l = refl
 slice_get-append (x ∷ xs) ys (suc i) l = slice_get-append xs ys i (omega arith)
 
 -- a change of the last frame is one of the frame on top
-pub top_changed : (fs : List Frame) (f w : Frame) (change : FrameView → FrameView) → slice_get fs (length fs - 1) ≡ Some f → frame_view w ≡ change (frame_view f)
+pub top_changed : (fs : List Frame) (f w : Frame) (change : FrameView → FrameView)
+    → slice_get fs (length fs - 1) ≡ Some f → frame_view w ≡ change (frame_view f)
     → frame_views (slice_set fs (length fs - 1) w) ≡ on_top change (frame_views fs)
 top_changed fs f w change h e =
     let below = take (length fs - 1) fs in
     ap frame_views (set_last fs f w h) ∙ frame_views-push below w ∙ ap (λ (x : FrameView). x ∷ frame_views below) e
-    ∙ sym (ap (λ (gs : List Frame). on_top change (frame_views gs)) (split_last fs f h) ∙ ap (on_top change) (frame_views-push below f))
+    ∙ sym (ap (λ (gs : List Frame). on_top change (frame_views gs)) (split_last fs f h)
+    ∙ ap (on_top change) (frame_views-push below f))
 
 -- a last frame whose plain form stays changes nothing
-pub top_same : (fs : List Frame) (f w : Frame) → slice_get fs (length fs - 1) ≡ Some f → frame_view w ≡ frame_view f → frame_views (slice_set fs (length fs - 1) w) ≡ frame_views fs
+pub top_same : (fs : List Frame) (f w : Frame) → slice_get fs (length fs - 1) ≡ Some f → frame_view w ≡ frame_view f
+    → frame_views (slice_set fs (length fs - 1) w) ≡ frame_views fs
 top_same fs f w h e =
     let below = take (length fs - 1) fs in
     ap frame_views (set_last fs f w h) ∙ frame_views-push below w ∙ ap (λ (x : FrameView). x ∷ frame_views below) e
@@ -97,13 +105,15 @@ pub record IsBelow (fs gs : List Frame) (n : ℕ) (new f : Frame) : Type 0 where
   pub at : slice_get gs (n - 1) ≡ Some f
 
 -- under a new frame the one below it changes
-pub below_changed : (fs gs : List Frame) (n : ℕ) (new f w : Frame) (change : FrameView → FrameView) → IsBelow fs gs n new f → frame_view w ≡ change (frame_view f)
+pub below_changed : (fs gs : List Frame) (n : ℕ) (new f w : Frame) (change : FrameView → FrameView)
+    → IsBelow fs gs n new f → frame_view w ≡ change (frame_view f)
     → frame_views (slice_set gs (n - 1) w) ≡ frame_view new ∷ on_top change (frame_views fs)
 below_changed fs gs n new f w change below e =
     let i = length fs - 1 in
     let here : n - 1 ≡ i = ap (λ k. k - 1) below.count in
     let some : i < length fs = omega (arith, below.count, below.some) in
-    let was : slice_get fs i ≡ Some f = sym (slice_get-append fs (new ∷ []) i some) ∙ ap (λ (xs : List Frame). slice_get xs i) (sym below.pushed) ∙ ap (slice_get gs) (sym here) ∙ below.at in
+    let was : slice_get fs i ≡ Some f = sym (slice_get-append fs (new ∷ []) i some)
+    ∙ ap (λ (xs : List Frame). slice_get xs i) (sym below.pushed) ∙ ap (slice_get gs) (sym here) ∙ below.at in
     ap (λ k. frame_views (slice_set gs k w)) here
     ∙ ap (λ (xs : List Frame). frame_views (slice_set xs i w)) below.pushed
     ∙ ap frame_views (set-append_left fs (new ∷ []) i w some)
@@ -125,11 +135,13 @@ same_top : (d : Bool) (v : Value) (fs : List FrameView) → d ≡ true → fs �
 same_top d v [] e = refl
 same_top d v (f ∷ fs) e = ap (λ (b : Bool). handed_back b (Some v) f ∷ fs) (sym e)
 
-pub handed_nowhere : (v : Value) (fs : List Frame) (t : Frame) → slice_get fs (length fs - 1) ≡ Some t → t.discards ≡ true → frame_views fs ≡ handed v (frame_views fs)
+pub handed_nowhere : (v : Value) (fs : List Frame) (t : Frame) → slice_get fs (length fs - 1) ≡ Some t
+    → t.discards ≡ true → frame_views fs ≡ handed v (frame_views fs)
 handed_nowhere v fs t at d =
     let below = take (length fs - 1) fs in
     let parts = without_last fs below t (split_last fs t at) in
-    parts ∙ ap (λ (xs : List FrameView). frame_view t ∷ xs) (same_top t.discards v (frame_views below) d) ∙ sym (ap (handed v) parts)
+    parts ∙ ap (λ (xs : List FrameView). frame_view t ∷ xs) (same_top t.discards v (frame_views below) d)
+    ∙ sym (ap (handed v) parts)
 
 -- of n frames t is the last, and f the one below it
 pub record IsCalledBy (fs : List Frame) (n : ℕ) (t f : Frame) : Type 0 where
@@ -139,7 +151,8 @@ pub record IsCalledBy (fs : List Frame) (n : ℕ) (t f : Frame) : Type 0 where
   pub caller : slice_get fs (n - 2) ≡ Some f
 
 -- the caller's frame changes
-pub caller_changed : (fs : List Frame) (t f w : Frame) (n : ℕ) (change : FrameView → FrameView) → IsCalledBy fs n t f → frame_view w ≡ change (frame_view f)
+pub caller_changed : (fs : List Frame) (t f w : Frame) (n : ℕ) (change : FrameView → FrameView) → IsCalledBy fs n t f
+    → frame_view w ≡ change (frame_view f)
     → frame_views (slice_set fs (n - 2) w) ≡ frame_view t ∷ on_top change (frame_views (take (length fs - 1) fs))
 caller_changed fs t f w n change called e =
     let below = take (length fs - 1) fs in
@@ -153,7 +166,8 @@ caller_changed fs t f w n change called e =
       at = ap (slice_get fs) (sym one) ∙ called.caller;
     }) e
 
-pub handed_to : (v : Value) (fs : List Frame) (t f w : Frame) (n : ℕ) → IsCalledBy fs n t f → t.discards ≡ false → frame_view w ≡ given_back v (frame_view f)
+pub handed_to : (v : Value) (fs : List Frame) (t f w : Frame) (n : ℕ) → IsCalledBy fs n t f → t.discards ≡ false
+    → frame_view w ≡ given_back v (frame_view f)
     → frame_views (slice_set fs (n - 2) w) ≡ handed v (frame_views fs)
 handed_to v fs t f w n called d e =
     let below = take (length fs - 1) fs in
@@ -165,7 +179,8 @@ same_on_top : (fs : List FrameView) → on_top (λ f. f) fs ≡ fs
 same_on_top [] = refl
 same_on_top (f ∷ fs) = refl
 
-pub handed_not : (fs : List Frame) (t f w : Frame) (n : ℕ) → IsCalledBy fs n t f → frame_view w ≡ frame_view f → frame_views (slice_set fs (n - 2) w) ≡ frame_views fs
+pub handed_not : (fs : List Frame) (t f w : Frame) (n : ℕ) → IsCalledBy fs n t f → frame_view w ≡ frame_view f
+    → frame_views (slice_set fs (n - 2) w) ≡ frame_views fs
 handed_not fs t f w n called e =
     let below = take (length fs - 1) fs in
     caller_changed fs t f w n (λ g. g) called e

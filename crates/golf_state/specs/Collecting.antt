@@ -6,4 +6,8 @@ use Rattle.golf_model.specs.Collecting.{queued}
 
 -- the finalisers whose flag is false join the queue, in rising order of their objects' numbers
 abbrev pub queue_unflagged : List Bool → State → State
-queue_unflagged stays s = record s { finalisers = kept stays s.finalisers; queue = s.queue ++ queued (left_out stays s.finalisers) }
+queue_unflagged stays s = record s {
+  finalisers = kept stays s.finalisers;
+  queue = s.queue
+      ++ queued (left_out stays s.finalisers);
+}

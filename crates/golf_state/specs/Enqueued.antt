@@ -9,7 +9,8 @@ use Rattle.golf_state_queues.specs.WaitQueues.{WaitQueues, key, wait_queue_at, A
 
 -- all who wait on the object with that side stand in the queue with their tickets
 abbrev pub HasWaiters : ℕ → Side → List (ℕ × GoroutineView) → List (ℕ × ℕ) → Type 0
-HasWaiters o side gs line = (g : ℕ) (r : GoroutineView) (w : Waiter) → Entry gs g r → waiter_of o side (g, r) ≡ Some w → Entry line (ticket_of r.mode) g
+HasWaiters o side gs line = (g : ℕ) (r : GoroutineView) (w : Waiter) → Entry gs g r → waiter_of o side (g, r) ≡ Some w
+    → Entry line (ticket_of r.mode) g
 
 -- if it is blocked, its ticket is below n
 abbrev pub IsEarly : ℕ → Mode → Type 0
@@ -26,8 +27,10 @@ has_queue listed Side.Read = true
 has_queue listed Side.Write = true
 has_queue listed Side.Cond = true
 
--- all who wait on what has queues stand in them; their tickets are below the next one, which others who stand there may have
+-- all who wait on what has queues stand in them; their tickets are below the next one, which others who stand there may
+-- have
 pub record AreEnqueued (listed : Bool) (gs : List (ℕ × GoroutineView)) (queues : WaitQueues) (next : ℕ) : Type 0 where
   pub below : AreBelow (next + 1) queues
   pub early : (g : ℕ) (r : GoroutineView) → Entry gs g r → IsEarly next r.mode
-  pub all : (o : ℕ) (side : Side) → has_queue listed side ≡ true → HasWaiters o side gs (wait_queue_at (key o side) queues)
+  pub all : (o : ℕ) (side : Side) → has_queue listed side ≡ true
+      → HasWaiters o side gs (wait_queue_at (key o side) queues)

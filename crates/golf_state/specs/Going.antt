@@ -1,4 +1,5 @@
--- What becomes of a goroutine's frames. The innermost frame stands first, and so do the top operand and the latest deferred call.
+-- What becomes of a goroutine's frames. The innermost frame stands first, and so do the top operand and the latest
+-- deferred call.
 use Rattle.std.specs.Prelude.{ℕ, List, [], ◌∷◌, ◌++◌, Option, Some, drop}
 use Rattle.golf_data.specs.declared.value.Value.{Value}
 use Rattle.golf_data.specs.declared.goroutine.Deferred.{Deferred}

@@ -5,7 +5,7 @@ use Rattle.golf_model.specs.State.{State}
 use Rattle.golf_state_goroutines.specs.Places.{plain_entries, running_of}
 use Rattle.golf_state.specs.Ready.{AllReady}
 use Rattle.golf_state.specs.Enqueued.{AreEnqueued}
-use Rattle.golf_state_goroutines.specs.declared.places.Place.{Place}
+use Rattle.golf_state_goroutines.specs.declared.places.NumberedGoroutine.{NumberedGoroutine}
 use Rattle.golf_state.specs.declared.state.State.TheInside.{Inside}
 
 -- operands are told by their items alone
@@ -23,8 +23,9 @@ plain_state s = record {
   recorded = s.recorded;
 }
 
--- the goroutines stand in rising order of number, below the next one, which is one of 32 bits, and goroutine 0 is there; the list of those that run is theirs; and each blocked one is ready to be woken
-pub record AreKept (gs : List Place) (active : List ℕ) (next : ℕ) : Type 0 where
+-- the goroutines stand in rising order of number, below the next one, which is one of 32 bits, and goroutine 0 is
+-- there; the list of those that run is theirs; and each blocked one is ready to be woken
+pub record AreKept (gs : List NumberedGoroutine) (active : List ℕ) (next : ℕ) : Type 0 where
   pub rises : Rises 0 (plain_entries gs)
   pub below : AllBelow next (plain_entries gs)
   pub zero : is_some (find 0 (plain_entries gs)) ≡ true

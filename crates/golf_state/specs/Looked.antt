@@ -62,7 +62,8 @@ opening globals frames line = record {
   globals = globals;
   objects = [];
   finalisers = [];
-  goroutines = (0, record { frames = []; mode = Mode.Running; started = 0 }) ∷ (1, record { frames = frames; mode = Mode.Running; started = line }) ∷ [];
+  goroutines = (0, record { frames = []; mode = Mode.Running; started = 0 })
+      ∷ (1, record { frames = frames; mode = Mode.Running; started = line }) ∷ [];
   queue = [];
   output = [];
   last_object = 0;

@@ -65,11 +65,13 @@ abbrev pub outcome_of : List Change → Outcome
 outcome_of [] = Outcome.Stuck
 outcome_of (c ∷ cs) = cond (has_block (c ∷ cs)) Outcome.Blocked (goes_as (c ∷ cs))
 
--- the state after this outcome: it is done, and the goroutine runs; or the goroutine is blocked; or it panics, and the state is as it was; or no rule fits
+-- the state after this outcome: it is done, and the goroutine runs; or the goroutine is blocked; or it panics, and the
+-- state is as it was; or no rule fits
 abbrev pub Leaves : Outcome → (Actor → List Change) → ℕ → ℕ → State → State → Type 0
 Leaves Outcome.Done act g line old new = (new ≡ does act g line old) × (runs g new ≡ true)
 Leaves Outcome.Blocked act g line old new = (new ≡ does act g line old) × (is_blocked g new ≡ true)
-Leaves (Outcome.Panic kind) act g line old new = (new ≡ old) × (does act g line old ≡ does (λ a. faults a kind) g line old)
+Leaves (Outcome.Panic kind) act g line old new = (new ≡ old)
+    × (does act g line old ≡ does (λ a. faults a kind) g line old)
 Leaves Outcome.Stuck act g line old new = (new ≡ old) × (does act g line old ≡ old)
 
 -- the innermost frame of these is not leaving
@@ -77,6 +79,8 @@ abbrev pub StaysIn : List FrameView → Type 0
 StaysIn [] = Unit {0}
 StaysIn (f ∷ fs) = f.leaving ≡ Leaving.No
 
--- an operation that makes these changes has come to this outcome; if the goroutine's innermost frame was not leaving, it is exactly what they come to
+-- an operation that makes these changes has come to this outcome; if the goroutine's innermost frame was not leaving,
+-- it is exactly what they come to
 abbrev pub Comes : Outcome → (Actor → List Change) → ℕ → ℕ → State → State → Type 0
-Comes outcome act g line old new = Leaves outcome act g line old new × (StaysIn (frames_of g old) → outcome_of (does_by act g line (find g old.goroutines)) ≡ outcome)
+Comes outcome act g line old new = Leaves outcome act g line old new
+    × (StaysIn (frames_of g old) → outcome_of (does_by act g line (find g old.goroutines)) ≡ outcome)

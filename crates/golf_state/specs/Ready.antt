@@ -1,12 +1,12 @@
 -- Places whose goroutines can be woken without memory.
 use Rattle.std.specs.Prelude.{List, [], ◌∷◌}
-use Rattle.golf_state_goroutines.specs.declared.places.Place.{Place}
+use Rattle.golf_state_goroutines.specs.declared.places.NumberedGoroutine.{NumberedGoroutine}
 use Rattle.golf_state.specs.Roominess.{IsReadyIn}
 
 -- if it is blocked, its innermost frame has room
-abbrev pub IsReady : Place → Type 0
+abbrev pub IsReady : NumberedGoroutine → Type 0
 IsReady p = IsReadyIn p.goroutine.mode p.goroutine.frames
 
-abbrev pub AllReady : List Place → Type 0
+abbrev pub AllReady : List NumberedGoroutine → Type 0
 AllReady [] = Unit {0}
 AllReady (p ∷ ps) = IsReady p × AllReady ps

@@ -43,7 +43,8 @@ abbrev pub wakening_of : Mode → ℕ → Waking → Option Wakening
 wakening_of Mode.Running o how = None
 wakening_of (Mode.Blocked kind line waits ticket) o (Waking.Closing zero) = wakening_on zero line (wait_on o waits)
 wakening_of (Mode.Blocked kind line waits ticket) o Waking.AtZero = released_where (wait_for o Side.Group waits)
-wakening_of (Mode.Blocked kind line waits ticket) o (Waking.ToReaders below) = released_where (cond (is_below below ticket) (wait_for o Side.Read waits) None)
+wakening_of (Mode.Blocked kind line waits ticket) o (Waking.ToReaders below) =
+    released_where (cond (is_below below ticket) (wait_for o Side.Read waits) None)
 
 abbrev pub wakened_by : Option Wakening → GoroutineView → GoroutineView
 wakened_by None r = r

@@ -18,16 +18,22 @@ wakening_in (Some r) o how = wakening_of r.mode o how
 
 -- whoever waits on the object with that side and is woken has a ticket below n
 abbrev pub AreWokenBelow : ℕ → ℕ → Side → Waking → List (ℕ × GoroutineView) → Type 0
-AreWokenBelow n o side how gs = (g : ℕ) (r : GoroutineView) (w : Waiter) (k : Wakening) → Entry gs g r → waiter_of o side (g, r) ≡ Some w → wakening_of r.mode o how ≡ Some k → ticket_of r.mode < n
+AreWokenBelow n o side how gs = (g : ℕ) (r : GoroutineView) (w : Waiter) (k : Wakening) → Entry gs g r
+    → waiter_of o side (g, r) ≡ Some w → wakening_of r.mode o how ≡ Some k → ticket_of r.mode < n
 
 -- nobody waits there who is woken
 abbrev pub NobodyWoken : ℕ → Side → Waking → List (ℕ × GoroutineView) → Type 0
-NobodyWoken o side how gs = (g : ℕ) (r : GoroutineView) (w : Waiter) (k : Wakening) → Entry gs g r → waiter_of o side (g, r) ≡ Some w → wakening_of r.mode o how ≡ Some k → ⊥
+NobodyWoken o side how gs = (g : ℕ) (r : GoroutineView) (w : Waiter) (k : Wakening) → Entry gs g r
+    → waiter_of o side (g, r) ≡ Some w → wakening_of r.mode o how ≡ Some k → ⊥
 
--- the last in the queue with a ticket below n: whoever waits there with such a ticket is this one, or has an earlier one
+-- the last in the queue with a ticket below n: whoever waits there with such a ticket is this one, or has an earlier
+-- one
 abbrev pub IsHolderBelow : ℕ → ℕ → Side → List (ℕ × GoroutineView) → Option TicketHolder → Type 0
-IsHolderBelow n o side gs None = (g : ℕ) (r : GoroutineView) (w : Waiter) → Entry gs g r → waiter_of o side (g, r) ≡ Some w → n ≤ ticket_of r.mode
-IsHolderBelow n o side gs (Some h) = (h.ticket < n) × ((g : ℕ) (r : GoroutineView) (w : Waiter) → Entry gs g r → waiter_of o side (g, r) ≡ Some w → ticket_of r.mode < n → (ticket_of r.mode < h.ticket) ⊎ ((g ≡ h.goroutine.0) × (ticket_of r.mode ≡ h.ticket)))
+IsHolderBelow n o side gs None = (g : ℕ) (r : GoroutineView) (w : Waiter) → Entry gs g r
+    → waiter_of o side (g, r) ≡ Some w → n ≤ ticket_of r.mode
+IsHolderBelow n o side gs (Some h) = (h.ticket < n)
+    × ((g : ℕ) (r : GoroutineView) (w : Waiter) → Entry gs g r → waiter_of o side (g, r) ≡ Some w → ticket_of r.mode < n
+    → (ticket_of r.mode < h.ticket) ⊎ ((g ≡ h.goroutine.0) × (ticket_of r.mode ≡ h.ticket)))
 
 -- some of those that are woken have gone on
 pub record HasWoken (o : ℕ) (how : Waking) (old new : State) : Type 0 where

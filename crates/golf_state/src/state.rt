@@ -1,6 +1,7 @@
 //! The state: what it tells, and the changes that a turn is made of.
 
-ghost use Rattle.std.specs.Prelude.{◌≡◌, ◌<◌, ◌≤◌, ◌^◌, ◌+◌, ◌-◌, ◌↔◌, IsTrue, [], not, length, map, true, false, Some, None, IfOk, OnOk, OnErr, IsSome, IfSome, is_some, option_map, slice_get};
+ghost use Rattle.std.specs.Prelude.{◌≡◌, ◌<◌, ◌≤◌, ◌^◌, ◌+◌, ◌-◌, ◌↔◌, IsTrue, [], not, length, map, true, false, Some};
+ghost use Rattle.std.specs.Prelude.{None, IfOk, OnOk, OnErr, IsSome, IfSome, is_some, option_map, slice_get};
 ghost use Rattle.std.specs.Borrow.{sem};
 ghost use Rattle.golf_theory.specs.Maps.{find, keys, Rises, IsRising};
 ghost use Rattle.golf_data.specs.declared.goroutine.Mode.{Mode};
@@ -11,7 +12,9 @@ ghost use Rattle.golf_model.specs.State.{runnable, ending, is_running, not_empty
 ghost use Rattle.golf_model.specs.Waiting.{first};
 ghost use Rattle.golf_model.specs.ReadersWriters.{readers_next};
 ghost use Rattle.golf_model.specs.Clearing.{clears};
-ghost use Rattle.golf_model.specs.Changes.{apply_all, make, replace, set_global, become, block, spawn, leave, finish, set_finaliser, clear_finaliser, take_queued, output as printed, wake_all, pass_on, move_wait};
+ghost use Rattle.golf_model.specs.Changes.{apply_all, make, replace, set_global, become, block, spawn, leave, finish};
+ghost use Rattle.golf_model.specs.Changes.{set_finaliser, clear_finaliser, take_queued, output as output_of, wake_all};
+ghost use Rattle.golf_model.specs.Changes.{pass_on, move_wait};
 ghost use Rattle.golf_heap.specs.Objects.{kept};
 ghost use Rattle.golf_state_goroutines.specs.Places.{running_of};
 ghost use Rattle.golf_state.specs.Collecting.{queue_unflagged};
@@ -649,7 +652,7 @@ impl State {
 
     /// Adds to what was printed.
     pub fn add_output(&mut self, piece: &[u8]) -> Result<(), Memory>
-        ensures ok { OnOk result (self.new ≡ printed piece.now self.old) }
+        ensures ok { OnOk result (self.new ≡ output_of piece.now self.old) }
         ensures err { OnErr result (self.new ≡ self.old) }
     {
         self.output.extend_from_slice(piece)

@@ -1,6 +1,7 @@
 //! Who waits on an object.
 
-ghost use Rattle.std.specs.Prelude.{◌≡◌, ◌<◌, ◌≤◌, ◌+◌, ◌++◌, ◌==◌, ◌&&◌, ℕ, List, false, true, Some, None, length, option_map};
+ghost use Rattle.std.specs.Prelude.{◌≡◌, ◌<◌, ◌≤◌, ◌+◌, ◌++◌, ◌==◌, ◌&&◌, ℕ, List, false, true, Some, None, length};
+ghost use Rattle.std.specs.Prelude.{option_map};
 ghost use Rattle.golf_data.specs.declared.goroutine.Side.{Side};
 ghost use Rattle.golf_theory.specs.Maps.{Entry, Rises, find, keys};
 ghost use Rattle.golf_theory.specs.Membership.{is_in};
@@ -9,7 +10,8 @@ ghost use Rattle.golf_model.specs.Views.{GoroutineView};
 ghost use Rattle.golf_state_goroutines.specs.Blocks.{places_in};
 ghost use Rattle.golf_model.specs.Changes.{moved, moved_waits};
 ghost use Rattle.golf_state_goroutines.specs.Places.{plain_entry, plain_entries};
-ghost use Rattle.golf_state_queues.specs.WaitQueues.{held, key, wait_queue_at, narrowed, standing, IsWithout, Keeps, AreBelow};
+ghost use Rattle.golf_state_queues.specs.WaitQueues.{held, key, wait_queue_at, narrowed, standing, IsWithout, Keeps};
+ghost use Rattle.golf_state_queues.specs.WaitQueues.{AreBelow};
 ghost use Rattle.golf_state.specs.Seen.{sooner, waiter_by};
 ghost use Rattle.golf_state.specs.Left.{leaves_in, leaves_where};
 ghost use Rattle.golf_state.specs.Enqueued.{HasWaiters, has_queue};
@@ -17,7 +19,7 @@ ghost use Rattle.golf_state.specs.Waited.{waiting_of};
 
 use golf_base::{GoroutineId, List, ObjectId};
 use golf_data::{Mode, Side, Wait};
-use golf_state_goroutines::{Block, Place, Roster};
+use golf_state_goroutines::{Block, NumberedGoroutine, Roster};
 use golf_state_queues::{Queues, TicketHolder, side_number};
 
 /// A goroutine that waits on an object, with its first fitting wait, and its ticket.
@@ -63,7 +65,7 @@ pub fn wait_for(waits: &[Wait], object: ObjectId, side: Side) -> Option<Wait>
 }
 
 // The goroutine at a place as a waiter, if it is one.
-fn waiter_in(place: &Place, object: ObjectId, side: Side) -> Option<Waiting>
+fn waiter_in(place: &NumberedGoroutine, object: ObjectId, side: Side) -> Option<Waiting>
     ensures { result ≡ option_map waiting_of (waiter_of object.0 side (plain_entry place.now)) }
 {
     match &place.goroutine.get().mode {
@@ -179,7 +181,7 @@ pub fn narrow_queues(queues: &mut Queues, roster: &Roster, were: usize)
 // The goroutine of least ticket among those of the places that wait on the object with that side, and one
 // that comes after them.
 fn first_of(
-    places: &[Place],
+    places: &[NumberedGoroutine],
     object: ObjectId,
     side: Side,
     later: Option<Waiting>,

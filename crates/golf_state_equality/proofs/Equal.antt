@@ -30,9 +30,16 @@ target-decides v w = search rules
 side-decides : (v w : Side) → Decides (sides.eq-value.it v w) (v ≡ w)
 side-decides v w = search rules
 
-same-parts : (v w : Wait) → v.object.0 ≡ w.object.0 → v.side ≡ w.side → v.value ≡ w.value → v.target ≡ w.target → v.with_ok ≡ w.with_ok → v ≡ w
+same-parts : (v w : Wait) → v.object.0 ≡ w.object.0 → v.side ≡ w.side → v.value ≡ w.value → v.target ≡ w.target
+    → v.with_ok ≡ w.with_ok → v ≡ w
 same-parts v w o s x t b =
-    ap (λ z. record { object = record { 0 = z }; side = v.side; value = v.value; target = v.target; with_ok = v.with_ok }) o
+    ap (λ z. record {
+      object = record { 0 = z };
+      side = v.side;
+      value = v.value;
+      target = v.target;
+      with_ok = v.with_ok;
+    }) o
     ∙ ap (λ z. record { object = w.object; side = z; value = v.value; target = v.target; with_ok = v.with_ok }) s
     ∙ ap (λ z. record { object = w.object; side = w.side; value = z; target = v.target; with_ok = v.with_ok }) x
     ∙ ap (λ z. record { object = w.object; side = w.side; value = w.value; target = z; with_ok = v.with_ok }) t
@@ -40,9 +47,21 @@ same-parts v w o s x t b =
 
 wait-decides : (v w : Wait) → Decides (waits.eq-value.it v w) (v ≡ w)
 wait-decides v w =
-    let d = both _ _ (unsigned_Decides v.object.0 w.object.0) (both _ _ (side-decides v.side w.side) (both _ _ (value-decides v.value w.value) (both _ _ (target-decides v.target w.target) (booleans_Decides v.with_ok w.with_ok)))) in (
+    let d = both _ _ (unsigned_Decides v.object.0 w.object.0)
+    (both _ _ (side-decides v.side w.side)
+    (both _ _ (value-decides v.value w.value)
+    (both _ _ (target-decides v.target w.target) (booleans_Decides v.with_ok w.with_ok)))) in (
       λ t. let p = d.0 t in same-parts v w p.0 p.1.0 p.1.1.0 p.1.1.1.0 p.1.1.1.1,
-      λ e. d.1 (ap (λ (z : Wait). z.object.0) e, (ap (λ (z : Wait). z.side) e, (ap (λ (z : Wait). z.value) e, (ap (λ (z : Wait). z.target) e, ap (λ (z : Wait). z.with_ok) e)))),
+      λ e. d.1 (
+        ap (λ (z : Wait). z.object.0) e,
+        (
+          ap (λ (z : Wait). z.side) e,
+          (
+            ap (λ (z : Wait). z.value) e,
+            (ap (λ (z : Wait). z.target) e, ap (λ (z : Wait). z.with_ok) e),
+          ),
+        ),
+      ),
     )
 
 pub values-decide : (vs ws : List Value) (r : Bool) → r ≡ pointwise values.eq-value.it vs ws → Decides r (vs ≡ ws)

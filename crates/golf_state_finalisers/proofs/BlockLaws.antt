@@ -1,7 +1,8 @@
 -- Blocks in order, and what they are after a change of one.
 -- For: `AreBlocks`, `AreFilled` (golf_state_finalisers/specs/Blocks.antt)
 -- By: induction over the list of blocks
-use Rattle.std.proofs.Common.{◌≡◌, ℕ, zero, suc, ◌^◌, ◌<◌, ◌≤◌, true, false, cond, List, [], ◌∷◌, ◌++◌, length, filter, take, drop, Some, refl, sym, ap, ◌∙◌, subst, arith, append_assoc, slice_get, slice_set}
+use Rattle.std.proofs.Common.{◌≡◌, ℕ, zero, suc, ◌^◌, ◌<◌, ◌≤◌, true, false, cond, List, [], ◌∷◌, ◌++◌, length, filter}
+use Rattle.std.proofs.Common.{take, drop, Some, refl, sym, ap, ◌∙◌, subst, arith, append_assoc, slice_get, slice_set}
 use Rattle.std.proofs.lemmas.List.{append-nil}
 use Rattle.golf_theory.specs.Maps.{Rises, AllBelow}
 use Rattle.golf_theory.proofs.MapOrder.{Rises-less, AllBelow-more}
@@ -13,11 +14,14 @@ use Rattle.golf_state_finalisers.proofs.Parts.{rises-append, below-append}
 
 pub rises-in : (lo : ℕ) (bs : List Block) → AreBlocks lo bs → Rises lo (pairs_in bs)
 rises-in lo [] a = tt
-rises-in lo (b ∷ bs) a = rises-append lo (suc b.top) b.pairs.items (pairs_in bs) (omega (arith, a.0.order)) a.0.rises a.0.below (rises-in (suc b.top) bs a.1)
+rises-in lo (b ∷ bs) a = rises-append lo (suc b.top) b.pairs.items (pairs_in bs)
+    (omega (arith, a.0.order)) a.0.rises a.0.below (rises-in (suc b.top) bs a.1)
 
-pub tops-below : (g lo : ℕ) (bs : List Block) → AreBlocks lo bs → AllBelow g (keyed_blocks bs) → AllBelow g (pairs_in bs)
+pub tops-below : (g lo : ℕ) (bs : List Block) → AreBlocks lo bs → AllBelow g (keyed_blocks bs)
+    → AllBelow g (pairs_in bs)
 tops-below g lo [] a l = tt
-tops-below g lo (b ∷ bs) a l = below-append g b.pairs.items (pairs_in bs) (AllBelow-more (suc b.top) g b.pairs.items (omega (arith, l.0)) a.0.below) (tops-below g (suc b.top) bs a.1 l.1)
+tops-below g lo (b ∷ bs) a l = below-append g b.pairs.items (pairs_in bs)
+    (AllBelow-more (suc b.top) g b.pairs.items (omega (arith, l.0)) a.0.below) (tops-below g (suc b.top) bs a.1 l.1)
 
 limited : (lo : ℕ) (bs : List Block) → AreBlocks lo bs → AllBelow (2 ^ 32) (keyed_blocks bs)
 limited lo [] a = tt
@@ -26,7 +30,8 @@ limited lo (b ∷ bs) a = (a.0.limit, limited (suc b.top) bs a.1)
 -- there are fewer of them than numbers of 32 bits
 pub few-pairs : (bs : List Block) → AreBlocks 0 bs → length (pairs_in bs) ≤ 2 ^ 32
 few-pairs bs a =
-    let n = few 0 (2 ^ 32) (pairs_in bs) (omega arith) (rises-in 0 bs a) (tops-below (2 ^ 32) 0 bs a (limited 0 bs a)) in
+    let n = few 0 (2 ^ 32) (pairs_in bs) (omega arith) (rises-in 0 bs a)
+    (tops-below (2 ^ 32) 0 bs a (limited 0 bs a)) in
     omega (arith, n)
 
 pub blocks-rise : (lo : ℕ) (bs : List Block) → AreBlocks lo bs → Rises lo (keyed_blocks bs)
@@ -41,7 +46,8 @@ pub record Standing (lo : ℕ) (b : Block) : Type 0 where
 
 pub block-at : (lo i : ℕ) (bs : List Block) (b : Block) → AreBlocks lo bs → slice_get bs i ≡ Some b → Standing lo b
 block-at lo i [] b a h = absurd (cc)
-block-at lo zero (x ∷ bs) b a h = let same : x ≡ b = cc in record { least = lo; bound = omega arith; is = subst (IsBlock lo) same a.0 }
+block-at lo zero (x ∷ bs) b a h = let same : x ≡ b =
+    cc in record { least = lo; bound = omega arith; is = subst (IsBlock lo) same a.0 }
 block-at lo (suc i) (x ∷ bs) b a h =
     let rest = block-at (suc x.top) i bs b a.1 h in
     record { least = rest.least; bound = omega (arith, rest.bound, a.0.order); is = rest.is }
@@ -51,7 +57,8 @@ blocks-take lo zero bs a = tt
 blocks-take lo (suc i) [] a = tt
 blocks-take lo (suc i) (b ∷ bs) a = (a.0, blocks-take (suc b.top) i bs a.1)
 
-pub blocks-drop : (lo i : ℕ) (bs : List Block) (b : Block) → AreBlocks lo bs → slice_get bs i ≡ Some b → AreBlocks (suc b.top) (drop (suc i) bs)
+pub blocks-drop : (lo i : ℕ) (bs : List Block) (b : Block) → AreBlocks lo bs → slice_get bs i ≡ Some b
+    → AreBlocks (suc b.top) (drop (suc i) bs)
 blocks-drop lo i [] b a h = absurd (cc)
 blocks-drop lo zero (x ∷ bs) b a h = let same : x ≡ b = cc in subst (λ (w : Block). AreBlocks (suc w.top) bs) same a.1
 blocks-drop lo (suc i) (x ∷ bs) b a h = blocks-drop (suc x.top) i bs b a.1 h
@@ -71,7 +78,8 @@ blocks-less j k (b ∷ bs) l a = (block-less j k b l a.0, a.1)
 
 -- ---- another block in its place
 
-pub blocks-set : (lo i : ℕ) (bs : List Block) (b c : Block) → AreBlocks lo bs → slice_get bs i ≡ Some b → ((l : ℕ) → IsBlock l b → IsBlock l c) → c.top ≡ b.top → AreBlocks lo (slice_set bs i c)
+pub blocks-set : (lo i : ℕ) (bs : List Block) (b c : Block) → AreBlocks lo bs → slice_get bs i ≡ Some b
+    → ((l : ℕ) → IsBlock l b → IsBlock l c) → c.top ≡ b.top → AreBlocks lo (slice_set bs i c)
 blocks-set lo i [] b c a h is e = absurd (cc)
 blocks-set lo zero (x ∷ bs) b c a h is e =
     let same : x ≡ b = cc in
@@ -80,22 +88,27 @@ blocks-set lo zero (x ∷ bs) b c a h is e =
 blocks-set lo (suc i) (x ∷ bs) b c a h is e = (a.0, blocks-set (suc x.top) i bs b c a.1 h is e)
 
 -- which has one number more, above the tops before
-pub blocks-put : (lo i g : ℕ) (bs : List Block) (b c : Block) → AreBlocks lo bs → lo ≤ g → AllBelow g (keyed_blocks (take i bs)) → slice_get bs i ≡ Some b → ((l : ℕ) → l ≤ g → IsBlock l b → IsBlock l c) → c.top ≡ b.top → AreBlocks lo (slice_set bs i c)
+pub blocks-put : (lo i g : ℕ) (bs : List Block) (b c : Block) → AreBlocks lo bs → lo ≤ g
+    → AllBelow g (keyed_blocks (take i bs)) → slice_get bs i ≡ Some b → ((l : ℕ) → l ≤ g → IsBlock l b → IsBlock l c)
+    → c.top ≡ b.top → AreBlocks lo (slice_set bs i c)
 blocks-put lo i g [] b c a l u h is e = absurd (cc)
 blocks-put lo zero g (x ∷ bs) b c a l u h is e =
     let same : x ≡ b = cc in
     let n : c.top ≡ x.top = e ∙ ap (λ (w : Block). w.top) (sym same) in
     (is lo l (subst (IsBlock lo) same a.0), subst (λ (n : ℕ). AreBlocks (suc n) bs) (sym n) a.1)
-blocks-put lo (suc i) g (x ∷ bs) b c a l u h is e = (a.0, blocks-put (suc x.top) i g bs b c a.1 (omega (arith, u.0)) u.1 h is e)
+blocks-put lo (suc i) g (x ∷ bs) b c a l u h is e =
+    (a.0, blocks-put (suc x.top) i g bs b c a.1 (omega (arith, u.0)) u.1 h is e)
 
 -- the last block may get a greater top
-pub blocks-end : (lo i : ℕ) (bs : List Block) (b c : Block) → AreBlocks lo bs → suc i ≡ length bs → slice_get bs i ≡ Some b → ((l : ℕ) → IsBlock l b → IsBlock l c) → AreBlocks lo (slice_set bs i c)
+pub blocks-end : (lo i : ℕ) (bs : List Block) (b c : Block) → AreBlocks lo bs → suc i ≡ length bs
+    → slice_get bs i ≡ Some b → ((l : ℕ) → IsBlock l b → IsBlock l c) → AreBlocks lo (slice_set bs i c)
 blocks-end lo i [] b c a n h is = absurd (cc)
 blocks-end lo zero (x ∷ []) b c a n h is = let same : x ≡ b = cc in (is lo (subst (IsBlock lo) same a.0), tt)
 blocks-end lo zero (x ∷ y ∷ bs) b c a n h is = absurd (omega (arith, n))
 blocks-end lo (suc i) (x ∷ bs) b c a n h is = (a.0, blocks-end (suc x.top) i bs b c a.1 (omega (arith, n)) h is)
 
-pub blocks-push : (lo : ℕ) (bs : List Block) (c : Block) → AreBlocks lo bs → AllBelow c.top (keyed_blocks bs) → lo ≤ c.top → ((l : ℕ) → l ≤ c.top → IsBlock l c) → AreBlocks lo (bs ++ c ∷ [])
+pub blocks-push : (lo : ℕ) (bs : List Block) (c : Block) → AreBlocks lo bs → AllBelow c.top (keyed_blocks bs)
+    → lo ≤ c.top → ((l : ℕ) → l ≤ c.top → IsBlock l c) → AreBlocks lo (bs ++ c ∷ [])
 blocks-push lo [] c a l h is = (is lo h, tt)
 blocks-push lo (b ∷ bs) c a l h is = (a.0, blocks-push (suc b.top) bs c a.1 l.1 (omega (arith, l.0)) is)
 
@@ -109,19 +122,22 @@ blocks-remove lo (suc i) (b ∷ bs) a = (a.0, blocks-remove (suc b.top) i bs a.1
 
 pub blocks-filled : (lo : ℕ) (bs : List Block) → AreBlocks lo bs → AreBlocks lo (filter is_filled bs)
 blocks-filled lo [] a = tt
-blocks-filled lo (b ∷ bs) a = elim (is_filled b) as (λ t. AreBlocks lo (cond t (b ∷ filter is_filled bs) (filter is_filled bs))) [
-  | true ↦ (a.0, blocks-filled (suc b.top) bs a.1)
-  | false ↦ blocks-less lo (suc b.top) (filter is_filled bs) (omega (arith, a.0.order)) (blocks-filled (suc b.top) bs a.1)
-]
+blocks-filled lo (b ∷ bs) a = elim (is_filled b) as (λ t. AreBlocks lo
+    (cond t (b ∷ filter is_filled bs) (filter is_filled bs))) [
+      | true ↦ (a.0, blocks-filled (suc b.top) bs a.1)
+      | false ↦ blocks-less lo (suc b.top) (filter is_filled bs) (omega (arith, a.0.order))
+          (blocks-filled (suc b.top) bs a.1)
+    ]
 
 -- ---- blocks that have a finaliser each
 
 pub filled-filter : (bs : List Block) → AreFilled (filter is_filled bs)
 filled-filter [] = tt
-filled-filter (b ∷ bs) = elim (is_filled b) as (λ t. is_filled b ≡ t → AreFilled (cond t (b ∷ filter is_filled bs) (filter is_filled bs))) [
-  | true ↦ λ t. (t, filled-filter bs)
-  | false ↦ λ t. filled-filter bs
-] refl
+filled-filter (b ∷ bs) = elim (is_filled b) as (λ t. is_filled b ≡ t
+    → AreFilled (cond t (b ∷ filter is_filled bs) (filter is_filled bs))) [
+      | true ↦ λ t. (t, filled-filter bs)
+      | false ↦ λ t. filled-filter bs
+    ] refl
 
 pub filled-append : (bs cs : List Block) → AreFilled bs → AreFilled cs → AreFilled (bs ++ cs)
 filled-append [] cs f g = g
@@ -137,13 +153,15 @@ filled-drop zero bs f = f
 filled-drop (suc i) [] f = tt
 filled-drop (suc i) (b ∷ bs) f = filled-drop i bs f.1
 
-pub filled-set : (i : ℕ) (bs : List Block) (c : Block) → AreFilled bs → is_filled c ≡ true → AreFilled (slice_set bs i c)
+pub filled-set : (i : ℕ) (bs : List Block) (c : Block) → AreFilled bs → is_filled c ≡ true
+    → AreFilled (slice_set bs i c)
 filled-set i [] c f h = tt
 filled-set zero (b ∷ bs) c f h = (h, f.1)
 filled-set (suc i) (b ∷ bs) c f h = (f.0, filled-set i bs c f.1 h)
 
 -- all but one, and that one too
-pub filled-three : (i : ℕ) (bs : List Block) (b : Block) → slice_get bs i ≡ Some b → AreFilled (take i bs) → is_filled b ≡ true → AreFilled (drop (suc i) bs) → AreFilled bs
+pub filled-three : (i : ℕ) (bs : List Block) (b : Block) → slice_get bs i ≡ Some b → AreFilled (take i bs)
+    → is_filled b ≡ true → AreFilled (drop (suc i) bs) → AreFilled bs
 filled-three i [] b h f t g = tt
 filled-three zero (x ∷ bs) b h f t g = let same : x ≡ b = cc in (ap is_filled same ∙ t, g)
 filled-three (suc i) (x ∷ bs) b h f t g = (f.0, filled-three i bs b h f.1 t g)
@@ -163,11 +181,13 @@ filled-at (suc i) (x ∷ bs) b f h = filled-at i bs b f.1 h
 
 -- ---- more finalisers in the last block
 
-pub end-pairs : (i : ℕ) (bs : List Block) (b c : Block) (ps : List (ℕ × ℕ)) → suc i ≡ length bs → slice_get bs i ≡ Some b → c.pairs.items ≡ b.pairs.items ++ ps → pairs_in (slice_set bs i c) ≡ pairs_in bs ++ ps
+pub end-pairs : (i : ℕ) (bs : List Block) (b c : Block) (ps : List (ℕ × ℕ)) → suc i ≡ length bs
+    → slice_get bs i ≡ Some b → c.pairs.items ≡ b.pairs.items ++ ps → pairs_in (slice_set bs i c) ≡ pairs_in bs ++ ps
 end-pairs i [] b c ps n h e = absurd (cc)
 end-pairs zero (x ∷ []) b c ps n h e =
     let same : x ≡ b = cc in
-    append-nil c.pairs.items ∙ e ∙ ap (λ (w : Block). w.pairs.items ++ ps) (sym same) ∙ sym (ap (λ (es : List (ℕ × ℕ)). es ++ ps) (append-nil x.pairs.items))
+    append-nil c.pairs.items ∙ e ∙ ap (λ (w : Block). w.pairs.items ++ ps) (sym same)
+    ∙ sym (ap (λ (es : List (ℕ × ℕ)). es ++ ps) (append-nil x.pairs.items))
 end-pairs zero (x ∷ y ∷ bs) b c ps n h e = absurd (omega (arith, n))
 end-pairs (suc i) (x ∷ bs) b c ps n h e =
     ap (λ (es : List (ℕ × ℕ)). x.pairs.items ++ es) (end-pairs i bs b c ps (omega (arith, n)) h e)

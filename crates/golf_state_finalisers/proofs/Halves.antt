@@ -1,14 +1,17 @@
 -- A block that is split in halves.
 -- For: `split` (src/splitting.rt)
 -- By: induction over the list of blocks
-use Rattle.std.proofs.Common.{◌≡◌, ℕ, zero, suc, ◌+◌, ◌-◌, ◌<◌, ◌≤◌, Bool, true, false, cond, List, [], ◌∷◌, ◌++◌, length, take, drop, Option, Some, None, nat_lt, refl, sym, ap, ◌∙◌, subst, arith, append_assoc, slice_get, slice_set}
+use Rattle.std.proofs.Common.{◌≡◌, ℕ, zero, suc, ◌+◌, ◌-◌, ◌<◌, ◌≤◌, Bool, true, false, cond, List, [], ◌∷◌, ◌++◌}
+use Rattle.std.proofs.Common.{length, take, drop, Option, Some, None, nat_lt, refl, sym, ap, ◌∙◌, subst, arith}
+use Rattle.std.proofs.Common.{append_assoc, slice_get, slice_set}
 use Rattle.std.specs.Prelude.{insert, option_map}
 use Rattle.std.proofs.lemmas.Bool.{ltb-false, lt-ltb, le-ltb}
 use Rattle.std.proofs.lemmas.List.{length-take-le, length-drop, take-append-drop}
 use Rattle.golf_theory.specs.Maps.{Rises}
 use Rattle.golf_heap.specs.Objects.{rank}
 use Rattle.golf_state_goroutines.proofs.Gathers.{gather-append, gather-split}
-use Rattle.golf_state_finalisers.specs.Blocks.{pairs_in, IsBlock, AreBlocks, is_filled, AreFilled, keyed_blocks, has_room}
+use Rattle.golf_state_finalisers.specs.Blocks.{pairs_in, IsBlock, AreBlocks, is_filled, AreFilled, keyed_blocks}
+use Rattle.golf_state_finalisers.specs.Blocks.{has_room}
 use Rattle.golf_state_finalisers.specs.declared.blocks.Block.{Block}
 use Rattle.golf_state_finalisers.proofs.Parts.{Cut, cut-at, rises-take, below-drop, some-between}
 use Rattle.golf_state_finalisers.proofs.BlockLaws.{something}
@@ -32,27 +35,38 @@ numbered : (t : ℕ) (o : Option (ℕ × ℕ)) → option_map (λ p. p.0) o ≡ 
 numbered t None h = absurd (cc)
 numbered t (Some e) h = (e, refl, cc)
 
-pub halves : (n i : ℕ) (bs : List Block) (b f k : Block) → slice_get bs i ≡ Some b → suc n < 512 → length b.pairs.items ≡ 512
+pub halves : (n i : ℕ) (bs : List Block) (b f k : Block) → slice_get bs i ≡ Some b → suc n < 512
+    → length b.pairs.items ≡ 512
     → f.pairs.items ≡ take (suc n) b.pairs.items → option_map (λ p. p.0) (slice_get b.pairs.items n) ≡ Some f.top
     → k.pairs.items ≡ drop (suc n) b.pairs.items → k.top ≡ b.top → AreHalves i bs b f k
 halves n i bs b f k h less count front last back top =
     let es = b.pairs.items in
     let e = numbered f.top (slice_get es n) last in
-    let m : length f.pairs.items ≡ suc n = ap (λ (xs : List (ℕ × ℕ)). length xs) front ∙ length-take-le (suc n) es (omega (arith, less, count)) in
-    let o : length k.pairs.items ≡ length es - suc n = ap (λ (xs : List (ℕ × ℕ)). length xs) back ∙ length-drop (suc n) es in
+    let m : length f.pairs.items ≡ suc n = ap (λ (xs : List (ℕ × ℕ)). length xs) front
+    ∙ length-take-le (suc n) es (omega (arith, less, count)) in
+    let o : length k.pairs.items ≡ length es - suc n = ap (λ (xs : List (ℕ × ℕ)). length xs) back
+    ∙ length-drop (suc n) es in
     let some : 0 < length (drop (suc n) es) = omega (arith, length-drop (suc n) es, less, count) in
     record {
       here = h;
       top = top;
-      pairs = ap (λ (xs : List (ℕ × ℕ)). xs ++ k.pairs.items) front ∙ ap (λ (xs : List (ℕ × ℕ)). take (suc n) es ++ xs) back ∙ take-append-drop (suc n) es;
+      pairs = ap (λ (xs : List (ℕ × ℕ)). xs ++ k.pairs.items) front
+          ∙ ap (λ (xs : List (ℕ × ℕ)). take (suc n) es ++ xs) back ∙ take-append-drop (suc n) es;
       front = λ l is.
           let c : Cut l n e.0 es = cut-at l n es e.0 is.rises e.1 in
-          let between = some-between (suc e.0.0) (suc b.top) (drop (suc n) es) some c.above (below-drop (suc b.top) (suc n) es is.below) in
-          block-from l e.0.0 (take (suc n) es) f e.2 front c.least (omega (arith, between, is.limit)) (rises-take l (suc n) es is.rises) c.below (omega (arith, less, m, ap (λ (xs : List (ℕ × ℕ)). length xs) front));
+          let between = some-between (suc e.0.0) (suc b.top) (drop (suc n) es) some c.above
+          (below-drop (suc b.top) (suc n) es is.below) in
+          block-from l e.0.0 (take (suc n) es) f e.2 front c.least (omega (arith, between, is.limit))
+          (rises-take l (suc n) es is.rises) c.below
+          (omega (arith, less, m, ap (λ (xs : List (ℕ × ℕ)). length xs) front));
       back = λ l is.
           let c : Cut l n e.0 es = cut-at l n es e.0 is.rises e.1 in
-          let between = some-between (suc e.0.0) (suc b.top) (drop (suc n) es) some c.above (below-drop (suc b.top) (suc n) es is.below) in
-          block-from (suc f.top) b.top (drop (suc n) es) k top back (omega (arith, between, e.2)) is.limit (subst (λ t. Rises (suc t) (drop (suc n) es)) (sym e.2) c.above) (below-drop (suc b.top) (suc n) es is.below) (omega (arith, o, count, ap (λ (xs : List (ℕ × ℕ)). length xs) back));
+          let between = some-between (suc e.0.0) (suc b.top) (drop (suc n) es) some c.above
+          (below-drop (suc b.top) (suc n) es is.below) in
+          block-from (suc f.top) b.top (drop (suc n) es) k top back (omega (arith, between, e.2)) is.limit
+          (subst (λ t. Rises (suc t) (drop (suc n) es)) (sym e.2) c.above)
+          (below-drop (suc b.top) (suc n) es is.below)
+          (omega (arith, o, count, ap (λ (xs : List (ℕ × ℕ)). length xs) back));
       front_filled = something f.pairs.items (omega (arith, m));
       back_filled = something k.pairs.items (omega (arith, o, less, count));
       front_room = lt-ltb (length f.pairs.items) 512 (omega (arith, m, less));
@@ -60,7 +74,8 @@ halves n i bs b f k h less count front last back top =
     }
 
 -- a full block has as many as a block may have
-pub full-count : (l i : ℕ) (bs : List Block) (b : Block) → IsBlock l b → slice_get bs i ≡ Some b → has_room (slice_get bs i) ≡ false → length b.pairs.items ≡ 512
+pub full-count : (l i : ℕ) (bs : List Block) (b : Block) → IsBlock l b → slice_get bs i ≡ Some b
+    → has_room (slice_get bs i) ≡ false → length b.pairs.items ≡ 512
 full-count l i bs b is h full =
     let many = ltb-false (length b.pairs.items) 512 (ap has_room (sym h) ∙ full) in
     omega (arith, many, is.few)
@@ -70,15 +85,18 @@ full-count l i bs b is h full =
 abbrev pub with-halves : ℕ → List Block → Block → Block → List Block
 with-halves i bs f k = take i bs ++ (f ∷ (k ∷ drop (suc i) bs))
 
-pub halves-form : (i : ℕ) (bs : List Block) (f k : Block) → i < length bs → insert (slice_set bs i f) (suc i) k ≡ with-halves i bs f k
+pub halves-form : (i : ℕ) (bs : List Block) (f k : Block) → i < length bs
+    → insert (slice_set bs i f) (suc i) k ≡ with-halves i bs f k
 halves-form i [] f k l = absurd (omega (arith, l))
 halves-form zero (x ∷ bs) f k l = refl
 halves-form (suc i) (x ∷ bs) f k l = ap (λ (cs : List Block). x ∷ cs) (halves-form i bs f k (omega (arith, l)))
 
-pub halves-blocks : (lo i : ℕ) (bs : List Block) (b f k : Block) → AreBlocks lo bs → AreHalves i bs b f k → AreBlocks lo (with-halves i bs f k)
+pub halves-blocks : (lo i : ℕ) (bs : List Block) (b f k : Block) → AreBlocks lo bs → AreHalves i bs b f k
+    → AreBlocks lo (with-halves i bs f k)
 halves-blocks lo i bs b f k a s = blocks lo i bs a s.here
   where
-    blocks : (lo i : ℕ) (bs : List Block) → AreBlocks lo bs → slice_get bs i ≡ Some b → AreBlocks lo (with-halves i bs f k)
+    blocks : (lo i : ℕ) (bs : List Block) → AreBlocks lo bs → slice_get bs i ≡ Some b
+        → AreBlocks lo (with-halves i bs f k)
     blocks lo i [] a h = absurd (cc)
     blocks lo zero (x ∷ bs) a h =
         let same : x ≡ b = cc in
@@ -87,7 +105,8 @@ halves-blocks lo i bs b f k a s = blocks lo i bs a s.here
         (s.front lo is, (s.back lo is, subst (λ (n : ℕ). AreBlocks (suc n) bs) top a.1))
     blocks lo (suc i) (x ∷ bs) a h = (a.0, blocks (suc x.top) i bs a.1 h)
 
-pub halves-filled : (i : ℕ) (bs : List Block) (b f k : Block) → AreFilled bs → AreHalves i bs b f k → AreFilled (with-halves i bs f k)
+pub halves-filled : (i : ℕ) (bs : List Block) (b f k : Block) → AreFilled bs → AreHalves i bs b f k
+    → AreFilled (with-halves i bs f k)
 halves-filled i bs b f k a s = filled i bs a s.here
   where
     filled : (i : ℕ) (bs : List Block) → AreFilled bs → slice_get bs i ≡ Some b → AreFilled (with-halves i bs f k)
@@ -95,37 +114,48 @@ halves-filled i bs b f k a s = filled i bs a s.here
     filled zero (x ∷ bs) a h = (s.front_filled, (s.back_filled, a.1))
     filled (suc i) (x ∷ bs) a h = (a.0, filled i bs a.1 h)
 
-pub halves-pairs : (i : ℕ) (bs : List Block) (b f k : Block) → AreHalves i bs b f k → pairs_in (with-halves i bs f k) ≡ pairs_in bs
+pub halves-pairs : (i : ℕ) (bs : List Block) (b f k : Block) → AreHalves i bs b f k
+    → pairs_in (with-halves i bs f k) ≡ pairs_in bs
 halves-pairs i bs b f k s =
     gather-append (λ (b : Block). b.pairs.items) (take i bs) (f ∷ (k ∷ drop (suc i) bs))
-    ∙ ap (λ (es : List (ℕ × ℕ)). pairs_in (take i bs) ++ es) (sym (append_assoc f.pairs.items k.pairs.items (pairs_in (drop (suc i) bs))) ∙ ap (λ (es : List (ℕ × ℕ)). es ++ pairs_in (drop (suc i) bs)) s.pairs)
+    ∙ ap (λ (es : List (ℕ × ℕ)). pairs_in (take i bs) ++ es)
+    (sym (append_assoc f.pairs.items k.pairs.items (pairs_in (drop (suc i) bs)))
+    ∙ ap (λ (es : List (ℕ × ℕ)). es ++ pairs_in (drop (suc i) bs)) s.pairs)
     ∙ sym (gather-split (λ (b : Block). b.pairs.items) bs i b s.here)
 
 -- the half that the number belongs to
-pub halves-place : (g i : ℕ) (bs : List Block) (b f k : Block) → AreHalves i bs b f k → g ≤ b.top → i ≡ rank g (keyed_blocks bs) → cond (nat_lt f.top g) (i + 1) i ≡ rank g (keyed_blocks (with-halves i bs f k))
+pub halves-place : (g i : ℕ) (bs : List Block) (b f k : Block) → AreHalves i bs b f k → g ≤ b.top
+    → i ≡ rank g (keyed_blocks bs) → cond (nat_lt f.top g) (i + 1) i ≡ rank g (keyed_blocks (with-halves i bs f k))
 halves-place g i bs b f k s l e = place i bs s.here e
   where
     later : (t : Bool) (i : ℕ) → cond t (suc i + 1) (suc i) ≡ suc (cond t (i + 1) i)
     later true i = omega arith
     later false i = refl
 
-    place : (i : ℕ) (bs : List Block) → slice_get bs i ≡ Some b → i ≡ rank g (keyed_blocks bs) → cond (nat_lt f.top g) (i + 1) i ≡ rank g (keyed_blocks (with-halves i bs f k))
+    place : (i : ℕ) (bs : List Block) → slice_get bs i ≡ Some b → i ≡ rank g (keyed_blocks bs)
+        → cond (nat_lt f.top g) (i + 1) i ≡ rank g (keyed_blocks (with-halves i bs f k))
     place i [] h e = absurd (cc)
     place zero (x ∷ bs) h e =
-        elim (nat_lt f.top g) as (λ t. cond t (0 + 1) 0 ≡ cond t (suc (cond (nat_lt k.top g) (suc (rank g (keyed_blocks bs))) 0)) 0) [
-          | true ↦ ap (λ t. suc (cond t (suc (rank g (keyed_blocks bs))) 0)) (sym (le-ltb k.top g (omega (arith, l, s.top))))
+        elim (nat_lt f.top g) as (λ t. cond t (0 + 1) 0 ≡ cond t
+        (suc (cond (nat_lt k.top g) (suc (rank g (keyed_blocks bs))) 0)) 0) [
+          | true ↦ ap (λ t. suc (cond t (suc (rank g (keyed_blocks bs))) 0))
+              (sym (le-ltb k.top g (omega (arith, l, s.top))))
           | false ↦ refl
         ]
     place (suc i) (x ∷ bs) h e =
-        elim (nat_lt x.top g) as (λ t. suc i ≡ cond t (suc (rank g (keyed_blocks bs))) 0 → cond (nat_lt f.top g) (suc i + 1) (suc i) ≡ cond t (suc (rank g (keyed_blocks (with-halves i bs f k)))) 0) [
+        elim (nat_lt x.top g) as (λ t. suc i ≡ cond t (suc (rank g (keyed_blocks bs))) 0
+        → cond (nat_lt f.top g) (suc i + 1) (suc i) ≡ cond t
+        (suc (rank g (keyed_blocks (with-halves i bs f k)))) 0) [
           | true ↦ λ e. later (nat_lt f.top g) i ∙ ap suc (place i bs h (omega (arith, e)))
           | false ↦ λ e. absurd (omega (arith, e))
         ] e
 
-pub halves-room : (t : Bool) (i : ℕ) (bs : List Block) (b f k : Block) → AreHalves i bs b f k → has_room (slice_get (with-halves i bs f k) (cond t (i + 1) i)) ≡ true
+pub halves-room : (t : Bool) (i : ℕ) (bs : List Block) (b f k : Block) → AreHalves i bs b f k
+    → has_room (slice_get (with-halves i bs f k) (cond t (i + 1) i)) ≡ true
 halves-room t i bs b f k s = room i bs s.here
   where
-    shifted : (t : Bool) (i : ℕ) (x : Block) (cs : List Block) → slice_get (x ∷ cs) (cond t (suc i + 1) (suc i)) ≡ slice_get cs (cond t (i + 1) i)
+    shifted : (t : Bool) (i : ℕ) (x : Block) (cs : List Block)
+        → slice_get (x ∷ cs) (cond t (suc i + 1) (suc i)) ≡ slice_get cs (cond t (i + 1) i)
     shifted true i x cs = ap (slice_get (x ∷ cs)) (let q : suc i + 1 ≡ suc (i + 1) = omega arith in q)
     shifted false i x cs = refl
 
@@ -133,7 +163,8 @@ halves-room t i bs b f k s = room i bs s.here
     first true cs = s.back_room
     first false cs = s.front_room
 
-    room : (i : ℕ) (bs : List Block) → slice_get bs i ≡ Some b → has_room (slice_get (with-halves i bs f k) (cond t (i + 1) i)) ≡ true
+    room : (i : ℕ) (bs : List Block) → slice_get bs i ≡ Some b
+        → has_room (slice_get (with-halves i bs f k) (cond t (i + 1) i)) ≡ true
     room i [] h = absurd (cc)
     room zero (x ∷ bs) h = first t bs
     room (suc i) (x ∷ bs) h = ap has_room (shifted t i x (with-halves i bs f k)) ∙ room i bs h

@@ -1,7 +1,8 @@
 -- What concerns one number in a map of three parts, of which the first has smaller numbers and the last greater ones.
 -- For: `pairs_in` (golf_state_finalisers/specs/Blocks.antt)
 -- By: induction over the first part, and over the second
-use Rattle.std.proofs.Common.{◌≡◌, ℕ, zero, suc, ◌<◌, ◌≤◌, Bool, true, false, cond, not, List, [], ◌∷◌, ◌++◌, length, take, drop, Some, ◌==◌, nat_lt, refl, ap, ◌∙◌, subst, arith, slice_get}
+use Rattle.std.proofs.Common.{◌≡◌, ℕ, zero, suc, ◌<◌, ◌≤◌, Bool, true, false, cond, not, List, [], ◌∷◌, ◌++◌, length}
+use Rattle.std.proofs.Common.{take, drop, Some, ◌==◌, nat_lt, refl, ap, ◌∙◌, subst, arith, slice_get}
 use Rattle.std.proofs.lemmas.Bool.{ne_eqb, lt-ltb, le-ltb}
 use Rattle.golf_theory.specs.Maps.{insert, only, Rises, AllBelow}
 use Rattle.golf_theory.proofs.MapOrder.{Rises-less}
@@ -9,7 +10,8 @@ use Rattle.golf_theory.proofs.Placing.{only_below}
 use Rattle.golf_heap.specs.Objects.{kept, left_out}
 
 module _ {X : Type 0} where
-  pub rises-append : (j m : ℕ) (es fs : List (ℕ × X)) → j ≤ m → Rises j es → AllBelow m es → Rises m fs → Rises j (es ++ fs)
+  pub rises-append : (j m : ℕ) (es fs : List (ℕ × X)) → j ≤ m → Rises j es → AllBelow m es → Rises m fs
+      → Rises j (es ++ fs)
   rises-append j m [] fs l r a s = Rises-less j m fs l s
   rises-append j m (e ∷ es) fs l r a s = (r.0, rises-append (suc e.0) m es fs (omega (arith, a.0)) r.1 a.1 s)
 
@@ -66,14 +68,17 @@ module _ {X : Type 0} where
 
   insert-left : (g : ℕ) (v : X) (ms bs : List (ℕ × X)) → Rises (suc g) bs → insert g v (ms ++ bs) ≡ insert g v ms ++ bs
   insert-left g v [] [] r = refl
-  insert-left g v [] (b ∷ bs) r = ap (λ t. cond t (b ∷ insert g v bs) ((g, v) ∷ b ∷ bs)) (le-ltb b.0 g (omega (arith, r.0)))
+  insert-left g v [] (b ∷ bs) r = ap (λ t. cond t (b ∷ insert g v bs) ((g, v) ∷ b ∷ bs))
+      (le-ltb b.0 g (omega (arith, r.0)))
   insert-left g v (m ∷ ms) bs r =
-      elim (nat_lt m.0 g) as (λ t. cond t (m ∷ insert g v (ms ++ bs)) ((g, v) ∷ m ∷ (ms ++ bs)) ≡ cond t (m ∷ insert g v ms) ((g, v) ∷ m ∷ ms) ++ bs) [
+      elim (nat_lt m.0 g) as (λ t. cond t (m ∷ insert g v (ms ++ bs)) ((g, v) ∷ m ∷ (ms ++ bs)) ≡ cond t
+      (m ∷ insert g v ms) ((g, v) ∷ m ∷ ms) ++ bs) [
         | true ↦ ap (λ (zs : List (ℕ × X)). m ∷ zs) (insert-left g v ms bs r)
         | false ↦ refl
       ]
 
-  pub insert-middle : (g : ℕ) (v : X) (us ms bs : List (ℕ × X)) → AllBelow g us → Rises (suc g) bs → insert g v (us ++ (ms ++ bs)) ≡ us ++ (insert g v ms ++ bs)
+  pub insert-middle : (g : ℕ) (v : X) (us ms bs : List (ℕ × X)) → AllBelow g us → Rises (suc g) bs
+      → insert g v (us ++ (ms ++ bs)) ≡ us ++ (insert g v ms ++ bs)
   insert-middle g v [] ms bs u r = insert-left g v ms bs r
   insert-middle g v (a ∷ us) ms bs u r =
       ap (λ t. cond t (a ∷ insert g v (us ++ (ms ++ bs))) ((g, v) ∷ a ∷ (us ++ (ms ++ bs)))) (lt-ltb a.0 g u.0)
@@ -87,38 +92,45 @@ module _ {X : Type 0} where
 
   pub insert-length : (g : ℕ) (v : X) (es : List (ℕ × X)) → length (insert g v es) ≡ suc (length es)
   insert-length g v [] = refl
-  insert-length g v (e ∷ es) = elim (nat_lt e.0 g) as (λ t. length (cond t (e ∷ insert g v es) ((g, v) ∷ e ∷ es)) ≡ suc (suc (length es))) [
-    | true ↦ ap suc (insert-length g v es)
-    | false ↦ refl
-  ]
+  insert-length g v (e ∷ es) = elim (nat_lt e.0 g) as (λ t. length (cond t (e ∷ insert g v es) ((g, v) ∷ e ∷ es)) ≡ suc
+      (suc (length es))) [
+        | true ↦ ap suc (insert-length g v es)
+        | false ↦ refl
+      ]
 
   -- ---- one entry less
 
   only-append : (p : ℕ → Bool) (es fs : List (ℕ × X)) → only p (es ++ fs) ≡ only p es ++ only p fs
   only-append p [] fs = refl
-  only-append p (e ∷ es) fs = elim (p e.0) as (λ b. cond b (e ∷ only p (es ++ fs)) (only p (es ++ fs)) ≡ cond b (e ∷ only p es) (only p es) ++ only p fs) [
-    | true ↦ ap (λ (zs : List (ℕ × X)). e ∷ zs) (only-append p es fs)
-    | false ↦ only-append p es fs
-  ]
+  only-append p (e ∷ es) fs = elim (p e.0) as (λ b. cond b (e ∷ only p (es ++ fs)) (only p (es ++ fs)) ≡ cond b
+      (e ∷ only p es) (only p es) ++ only p fs) [
+        | true ↦ ap (λ (zs : List (ℕ × X)). e ∷ zs) (only-append p es fs)
+        | false ↦ only-append p es fs
+      ]
 
   pub only-length : (p : ℕ → Bool) (es : List (ℕ × X)) → length (only p es) ≤ length es
   only-length p [] = omega arith
-  only-length p (e ∷ es) = let h = only-length p es in elim (p e.0) as (λ b. length (cond b (e ∷ only p es) (only p es)) ≤ suc (length es)) [
-    | true ↦ omega (arith, h)
-    | false ↦ omega (arith, h)
-  ]
+  only-length p (e ∷ es) = let h = only-length p
+      es in elim (p e.0) as (λ b. length (cond b (e ∷ only p es) (only p es)) ≤ suc (length es)) [
+        | true ↦ omega (arith, h)
+        | false ↦ omega (arith, h)
+      ]
 
   pub only-under : (g : ℕ) (es : List (ℕ × X)) → AllBelow g es → only (λ h. not (h == g)) es ≡ es
   only-under g [] a = refl
   only-under g (e ∷ es) a =
-      ap (λ b. cond (not b) (e ∷ only (λ h. not (h == g)) es) (only (λ h. not (h == g)) es)) (ne_eqb e.0 g (λ q. omega (arith, a.0, q)))
+      ap (λ b. cond (not b) (e ∷ only (λ h. not (h == g)) es) (only (λ h. not (h == g)) es))
+      (ne_eqb e.0 g (λ q. omega (arith, a.0, q)))
       ∙ ap (λ (zs : List (ℕ × X)). e ∷ zs) (only-under g es a.1)
 
-  pub only-middle : (g : ℕ) (us ms bs : List (ℕ × X)) → AllBelow g us → Rises (suc g) bs → only (λ h. not (h == g)) (us ++ (ms ++ bs)) ≡ us ++ (only (λ h. not (h == g)) ms ++ bs)
+  pub only-middle : (g : ℕ) (us ms bs : List (ℕ × X)) → AllBelow g us → Rises (suc g) bs
+      → only (λ h. not (h == g)) (us ++ (ms ++ bs)) ≡ us ++ (only (λ h. not (h == g)) ms ++ bs)
   only-middle g us ms bs u r =
       only-append (λ h. not (h == g)) us (ms ++ bs)
       ∙ ap (λ (zs : List (ℕ × X)). zs ++ only (λ h. not (h == g)) (ms ++ bs)) (only-under g us u)
-      ∙ ap (λ (zs : List (ℕ × X)). us ++ zs) (only-append (λ h. not (h == g)) ms bs ∙ ap (λ (zs : List (ℕ × X)). only (λ h. not (h == g)) ms ++ zs) (only_below g (suc g) bs (omega arith) r))
+      ∙ ap (λ (zs : List (ℕ × X)). us ++ zs)
+      (only-append (λ h. not (h == g)) ms bs
+      ∙ ap (λ (zs : List (ℕ × X)). only (λ h. not (h == g)) ms ++ zs) (only_below g (suc g) bs (omega arith) r))
 
 -- ---- flags
 
@@ -126,18 +138,21 @@ module _ {X : Type 0} where
   pub kept-length : (bits : List Bool) (xs : List X) → length (kept bits xs) ≤ length xs
   kept-length [] xs = omega arith
   kept-length (b ∷ bits) [] = omega arith
-  kept-length (b ∷ bits) (x ∷ xs) = let h = kept-length bits xs in elim b as (λ c. length (cond c (x ∷ kept bits xs) (kept bits xs)) ≤ suc (length xs)) [
-    | true ↦ omega (arith, h)
-    | false ↦ omega (arith, h)
-  ]
+  kept-length (b ∷ bits) (x ∷ xs) = let h =
+      kept-length bits xs in elim b as (λ c. length (cond c (x ∷ kept bits xs) (kept bits xs)) ≤ suc (length xs)) [
+        | true ↦ omega (arith, h)
+        | false ↦ omega (arith, h)
+      ]
 
-  pub left-split : (m : ℕ) (bits : List Bool) (xs ys : List X) → m ≡ length xs → left_out bits (xs ++ ys) ≡ left_out (take m bits) xs ++ left_out (drop m bits) ys
+  pub left-split : (m : ℕ) (bits : List Bool) (xs ys : List X) → m ≡ length xs
+      → left_out bits (xs ++ ys) ≡ left_out (take m bits) xs ++ left_out (drop m bits) ys
   left-split zero bits [] ys e = refl
   left-split zero bits (x ∷ xs) ys e = absurd (omega (arith, e))
   left-split (suc m) bits [] ys e = absurd (omega (arith, e))
   left-split (suc m) [] (x ∷ xs) ys e = refl
   left-split (suc m) (b ∷ bits) (x ∷ xs) ys e =
-      elim b as (λ c. cond c (left_out bits (xs ++ ys)) (x ∷ left_out bits (xs ++ ys)) ≡ cond c (left_out (take m bits) xs) (x ∷ left_out (take m bits) xs) ++ left_out (drop m bits) ys) [
+      elim b as (λ c. cond c (left_out bits (xs ++ ys)) (x ∷ left_out bits (xs ++ ys)) ≡ cond c
+      (left_out (take m bits) xs) (x ∷ left_out (take m bits) xs) ++ left_out (drop m bits) ys) [
         | true ↦ left-split m bits xs ys (omega (arith, e))
         | false ↦ ap (λ (zs : List X). x ∷ zs) (left-split m bits xs ys (omega (arith, e)))
       ]

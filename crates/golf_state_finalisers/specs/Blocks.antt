@@ -1,5 +1,7 @@
--- Blocks of finalisers: each has a top, and its objects' numbers are up to its top and above the top of the block before.
-use Rattle.std.specs.Prelude.{◌≡◌, ◌<◌, ◌≤◌, ◌^◌, ℕ, suc, Bool, true, false, List, [], ◌∷◌, map, length, Option, Some, None, nat_lt}
+-- Blocks of finalisers: each has a top, and its objects' numbers are up to its top and above the top of the block
+-- before.
+use Rattle.std.specs.Prelude.{◌≡◌, ◌<◌, ◌≤◌, ◌^◌, ℕ, suc, Bool, true, false, List, [], ◌∷◌, map, length, Option, Some}
+use Rattle.std.specs.Prelude.{None, nat_lt}
 use Rattle.golf_theory.specs.Maps.{Rises, AllBelow}
 use Rattle.golf_model.specs.State.{not_empty}
 use Rattle.golf_state_goroutines.specs.Blocks.{gather}

@@ -3,7 +3,8 @@
 //! Each block has a top: no object in it has a greater number. Each object of a later block has a greater
 //! number than that. The top stays when finalisers are taken.
 
-ghost use Rattle.std.specs.Prelude.{◌≡◌, ◌<◌, ◌+◌, ◌-◌, ◌∷◌, ◌++◌, [], ◌==◌, None, Some, not, length, take, drop, slice_get, option_map, IfOk, OnOk, OnErr};
+ghost use Rattle.std.specs.Prelude.{◌≡◌, ◌<◌, ◌+◌, ◌-◌, ◌∷◌, ◌++◌, [], ◌==◌, None, Some, not, length, take, drop};
+ghost use Rattle.std.specs.Prelude.{slice_get, option_map, IfOk, OnOk, OnErr};
 ghost use Rattle.golf_theory.specs.Maps.{find, insert, only, Rises};
 ghost use Rattle.golf_heap.specs.Objects.{rank, kept};
 ghost use Rattle.golf_state_finalisers.specs.Blocks.{AreBlocks, keyed_blocks};

@@ -8,7 +8,7 @@ use Rattle.golf_theory.specs.Maps.{keys, AllBelow}
 use Rattle.golf_state_goroutines.specs.Places.{plain_entries}
 use Rattle.golf_state_goroutines.specs.Goroutines.{AllUnder}
 use Rattle.golf_state_goroutines.specs.Blocks.{numbers}
-use Rattle.golf_state_goroutines.specs.declared.places.Place.{Place}
+use Rattle.golf_state_goroutines.specs.declared.places.NumberedGoroutine.{NumberedGoroutine}
 
 pub numbers-length : (xs : List GoroutineId) → length (numbers xs) ≡ length xs
 numbers-length xs = length-map xs (λ (g : GoroutineId). g.0)
@@ -21,7 +21,9 @@ pub under-below : {X : Type 0} (n : ℕ) (es : List (ℕ × X)) → AllUnder n (
 under-below n [] a = tt
 under-below n (e ∷ es) a = (a.0, under-below n es a.1)
 
-pub keys-push : (ps : List Place) (p : Place) → keys (plain_entries (ps ++ p ∷ [])) ≡ keys (plain_entries ps) ++ p.number ∷ []
+pub keys-push : (ps : List NumberedGoroutine) (p : NumberedGoroutine)
+    → keys (plain_entries (ps ++ p ∷ [])) ≡ keys (plain_entries ps)
+    ++ p.number ∷ []
 keys-push [] p = refl
 keys-push (q ∷ ps) p = ap (λ (zs : List ℕ). q.number ∷ zs) (keys-push ps p)
 

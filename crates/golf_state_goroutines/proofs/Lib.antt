@@ -1,4 +1,3 @@
-pub mod Keyed
 pub mod Rises
 pub mod Numbered
 pub mod Listing

@@ -1,16 +1,11 @@
 -- The list of goroutines as a list of numbers.
 -- For: `numbers` (golf_state_goroutines/specs/Blocks.antt) and `put_in`, `leave_out` (src/rising.rt)
 -- By: induction over the list of goroutines, and over how many of them are taken or dropped
-use Rattle.std.proofs.Common.{◌≡◌, ℕ, zero, suc, ◌<◌, List, [], ◌∷◌, ◌++◌, length, take, drop, get_or, refl, sym, ap, ◌∙◌, arith}
+use Rattle.std.proofs.Common.{◌≡◌, ℕ, zero, suc, List, [], ◌∷◌, ◌++◌, take, drop, refl, ap, ◌∙◌}
 use Rattle.std.specs.Prelude.{insert, remove}
 use Rattle.std.proofs.lemmas.List.{map-append}
 use Rattle.golf_base.specs.declared.ids.GoroutineId.{GoroutineId}
 use Rattle.golf_state_goroutines.specs.Blocks.{numbers}
-
-pub number-at : (xs : List GoroutineId) (i : ℕ) (x : GoroutineId) → i < length xs → x ≡ get_or xs i x → get_or (numbers xs) i 0 ≡ x.0
-number-at [] i x l h = absurd (omega arith)
-number-at (y ∷ ys) zero x l h = ap (λ (g : GoroutineId). g.0) (sym h)
-number-at (y ∷ ys) (suc i) x l h = number-at ys i x (omega arith) h
 
 numbers-take : (n : ℕ) (xs : List GoroutineId) → numbers (take n xs) ≡ take n (numbers xs)
 numbers-take zero xs = refl
@@ -22,7 +17,8 @@ numbers-drop zero xs = refl
 numbers-drop (suc n) [] = refl
 numbers-drop (suc n) (x ∷ xs) = numbers-drop n xs
 
-pub numbers-insert : (xs : List GoroutineId) (i : ℕ) (g : GoroutineId) → numbers (insert xs i g) ≡ insert (numbers xs) i g.0
+pub numbers-insert : (xs : List GoroutineId) (i : ℕ) (g : GoroutineId)
+    → numbers (insert xs i g) ≡ insert (numbers xs) i g.0
 numbers-insert xs i g =
     map-append (λ (h : GoroutineId). h.0) (take i xs) (g ∷ drop i xs)
     ∙ ap (λ (ys : List ℕ). ys ++ g.0 ∷ numbers (drop i xs)) (numbers-take i xs)

@@ -1,7 +1,8 @@
 -- Numbers that rise within bounds.
 -- For: `RisesIn` (golf_state_goroutines/specs/Blocks.antt)
 -- By: induction over the list of numbers or of entries
-use Rattle.std.proofs.Common.{◌≡◌, ℕ, suc, ◌+◌, ◌<◌, ◌≤◌, Bool, true, false, cond, List, [], ◌∷◌, ◌++◌, length, filter, nat_lt, refl, sym, arith}
+use Rattle.std.proofs.Common.{◌≡◌, ℕ, suc, ◌+◌, ◌<◌, ◌≤◌, Bool, true, false, cond, List, [], ◌∷◌, ◌++◌, length, filter}
+use Rattle.std.proofs.Common.{nat_lt, refl, sym, arith}
 use Rattle.std.proofs.lemmas.Bool.{ltb-true, ltb-false}
 use Rattle.golf_theory.specs.Maps.{keys, keys_where, Rises}
 use Rattle.golf_theory.specs.Stored.{placed}
@@ -32,7 +33,8 @@ in-rises j lo hi (e ∷ es) l r = (omega (arith, l, r.0), in-rises (suc e.0) (su
 
 pub in-under : (n lo hi : ℕ) (xs : List ℕ) → hi ≤ n → RisesIn lo hi xs → AllUnder n xs
 in-under n lo hi [] l r = tt
-in-under n lo hi (x ∷ xs) l r = let h = in-length (suc x) hi xs r.1 in (omega (arith, h, l), in-under n (suc x) hi xs l r.1)
+in-under n lo hi (x ∷ xs) l r = let h = in-length
+    (suc x) hi xs r.1 in (omega (arith, h, l), in-under n (suc x) hi xs l r.1)
 
 pub in-filter : (p : ℕ → Bool) (lo hi : ℕ) (xs : List ℕ) → RisesIn lo hi xs → RisesIn lo hi (filter p xs)
 in-filter p lo hi [] r = r
@@ -49,38 +51,49 @@ in-kept (b ∷ bs) lo hi (x ∷ xs) r = elim b as (λ b. RisesIn lo hi (cond b (
   | false ↦ in-less lo (suc x) hi (kept bs xs) (omega (arith, r.0)) (in-kept bs (suc x) hi xs r.1)
 ]
 
-pub in-keys_where : {X : Type 0} (p : ℕ → X → Bool) (lo hi : ℕ) (es : List (ℕ × X)) → RisesIn lo hi (keys es) → RisesIn lo hi (keys_where p es)
+pub in-keys_where : {X : Type 0} (p : ℕ → X → Bool) (lo hi : ℕ) (es : List (ℕ × X)) → RisesIn lo hi (keys es)
+    → RisesIn lo hi (keys_where p es)
 in-keys_where p lo hi [] r = r
-in-keys_where p lo hi (e ∷ es) r = elim (p e.0 e.1) as (λ b. RisesIn lo hi (cond b (e.0 ∷ keys_where p es) (keys_where p es))) [
-  | true ↦ (r.0, in-keys_where p (suc e.0) hi es r.1)
-  | false ↦ in-less lo (suc e.0) hi (keys_where p es) (omega (arith, r.0)) (in-keys_where p (suc e.0) hi es r.1)
-]
+in-keys_where p lo hi (e ∷ es) r = elim (p e.0 e.1) as (λ b. RisesIn lo hi
+    (cond b (e.0 ∷ keys_where p es) (keys_where p es))) [
+      | true ↦ (r.0, in-keys_where p (suc e.0) hi es r.1)
+      | false ↦ in-less lo (suc e.0) hi (keys_where p es) (omega (arith, r.0)) (in-keys_where p (suc e.0) hi es r.1)
+    ]
 
 pub in-append : (lo mid hi : ℕ) (xs ys : List ℕ) → RisesIn lo mid xs → RisesIn mid hi ys → RisesIn lo hi (xs ++ ys)
 in-append lo mid hi [] ys r s = in-less lo mid hi ys r s
 in-append lo mid hi (x ∷ xs) ys r s = (r.0, in-append (suc x) mid hi xs ys r.1 s)
 
-pub in-push : (lo hi g : ℕ) (xs : List ℕ) → RisesIn lo hi xs → AllUnder g xs → lo ≤ g → g < hi → RisesIn lo hi (xs ++ g ∷ [])
+pub in-push : (lo hi g : ℕ) (xs : List ℕ) → RisesIn lo hi xs → AllUnder g xs → lo ≤ g → g < hi
+    → RisesIn lo hi (xs ++ g ∷ [])
 in-push lo hi g [] r u l h = (l, omega (arith, h))
 in-push lo hi g (x ∷ xs) r u l h = (r.0, in-push (suc x) hi g xs r.1 u.1 (omega (arith, u.0)) h)
 
 other : (x g : ℕ) → g ≤ x → (x ≡ g → ⊥) → g < x
 other x g l n = omega (arith, l, n)
 
-pub in-placed : (lo hi g : ℕ) (xs : List ℕ) → RisesIn lo hi xs → IsNone g xs → lo ≤ g → g < hi → RisesIn lo hi (placed g xs)
+pub in-placed : (lo hi g : ℕ) (xs : List ℕ) → RisesIn lo hi xs → IsNone g xs → lo ≤ g → g < hi
+    → RisesIn lo hi (placed g xs)
 in-placed lo hi g [] r n l h = (l, omega (arith, h))
-in-placed lo hi g (x ∷ xs) r n l h = elim (nat_lt g x) as (λ t. nat_lt g x ≡ t → RisesIn lo hi (cond t (g ∷ x ∷ xs) (x ∷ placed g xs))) [
-  | true ↦ λ t. let a = ltb-true g x t in (l, (omega (arith, a), r.1))
-  | false ↦ λ t. let a = ltb-false g x t in let b = other g x a (λ e. n.0 (sym e)) in (r.0, in-placed (suc x) hi g xs r.1 n.1 (omega (arith, b)) h)
-] refl
+in-placed lo hi g (x ∷ xs) r n l h = elim (nat_lt g x) as (λ t. nat_lt g x ≡ t
+    → RisesIn lo hi (cond t (g ∷ x ∷ xs) (x ∷ placed g xs))) [
+      | true ↦ λ t. let a = ltb-true g x t in (l, (omega (arith, a), r.1))
+      | false ↦ λ t. let a = ltb-false g x t in let b =
+          other g x a (λ e. n.0 (sym e)) in (r.0, in-placed (suc x) hi g xs r.1 n.1 (omega (arith, b)) h)
+    ] refl
 
 pub placed-length : (g : ℕ) (xs : List ℕ) → length (placed g xs) ≡ length xs + 1
 placed-length g [] = refl
-placed-length g (x ∷ xs) = let h = placed-length g xs in elim (nat_lt g x) as (λ t. length (cond t (g ∷ x ∷ xs) (x ∷ placed g xs)) ≡ suc (length xs) + 1) [
-  | true ↦ omega arith
-  | false ↦ omega (arith, h)
-]
+placed-length g (x ∷ xs) = let h = placed-length g
+    xs in elim (nat_lt g x) as (λ t. length (cond t (g ∷ x ∷ xs) (x ∷ placed g xs)) ≡ suc (length xs) + 1) [
+      | true ↦ omega arith
+      | false ↦ omega (arith, h)
+    ]
 
 -- there is room for one that is none of them
 pub in-room : (lo hi g : ℕ) (xs : List ℕ) → RisesIn lo hi xs → IsNone g xs → lo ≤ g → g < hi → lo + length xs < hi
-in-room lo hi g xs r n l h = omega (arith, in-length lo hi (placed g xs) (in-placed lo hi g xs r n l h), placed-length g xs)
+in-room lo hi g xs r n l h = omega (
+  arith,
+  in-length lo hi (placed g xs) (in-placed lo hi g xs r n l h),
+  placed-length g xs,
+)

@@ -1,7 +1,8 @@
 -- What is read from a list.
 -- For: src/retaining.rt, src/roster.rt
 -- By: induction over the list
-use Rattle.std.proofs.Common.{◌≡◌, ℕ, zero, suc, ◌<◌, List, [], ◌∷◌, length, Option, Some, refl, arith, slice_get, slice_set}
+use Rattle.std.proofs.Common.{◌≡◌, ℕ, zero, suc, ◌<◌, List, [], ◌∷◌, length, Option, Some, refl, arith, slice_get}
+use Rattle.std.proofs.Common.{slice_set}
 
 module _ {X : Type 0} where
   pub set-here : (xs : List X) (i : ℕ) (x : X) → i < length xs → slice_get (slice_set xs i x) i ≡ Some x

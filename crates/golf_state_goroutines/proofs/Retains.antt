@@ -1,22 +1,27 @@
 -- Goroutines that are taken away together, block by block.
--- For: `kept` (golf_heap/specs/Objects.antt), `running_of` (golf_state_goroutines/specs/Places.antt) and src/retaining.rt
+-- For: `kept` (golf_heap/specs/Objects.antt), `running_of` (golf_state_goroutines/specs/Places.antt) and
+-- src/retaining.rt
 -- By: induction over a list
-use Rattle.std.proofs.Common.{◌≡◌, ℕ, zero, suc, Bool, true, false, cond, List, [], ◌∷◌, ◌++◌, length, take, drop, refl, ap, arith}
+use Rattle.std.proofs.Common.{◌≡◌, ℕ, zero, suc, Bool, true, false, cond, List, [], ◌∷◌, ◌++◌, length, take, drop, refl}
+use Rattle.std.proofs.Common.{ap, arith}
 use Rattle.golf_heap.specs.Objects.{kept}
 use Rattle.golf_model.specs.Views.{GoroutineView}
 use Rattle.golf_model.specs.State.{is_running}
 use Rattle.golf_state_goroutines.specs.Places.{running_of}
 
 module _ {X : Type 0} where
-  pub kept-split : (m : ℕ) (bits : List Bool) (xs ys : List X) → m ≡ length xs → kept bits (xs ++ ys) ≡ kept (take m bits) xs ++ kept (drop m bits) ys
+  pub kept-split : (m : ℕ) (bits : List Bool) (xs ys : List X) → m ≡ length xs
+      → kept bits (xs ++ ys) ≡ kept (take m bits) xs ++ kept (drop m bits) ys
   kept-split zero bits [] ys e = refl
   kept-split zero bits (x ∷ xs) ys e = absurd (omega (arith, e))
   kept-split (suc m) bits [] ys e = absurd (omega (arith, e))
   kept-split (suc m) [] (x ∷ xs) ys e = refl
-  kept-split (suc m) (b ∷ bits) (x ∷ xs) ys e = elim b as (λ b. cond b (x ∷ kept bits (xs ++ ys)) (kept bits (xs ++ ys)) ≡ cond b (x ∷ kept (take m bits) xs) (kept (take m bits) xs) ++ kept (drop m bits) ys) [
-    | true ↦ ap (λ (zs : List X). x ∷ zs) (kept-split m bits xs ys (omega (arith, e)))
-    | false ↦ kept-split m bits xs ys (omega (arith, e))
-  ]
+  kept-split (suc m) (b ∷ bits) (x ∷ xs) ys e =
+      elim b as (λ b. cond b (x ∷ kept bits (xs ++ ys)) (kept bits (xs ++ ys)) ≡ cond b (x ∷ kept (take m bits) xs)
+      (kept (take m bits) xs) ++ kept (drop m bits) ys) [
+        | true ↦ ap (λ (zs : List X). x ∷ zs) (kept-split m bits xs ys (omega (arith, e)))
+        | false ↦ kept-split m bits xs ys (omega (arith, e))
+      ]
 
   pub kept-none : (bits : List Bool) (xs : List X) → xs ≡ [] → kept bits xs ≡ []
   kept-none [] xs e = refl
@@ -25,7 +30,8 @@ module _ {X : Type 0} where
 
 pub running-append : (es fs : List (ℕ × GoroutineView)) → running_of (es ++ fs) ≡ running_of es ++ running_of fs
 running-append [] fs = refl
-running-append (e ∷ es) fs = elim (is_running e.1.mode) as (λ b. cond b (e.0 ∷ running_of (es ++ fs)) (running_of (es ++ fs)) ≡ cond b (e.0 ∷ running_of es) (running_of es) ++ running_of fs) [
-  | true ↦ ap (λ (zs : List ℕ). e.0 ∷ zs) (running-append es fs)
-  | false ↦ running-append es fs
-]
+running-append (e ∷ es) fs = elim (is_running e.1.mode) as (λ b. cond b (e.0 ∷ running_of (es ++ fs))
+    (running_of (es ++ fs)) ≡ cond b (e.0 ∷ running_of es) (running_of es) ++ running_of fs) [
+      | true ↦ ap (λ (zs : List ℕ). e.0 ∷ zs) (running-append es fs)
+      | false ↦ running-append es fs
+    ]

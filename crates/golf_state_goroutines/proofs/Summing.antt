@@ -1,7 +1,8 @@
 -- How many run in each 64 blocks, once one block has changed.
 -- For: `HasSums` (golf_state_goroutines/specs/Sums.antt)
 -- By: cases of the block's number and of the 64 blocks
-use Rattle.std.proofs.Common.{◌≡◌, ℕ, zero, suc, ◌+◌, ◌*◌, ◌/◌, ◌<◌, ◌≤◌, List, [], ◌∷◌, ◌++◌, length, take, get_or, Some, inl, inr, refl, sym, ap, ◌∙◌, arith, slice_get, slice_set}
+use Rattle.std.proofs.Common.{◌≡◌, ℕ, zero, suc, ◌+◌, ◌*◌, ◌/◌, ◌<◌, ◌≤◌, List, [], ◌∷◌, ◌++◌, length, take, get_or}
+use Rattle.std.proofs.Common.{Some, inl, inr, refl, sym, ap, ◌∙◌, arith, slice_get, slice_set}
 use Rattle.std.proofs.lemmas.Bool.{cases_lt}
 use Rattle.std.proofs.lemmas.List.{length-map, length-set, length-append, take-take, take_all, length-take-le}
 use Rattle.golf_base.specs.declared.ids.GoroutineId.{GoroutineId}
@@ -53,11 +54,13 @@ pub inside : (i n m : ℕ) → i < n → n ≤ 64 * m → i / 64 < m
 inside i n m a b = omega (arith, a, b)
 
 -- one block changes
-pub sums-set : (bs : List Block) (ns : List ℕ) (i d e v : ℕ) (b c : Block) → HasSums bs ns → slice_get bs i ≡ Some b → i < length bs
+pub sums-set : (bs : List Block) (ns : List ℕ) (i d e v : ℕ) (b c : Block) → HasSums bs ns → slice_get bs i ≡ Some b
+    → i < length bs
     → length c.running.items + e ≡ length b.running.items + d → v + e ≡ get_or ns (i / 64) 0 + d
     → HasSums (slice_set bs i c) (slice_set ns (i / 64) v)
 sums-set bs ns i d e v b c s h l is vs = record {
-  each = sums-change (runs_before bs) (runs_before (slice_set bs i c)) ns i d e v s.each (inside i (length bs) (length ns) l s.enough)
+  each = sums-change (runs_before bs) (runs_before (slice_set bs i c)) ns i d e v s.each
+      (inside i (length bs) (length ns) l s.enough)
       (λ n k. ap (λ (xs : List ℕ). length xs) (gather-before (λ (b : Block). numbers b.running.items) bs i n c k))
       (λ n k.
       let r = gather-change (λ (b : Block). numbers b.running.items) bs i n b c k h in
@@ -68,7 +71,8 @@ sums-set bs ns i d e v b c s h l is vs = record {
 }
 
 -- those that run there do not change
-pub sums-same : (bs : List Block) (ns : List ℕ) (i : ℕ) (b c : Block) → HasSums bs ns → slice_get bs i ≡ Some b → numbers c.running.items ≡ numbers b.running.items → HasSums (slice_set bs i c) ns
+pub sums-same : (bs : List Block) (ns : List ℕ) (i : ℕ) (b c : Block) → HasSums bs ns → slice_get bs i ≡ Some b
+    → numbers c.running.items ≡ numbers b.running.items → HasSums (slice_set bs i c) ns
 sums-same bs ns i b c s h e = record {
   each = λ j.
       let x = same (64 * j + 64) in
@@ -88,7 +92,8 @@ sums-same bs ns i b c s h e = record {
 
 -- one sum is at most all
 pub sum-few : (bs : List Block) (ns : List ℕ) (j : ℕ) → HasSums bs ns → get_or ns j 0 ≤ length (running_in bs)
-sum-few bs ns j s = let a = s.each j in let b = gather-less (λ (b : Block). numbers b.running.items) bs (64 * j + 64) in omega (arith, a, b)
+sum-few bs ns j s = let a = s.each j in let b =
+    gather-less (λ (b : Block). numbers b.running.items) bs (64 * j + 64) in omega (arith, a, b)
 
 -- what is read within a list does not depend on what stands past its end
 pub read-any : (ns : List ℕ) (i d v : ℕ) → i < length ns → v ≡ get_or ns i d → v ≡ get_or ns i 0
@@ -101,20 +106,26 @@ runs-none zero = refl
 runs-none (suc n) = refl
 
 -- one block more is summed up
-pub sums-more : (bs : List Block) (ns : List ℕ) (i v : ℕ) (b : Block) → AreSums (runs_before (take i bs)) ns → slice_get bs i ≡ Some b → i < length bs → i / 64 < length ns
-    → v ≡ get_or ns (i / 64) 0 + length b.running.items → AreSums (runs_before (take (i + 1) bs)) (slice_set ns (i / 64) v)
+pub sums-more : (bs : List Block) (ns : List ℕ) (i v : ℕ) (b : Block) → AreSums (runs_before (take i bs)) ns
+    → slice_get bs i ≡ Some b → i < length bs → i / 64 < length ns
+    → v ≡ get_or ns (i / 64) 0 + length b.running.items
+    → AreSums (runs_before (take (i + 1) bs)) (slice_set ns (i / 64) v)
 sums-more bs ns i v b a h l within is =
     sums-change (runs_before (take i bs)) (runs_before (take (i + 1) bs)) ns i (length b.running.items) 0 v a within
-    (λ n k. ap (λ (cs : List Block). length (running_in cs)) (take-take n (i + 1) bs (omega (arith, k)) ∙ sym (take-take n i bs k)))
+    (λ n k. ap (λ (cs : List Block). length (running_in cs))
+    (take-take n (i + 1) bs (omega (arith, k)) ∙ sym (take-take n i bs k)))
     (λ n k.
-    let x = ap (λ (cs : List Block). length (running_in cs)) (take_all n (take (i + 1) bs) (omega (arith, k, length-take-le (i + 1) bs (omega (arith, l))))) in
-    let y = ap (λ (cs : List Block). length (running_in cs)) (take_all n (take i bs) (omega (arith, k, length-take-le i bs (omega (arith, l))))) in
+    let x = ap (λ (cs : List Block). length (running_in cs))
+    (take_all n (take (i + 1) bs) (omega (arith, k, length-take-le (i + 1) bs (omega (arith, l))))) in
+    let y = ap (λ (cs : List Block). length (running_in cs))
+    (take_all n (take i bs) (omega (arith, k, length-take-le i bs (omega (arith, l))))) in
     let z = gather-next (λ (b : Block). numbers b.running.items) bs i b h in
     omega (arith, x, y, z, length-map b.running.items (λ (g : GoroutineId). g.0)))
     (omega (arith, is))
 
 -- a sum, and one block's more, are at most all
-pub sum-next : (bs : List Block) (ns : List ℕ) (i : ℕ) (b : Block) → AreSums (runs_before (take i bs)) ns → slice_get bs i ≡ Some b → get_or ns (i / 64) 0 + length b.running.items ≤ length (running_in bs)
+pub sum-next : (bs : List Block) (ns : List ℕ) (i : ℕ) (b : Block) → AreSums (runs_before (take i bs)) ns
+    → slice_get bs i ≡ Some b → get_or ns (i / 64) 0 + length b.running.items ≤ length (running_in bs)
 sum-next bs ns i b a h =
     let j = i / 64 in
     let x = a j in
@@ -124,12 +135,15 @@ sum-next bs ns i b a h =
     omega (arith, x, y, z, w, length-map b.running.items (λ (g : GoroutineId). g.0))
 
 -- a block in which nobody runs, after the others
-pub sums-push : (bs : List Block) (ns : List ℕ) (c : Block) → AreSums (runs_before bs) ns → c.running.items ≡ [] → length bs + 1 ≤ 64 * length ns → HasSums (bs ++ c ∷ []) ns
+pub sums-push : (bs : List Block) (ns : List ℕ) (c : Block) → AreSums (runs_before bs) ns → c.running.items ≡ []
+    → length bs + 1 ≤ 64 * length ns → HasSums (bs ++ c ∷ []) ns
 sums-push bs ns c a e l = record {
   each = λ j.
       let none = ap (λ (gs : List GoroutineId). numbers gs) e in
-      let x = ap (λ (xs : List ℕ). length xs) (gather-empty (λ (b : Block). numbers b.running.items) bs (64 * j + 64) c none) in
-      let y = ap (λ (xs : List ℕ). length xs) (gather-empty (λ (b : Block). numbers b.running.items) bs (64 * j) c none) in
+      let x = ap (λ (xs : List ℕ). length xs)
+      (gather-empty (λ (b : Block). numbers b.running.items) bs (64 * j + 64) c none) in
+      let y = ap (λ (xs : List ℕ). length xs)
+      (gather-empty (λ (b : Block). numbers b.running.items) bs (64 * j) c none) in
       omega (arith, x, y, a j);
   enough = omega (arith, length-append bs (c ∷ []), l);
 }

@@ -1,11 +1,12 @@
 -- Blocks of goroutines: a block with the key k has those with numbers from 256 k on, below 256 (k + 1).
-use Rattle.std.specs.Prelude.{◌≡◌, ◌<◌, ◌≤◌, ◌^◌, ◌*◌, ◌/◌, ◌+◌, ℕ, suc, Bool, true, false, ◌||◌, ◌==◌, List, [], ◌∷◌, ◌++◌, map, length, take, Option, Some, None, vec_capacity, slice_get}
+use Rattle.std.specs.Prelude.{◌≡◌, ◌<◌, ◌≤◌, ◌^◌, ◌*◌, ◌/◌, ◌+◌, ℕ, suc, Bool, true, false, ◌||◌, ◌==◌, List, [], ◌∷◌}
+use Rattle.std.specs.Prelude.{◌++◌, map, length, take, Option, Some, None, vec_capacity, slice_get}
 use Rattle.golf_base.specs.declared.ids.GoroutineId.{GoroutineId}
 use Rattle.golf_theory.specs.Maps.{keys}
 use Rattle.golf_heap.specs.Objects.{rank}
 use Rattle.golf_model.specs.State.{not_empty}
 use Rattle.golf_state_goroutines.specs.Places.{plain_entries}
-use Rattle.golf_state_goroutines.specs.declared.places.Place.{Place}
+use Rattle.golf_state_goroutines.specs.declared.places.NumberedGoroutine.{NumberedGoroutine}
 use Rattle.golf_state_goroutines.specs.declared.blocks.Block.{Block}
 
 -- the numbers of goroutines
@@ -18,7 +19,7 @@ gather f [] = []
 gather f (x ∷ xs) = f x ++ gather f xs
 
 -- the goroutines of all blocks
-abbrev pub places_in : List Block → List Place
+abbrev pub places_in : List Block → List NumberedGoroutine
 places_in bs = gather (λ b. b.places.items) bs
 
 -- the numbers of those that run, of all blocks

@@ -4,15 +4,15 @@ use Rattle.golf_theory.specs.Stored.{placed, without}
 use Rattle.golf_data.specs.declared.goroutine.Goroutine.{Goroutine}
 use Rattle.golf_heap.specs.Objects.{rank}
 use Rattle.golf_state_goroutines.specs.Places.{plain_entries}
-use Rattle.golf_state_goroutines.specs.declared.places.Place.{Place}
+use Rattle.golf_state_goroutines.specs.declared.places.NumberedGoroutine.{NumberedGoroutine}
 
 -- the goroutines in rising order of number, and the numbers of those that run in rising order
 pub record Goroutines : Type 0 where
-  pub places : List Place
+  pub places : List NumberedGoroutine
   pub running : List ℕ
 
 -- one more, after the others, that runs
-abbrev pub added : Place → Goroutines → Goroutines
+abbrev pub added : NumberedGoroutine → Goroutines → Goroutines
 added p r = record { places = r.places ++ p ∷ []; running = r.running ++ p.number ∷ [] }
 
 -- without the goroutine of this number
@@ -29,7 +29,10 @@ started g r = record r { running = placed g r.running }
 
 -- the goroutine of this number, which is there, becomes this one
 abbrev pub changed : ℕ → Goroutine → Goroutines → Goroutines
-changed g x r = record r { places = slice_set r.places (rank g (plain_entries r.places)) (record { number = g; goroutine = x }) }
+changed g x r = record r {
+  places = slice_set r.places (rank g (plain_entries r.places))
+      (record { number = g; goroutine = x });
+}
 
 -- all numbers are below n
 abbrev pub AllUnder : ℕ → List ℕ → Type 0

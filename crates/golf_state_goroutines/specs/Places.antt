@@ -3,13 +3,13 @@ use Rattle.std.specs.Prelude.{ℕ, Bool, false, not, ◌==◌, ◌&&◌, List, [
 use Rattle.golf_theory.specs.Maps.{keys_where}
 use Rattle.golf_model.specs.Views.{GoroutineView, goroutine_view}
 use Rattle.golf_model.specs.State.{is_running, not_empty}
-use Rattle.golf_state_goroutines.specs.declared.places.Place.{Place}
+use Rattle.golf_state_goroutines.specs.declared.places.NumberedGoroutine.{NumberedGoroutine}
 
-abbrev pub plain_entry : Place → ℕ × GoroutineView
+abbrev pub plain_entry : NumberedGoroutine → ℕ × GoroutineView
 plain_entry p = (p.number, goroutine_view p.goroutine)
 
 -- the goroutines by number
-abbrev pub plain_entries : List Place → List (ℕ × GoroutineView)
+abbrev pub plain_entries : List NumberedGoroutine → List (ℕ × GoroutineView)
 plain_entries ps = map plain_entry ps
 
 -- the numbers of the goroutines that are not blocked, in rising order

@@ -1,6 +1,7 @@
 //! Blocks of goroutines.
 
-ghost use Rattle.std.specs.Prelude.{◌≡◌, ◌≤◌, ◌<◌, ◌+◌, ◌/◌, ◌++◌, ◌∷◌, [], ◌==◌, not, filter, length, IfSome, OnOk, OnErr};
+ghost use Rattle.std.specs.Prelude.{◌≡◌, ◌≤◌, ◌<◌, ◌+◌, ◌/◌, ◌++◌, ◌∷◌, [], ◌==◌, not, filter, length, IfSome, OnOk};
+ghost use Rattle.std.specs.Prelude.{OnErr};
 ghost use Rattle.golf_theory.specs.Stored.{placed, without};
 ghost use Rattle.golf_heap.specs.Objects.{rank, kept};
 ghost use Rattle.golf_theory.specs.Maps.{AllBelow};
@@ -8,7 +9,7 @@ ghost use Rattle.golf_state_goroutines.specs.Places.{plain_entries, running_of};
 ghost use Rattle.golf_state_goroutines.specs.Goroutines.{AllUnder, IsNone};
 ghost use Rattle.golf_state_goroutines.specs.Blocks.{numbers, IsBlock, AreBlocks, keyed_blocks};
 
-use crate::places::{Place, list_running, take_place};
+use crate::places::{NumberedGoroutine, list_running, take_place};
 use crate::rising::{add_last, leave_out, put_in};
 use golf_base::{GoroutineId, Memory};
 use golf_heap::close_up;
@@ -18,7 +19,7 @@ use golf_heap::close_up;
 #[derive(Debug, Drop)]
 pub struct Block {
     pub key: u32,
-    pub places: Vec<Place>,
+    pub places: Vec<NumberedGoroutine>,
     pub running: Vec<GoroutineId>,
 }
 
@@ -94,7 +95,7 @@ pub fn start(block: &mut Block, number: u32)
 }
 
 /// One goroutine more, after the others of the block, that runs.
-pub fn join(block: &mut Block, place: Place) -> Result<(), Memory>
+pub fn join(block: &mut Block, place: NumberedGoroutine) -> Result<(), Memory>
     requires block { IsBlock block.old }
     requires key { place.number / 256 ≡ block.old.key }
     requires below { AllBelow place.number (plain_entries block.old.places.items) }

@@ -1,6 +1,6 @@
 //! The goroutines of a running program by number, and the numbers of those that run.
 //!
-//! - `Place`: a goroutine and its number.
+//! - `NumberedGoroutine`: a goroutine and its number.
 //! - `Roster`: all goroutines in rising order of number, in blocks of at most 256. One goroutine that
 //!   ends, blocks or is woken moves at most the others of its block.
 #![tactic(auto)]
@@ -16,5 +16,5 @@ mod roster;
 mod walking;
 
 pub use blocks::Block;
-pub use places::{Place, is_running, place_of};
+pub use places::{NumberedGoroutine, is_running, place_of};
 pub use roster::Roster;

@@ -4,7 +4,8 @@ ghost use Rattle.std.specs.Prelude.{◌≡◌, ◌≤◌, ◌<◌, ◌+◌, ◌-
 ghost use Rattle.golf_theory.specs.Maps.{AllBelow};
 ghost use Rattle.golf_state_goroutines.specs.Places.{plain_entries};
 ghost use Rattle.golf_state_goroutines.specs.Goroutines.{AllUnder};
-ghost use Rattle.golf_state_goroutines.specs.Blocks.{AreBlocks, AreFull, is_full, has_key, keyed_blocks, places_in, running_in};
+ghost use Rattle.golf_state_goroutines.specs.Blocks.{AreBlocks, AreFull, is_full, has_key, keyed_blocks, places_in};
+ghost use Rattle.golf_state_goroutines.specs.Blocks.{running_in};
 ghost use Rattle.golf_state_goroutines.specs.Sums.{HasSums};
 
 use crate::blocks::Block;

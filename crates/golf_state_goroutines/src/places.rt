@@ -1,6 +1,7 @@
 //! The goroutines of one block by number.
 
-ghost use Rattle.std.specs.Prelude.{◌≡◌, ◌≤◌, ◌*◌, ◌/◌, ◌++◌, ◌==◌, not, filter, map, length, vec_capacity, IfOk, IfSome};
+ghost use Rattle.std.specs.Prelude.{◌≡◌, ◌≤◌, ◌*◌, ◌/◌, ◌++◌, ◌==◌, not, filter, map, length, vec_capacity, IfOk};
+ghost use Rattle.std.specs.Prelude.{IfSome};
 ghost use Rattle.golf_theory.specs.Maps.{keys, Rises};
 ghost use Rattle.golf_heap.specs.Objects.{rank};
 ghost use Rattle.golf_data.specs.declared.goroutine.Mode.{Mode};
@@ -15,7 +16,7 @@ use std::alloc::Global;
 
 /// A goroutine and its number. It is small, so that little is moved when one before it ends.
 #[derive(Debug, Drop)]
-pub struct Place {
+pub struct NumberedGoroutine {
     pub number: u32,
     pub goroutine: Boxed<Goroutine>,
 }
@@ -26,7 +27,7 @@ pub fn place_of(
     number: u32,
     frames: List<Frame>,
     started: u32,
-) -> Result<Place, Memory>
+) -> Result<NumberedGoroutine, Memory>
     ensures { IfOk result (λ place. plain_entry place ≡ (number, record { frames = frame_views frames; mode = Mode.Running; started = started })) }
 {
     let goroutine = Goroutine {
@@ -34,7 +35,7 @@ pub fn place_of(
         mode: Mode::Running,
         started,
     };
-    Ok(Place {
+    Ok(NumberedGoroutine {
         number,
         goroutine: Boxed::new(alloc, goroutine)?,
     })
@@ -43,7 +44,7 @@ pub fn place_of(
 /// The index at which the goroutine of this number stands if none before it in its block has ended,
 /// and if it does.
 #[inline(always)]
-pub fn index_in(places: &[Place], number: u32) -> Option<usize>
+pub fn index_in(places: &[NumberedGoroutine], number: u32) -> Option<usize>
     requires { Rises (number / 256 * 256) (plain_entries places.now) }
     ensures { IfSome result (λ at. at ≡ rank number (plain_entries places.now)) }
 {
@@ -58,7 +59,7 @@ pub fn index_in(places: &[Place], number: u32) -> Option<usize>
 
 /// How many places have a smaller number.
 #[inline(always)]
-pub fn rank_of(places: &[Place], number: u32) -> usize
+pub fn rank_of(places: &[NumberedGoroutine], number: u32) -> usize
     requires { Rises (number / 256 * 256) (plain_entries places.now) }
     ensures { result ≡ rank number (plain_entries places.now) }
 {
@@ -69,7 +70,7 @@ pub fn rank_of(places: &[Place], number: u32) -> usize
 }
 
 /// The goroutine of this number is gone, if it is there.
-pub fn take_place(places: &mut Vec<Place>, number: u32)
+pub fn take_place(places: &mut Vec<NumberedGoroutine>, number: u32)
     requires { Rises (number / 256 * 256) (plain_entries places.old.items) }
     ensures { places.new.items ≡ filter (λ p. not (p.number == number)) places.old.items }
 {
@@ -91,7 +92,7 @@ pub fn is_running(mode: &Mode) -> bool
 }
 
 /// The goroutines that run, in rising order, in a list that has room for all.
-pub fn list_running(places: &[Place], running: &mut Vec<GoroutineId>)
+pub fn list_running(places: &[NumberedGoroutine], running: &mut Vec<GoroutineId>)
     requires { length places.now ≤ vec_capacity running.old }
     ensures running { map (λ g. g.0) running.new.items ≡ running_of (plain_entries places.now) }
     ensures room { vec_capacity running.old ≤ vec_capacity running.new }
@@ -105,7 +106,7 @@ pub fn list_running(places: &[Place], running: &mut Vec<GoroutineId>)
 }
 
 /// Adds the numbers of the places after the others.
-pub fn add_numbers(list: &mut List<GoroutineId>, places: &[Place]) -> Result<(), Memory>
+pub fn add_numbers(list: &mut List<GoroutineId>, places: &[NumberedGoroutine]) -> Result<(), Memory>
     ensures { IfOk result (λ u. map (λ g. g.0) list.new ≡ map (λ g. g.0) list.old ++ keys (plain_entries places.now)) }
 {
     for place in places {

@@ -1,6 +1,7 @@
 //! Goroutines in rising order of number.
 
-ghost use Rattle.std.specs.Prelude.{◌≡◌, ◌<◌, ◌≤◌, ◌+◌, ◌∷◌, ◌++◌, [], map, vec_len, vec_capacity, length, insert, remove};
+ghost use Rattle.std.specs.Prelude.{◌≡◌, ◌<◌, ◌≤◌, ◌+◌, ◌∷◌, ◌++◌, [], map, vec_len, vec_capacity, length, insert};
+ghost use Rattle.std.specs.Prelude.{remove};
 ghost use Rattle.golf_theory.specs.Stored.{placed, without};
 ghost use Rattle.golf_state_goroutines.specs.Rising.{RisesFrom, leading};
 

@@ -1,6 +1,7 @@
 //! All goroutines of a running program.
 
-ghost use Rattle.std.specs.Prelude.{◌≡◌, [], ◌==◌, not, filter, map, length, IfOk, IsSome, Some, OnOk, OnErr, is_some, option_map, slice_get};
+ghost use Rattle.std.specs.Prelude.{◌≡◌, [], ◌==◌, not, filter, map, length, IfOk, IsSome, Some, OnOk, OnErr, is_some};
+ghost use Rattle.std.specs.Prelude.{option_map, slice_get};
 ghost use Rattle.std.specs.Borrow.{sem};
 ghost use Rattle.golf_theory.specs.Maps.{find, keys, AllBelow};
 ghost use Rattle.golf_heap.specs.Objects.{kept, rank};
@@ -14,7 +15,7 @@ use crate::blocks::{Block, block_of, join, part, start, stop};
 use crate::counting::{count_places, count_running};
 use crate::finding::{goroutine_in, place_in};
 use crate::opening::{close_blocks, open};
-use crate::places::Place;
+use crate::places::NumberedGoroutine;
 use crate::retaining::retain_places;
 use crate::walking::{numbers, running_at};
 use golf_base::{GoroutineId, List, Memory};
@@ -130,7 +131,7 @@ impl Roster {
     }
 
     /// One goroutine more, of a number above all others, that runs.
-    pub fn add(&mut self, place: Place) -> Result<(), Memory>
+    pub fn add(&mut self, place: NumberedGoroutine) -> Result<(), Memory>
         requires below { AllBelow place.number (plain_entries self.old.places) }
         requires under { AllUnder place.number self.old.running }
         ensures ok { OnOk result (self.new ≡ added place self.old) }

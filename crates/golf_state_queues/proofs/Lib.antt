@@ -1,4 +1,3 @@
-pub mod Keyed
 pub mod Held
 pub mod HolderLaws
 pub mod Adding

@@ -5,7 +5,8 @@ use Rattle.std.proofs.Common.{◌≡◌, ℕ, zero, suc, ◌+◌, ◌≤◌, Lis
 use Rattle.std.specs.Prelude.{remove}
 
 -- one of the others is gone
-pub drop-remove : {X : Type 0} (g i n : ℕ) (xs : List X) → n ≡ g + i → n ≤ length xs → drop g (remove xs n) ≡ remove (drop g xs) i
+pub drop-remove : {X : Type 0} (g i n : ℕ) (xs : List X) → n ≡ g + i → n ≤ length xs
+    → drop g (remove xs n) ≡ remove (drop g xs) i
 drop-remove zero i n xs e h = let same : n ≡ i = omega (arith, e) in ap (λ m. remove xs m) same
 drop-remove (suc g) i n [] e h = absurd (omega (arith, e, h))
 drop-remove (suc g) i zero (x ∷ xs) e h = absurd (omega (arith, e))

@@ -1,7 +1,9 @@
 -- Queues without those who left.
 -- For: `part`, src/holders.rt; `leave`, `leave_all`, src/queues.rt; `IsWithout`, specs/WaitQueues.antt
 -- By: induction over the list of holders, and over the list of waits
-use Rattle.std.proofs.Common.{◌≡◌, ℕ, zero, suc, ◌<◌, Bool, true, false, cond, not, ◌&&◌, ◌||◌, List, [], ◌∷◌, take, length, get_or, filter, Some, None, ◌==◌, nat_lt, inl, inr, refl, sym, ap, ◌∙◌, subst, arith, slice_get}
+use Rattle.std.proofs.Common.{◌≡◌, ℕ, zero, suc, ◌<◌, Bool, true, false, cond, not, ◌&&◌, ◌||◌, List, [], ◌∷◌, take}
+use Rattle.std.proofs.Common.{length, get_or, filter, Some, None, ◌==◌, nat_lt, inl, inr, refl, sym, ap, ◌∙◌, subst}
+use Rattle.std.proofs.Common.{arith, slice_get}
 use Rattle.std.specs.Prelude.{remove}
 use Rattle.std.proofs.lemmas.Bool.{cases_eq, ltb-true, ltb-false, eq-eqb, ne_eqb, true≢false}
 use Rattle.std.proofs.lemmas.Option.{slice_get_within}
@@ -12,7 +14,8 @@ use Rattle.golf_theory.proofs.MapOrder.{Rises-less}
 use Rattle.golf_theory.proofs.Lists.{Every-from, filter-all, filter-same}
 use Rattle.golf_heap.specs.Objects.{rank}
 use Rattle.golf_state_queues.specs.Lines.{spots}
-use Rattle.golf_state_queues.specs.WaitQueues.{WaitQueues, key, keys_of, held, wait_queue_in, wait_queue_at, is_holder, is_held_in, parted, leaves, IsWithout, AreBelow, Keeps}
+use Rattle.golf_state_queues.specs.WaitQueues.{WaitQueues, key, keys_of, held, wait_queue_in, wait_queue_at, is_holder}
+use Rattle.golf_state_queues.specs.WaitQueues.{is_held_in, parted, leaves, IsWithout, AreBelow, Keeps}
 use Rattle.golf_state_queues.specs.declared.holders.TicketHolder.{TicketHolder}
 use Rattle.golf_state_queues.proofs.Held.{Rises-held}
 use Rattle.golf_state_queues.proofs.HolderLaws.{Changed}
@@ -30,12 +33,14 @@ module _ {X : Type 0} where
   filter-filter p q [] = refl
   filter-filter p q (x ∷ xs) =
       let rest = filter-filter p q xs in
-      elim (q x) as (λ b. filter p (cond b (x ∷ filter q xs) (filter q xs)) ≡ cond (b && p x) (x ∷ filter (λ y. q y && p y) xs) (filter (λ y. q y && p y) xs)) [
+      elim (q x) as (λ b. filter p (cond b (x ∷ filter q xs) (filter q xs)) ≡ cond (b && p x)
+      (x ∷ filter (λ y. q y && p y) xs) (filter (λ y. q y && p y) xs)) [
         | true ↦ ap (λ (r : List X). cond (p x) (x ∷ r) r) rest
         | false ↦ rest
       ]
 
-  pub Entry-filter : (p : ℕ × X → Bool) (es : List (ℕ × X)) (k : ℕ) (x : X) → p (k, x) ≡ true → Entry es k x → Entry (filter p es) k x
+  pub Entry-filter : (p : ℕ × X → Bool) (es : List (ℕ × X)) (k : ℕ) (x : X) → p (k, x) ≡ true → Entry es k x
+      → Entry (filter p es) k x
   Entry-filter p [] k x h i = absurd i
   Entry-filter p (e ∷ es) k x h i =
       elim (p e) as (λ b. p e ≡ b → Entry (cond b (e ∷ filter p es) (filter p es)) k x) [
@@ -70,7 +75,8 @@ and-false false = refl
 parted-above : (t g j : ℕ) (es : List (ℕ × ℕ)) → t < j → Rises j es → parted t g es ≡ es
 parted-above t g j [] l r = refl
 parted-above t g j (e ∷ es) l r =
-    ap (λ b. cond (not ((e.1 == g) && b)) (e ∷ parted t g es) (parted t g es)) (ne_eqb e.0 t (λ a. omega (arith, a, l, r.0)))
+    ap (λ b. cond (not ((e.1 == g) && b)) (e ∷ parted t g es) (parted t g es))
+    (ne_eqb e.0 t (λ a. omega (arith, a, l, r.0)))
     ∙ ap (λ b. cond (not b) (e ∷ parted t g es) (parted t g es)) (and-false (e.1 == g))
     ∙ ap (λ (z : List (ℕ × ℕ)). e ∷ z) (parted-above t g (suc e.0) es (omega (arith, l, r.0)) r.1)
 
@@ -87,7 +93,9 @@ both-same true es = refl
 both-same false es = refl
 
 -- whoever leaves is at the rank of its ticket
-parted-rank : (t g j : ℕ) (hs : List TicketHolder) (b : Bool) → Rises j (spots hs) → is_held_in t g (slice_get hs (rank t (spots hs))) ≡ b → cond b (held (remove hs (rank t (spots hs)))) (held hs) ≡ parted t g (held hs)
+parted-rank : (t g j : ℕ) (hs : List TicketHolder) (b : Bool) → Rises j (spots hs)
+    → is_held_in t g (slice_get hs (rank t (spots hs))) ≡ b
+    → cond b (held (remove hs (rank t (spots hs)))) (held hs) ≡ parted t g (held hs)
 parted-rank t g j [] true r h = refl
 parted-rank t g j [] false r h = refl
 parted-rank t g j (h ∷ hs) b r i =
@@ -104,20 +112,24 @@ parted-rank t g j (h ∷ hs) b r i =
             | true ↦ rest
             | false ↦
                 further b e es fs (parted t g es) rest
-                ∙ sym (ap (λ c. cond (not ((h.goroutine.0 == g) && c)) (e ∷ parted t g es) (parted t g es)) (ne_eqb h.ticket t (λ a. omega (arith, a, before)))
+                ∙ sym (ap (λ c. cond (not ((h.goroutine.0 == g) && c)) (e ∷ parted t g es) (parted t g es))
+                (ne_eqb h.ticket t (λ a. omega (arith, a, before)))
                 ∙ ap (λ c. cond (not c) (e ∷ parted t g es) (parted t g es)) (and-false (h.goroutine.0 == g)))
           ]
       | false ↦ λ q k.
           let late = ltb-false h.ticket t q in
           let above = parted-above t g (suc h.ticket) es (omega (arith, late)) (Rises-held (suc h.ticket) hs r.1) in
-          elim h.is_gone as (λ z. (not z && is_holder t g e) ≡ b → cond b es (cond z es (e ∷ es)) ≡ parted t g (cond z es (e ∷ es))) [
+          elim h.is_gone as (λ z. (not z && is_holder t g e) ≡ b
+          → cond b es (cond z es (e ∷ es)) ≡ parted t g (cond z es (e ∷ es))) [
             | true ↦ λ m. both-same b es ∙ sym above
-            | false ↦ λ m. here b e es (parted t g es) above ∙ ap (λ c. cond (not c) (e ∷ parted t g es) (parted t g es)) (sym m)
+            | false ↦ λ m. here b e es (parted t g es) above
+                ∙ ap (λ c. cond (not c) (e ∷ parted t g es) (parted t g es)) (sym m)
           ] k
     ] refl i
 
 -- in memory, as it is looked up
-module _ (t g at : ℕ) (hs seen again : List TicketHolder) (b : Bool) (r : Rises 0 (spots hs)) (e : seen ≡ hs) (f : again ≡ hs) (is : at ≡ rank t (spots seen)) (h : b ≡ is_held_in t g (slice_get again at)) where
+module _ (t g at : ℕ) (hs seen again : List TicketHolder) (b : Bool) (r : Rises 0 (spots hs)) (e : seen ≡ hs)
+    (f : again ≡ hs) (is : at ≡ rank t (spots seen)) (h : b ≡ is_held_in t g (slice_get again at)) where
   test : is_held_in t g (slice_get hs at) ≡ b
   test = sym (h ∙ ap (λ (xs : List TicketHolder). is_held_in t g (slice_get xs at)) f)
 
@@ -149,21 +161,25 @@ without-none p ls n = λ k. sym (filter-every (λ h. not (p k h)) (wait_queue_at
 
 -- a queue in which the goroutine is not asked to leave
 other-holders : (t g j k : ℕ) (es : List (ℕ × ℕ)) → (j ≡ k → ⊥) → es ≡ filter (λ h. not (leaves t g (k ∷ []) j h)) es
-other-holders t g j k es d = sym (filter-every (λ h. not (leaves t g (k ∷ []) j h)) es (λ h. ap (λ b. not ((b || false) && is_holder t g h)) (ne_eqb j k d)))
+other-holders t g j k es d = sym (filter-every (λ h. not (leaves t g (k ∷ []) j h)) es
+    (λ h. ap (λ b. not ((b || false) && is_holder t g h)) (ne_eqb j k d)))
 
 -- one queue is as it is without the goroutine
-pub without-changed : (t g k : ℕ) (es : List (ℕ × ℕ)) (old new : WaitQueues) → Changed k es old new → es ≡ parted t g (wait_queue_at k old) → IsWithout (leaves t g (k ∷ [])) old new
+pub without-changed : (t g k : ℕ) (es : List (ℕ × ℕ)) (old new : WaitQueues) → Changed k es old new
+    → es ≡ parted t g (wait_queue_at k old) → IsWithout (leaves t g (k ∷ [])) old new
 without-changed t g k es old new c e = λ j. elim (cases_eq j k) [
   | inl s ↦
       subst (λ (n : ℕ). wait_queue_at n new ≡ filter (λ h. not (leaves t g (k ∷ []) n h)) (wait_queue_at n old)) (sym s)
-      (c.here ∙ e ∙ filter-alike (λ h. not (is_holder t g h)) (λ h. not (leaves t g (k ∷ []) k h)) (wait_queue_at k old) (λ h. ap (λ b. not ((b || false) && is_holder t g h)) (sym (eq-eqb k k refl))))
+      (c.here ∙ e ∙ filter-alike (λ h. not (is_holder t g h)) (λ h. not (leaves t g (k ∷ []) k h)) (wait_queue_at k old)
+      (λ h. ap (λ b. not ((b || false) && is_holder t g h)) (sym (eq-eqb k k refl))))
   | inr d ↦ c.others j d ∙ other-holders t g j k (wait_queue_at j old) d
 ]
 
 -- there is no such queue
 pub without-absent : (t g k : ℕ) (ls : WaitQueues) → find k ls ≡ None → IsWithout (leaves t g (k ∷ [])) ls ls
 without-absent t g k ls none = λ j. elim (cases_eq j k) [
-  | inl s ↦ subst (λ (es : List (ℕ × ℕ)). es ≡ filter (λ h. not (leaves t g (k ∷ []) j h)) es) (sym (ap (λ (n : ℕ). wait_queue_at n ls) s ∙ ap wait_queue_in none)) refl
+  | inl s ↦ subst (λ (es : List (ℕ × ℕ)). es ≡ filter (λ h. not (leaves t g (k ∷ []) j h)) es)
+      (sym (ap (λ (n : ℕ). wait_queue_at n ls) s ∙ ap wait_queue_in none)) refl
   | inr d ↦ other-holders t g j k (wait_queue_at j ls) d
 ]
 
@@ -172,17 +188,20 @@ neither true b = refl
 neither false b = refl
 
 -- some leave, and then others
-pub without-then : (p q r : ℕ → ℕ × ℕ → Bool) (old mid new : WaitQueues) → ((k : ℕ) (h : ℕ × ℕ) → r k h ≡ (p k h || q k h)) → IsWithout p old mid → IsWithout q mid new → IsWithout r old new
+pub without-then : (p q r : ℕ → ℕ × ℕ → Bool) (old mid new : WaitQueues)
+    → ((k : ℕ) (h : ℕ × ℕ) → r k h ≡ (p k h || q k h)) → IsWithout p old mid → IsWithout q mid new → IsWithout r old new
 without-then p q r old mid new s a b = λ k.
     b k ∙ ap (λ (es : List (ℕ × ℕ)). filter (λ h. not (q k h)) es) (a k)
     ∙ filter-filter (λ h. not (q k h)) (λ h. not (p k h)) (wait_queue_at k old)
-    ∙ filter-alike (λ h. not (p k h) && not (q k h)) (λ h. not (r k h)) (wait_queue_at k old) (λ h. neither (p k h) (q k h) ∙ ap not (sym (s k h)))
+    ∙ filter-alike (λ h. not (p k h) && not (q k h)) (λ h. not (r k h)) (wait_queue_at k old)
+    (λ h. neither (p k h) (q k h) ∙ ap not (sym (s k h)))
 
 or-assoc : (a b c : Bool) → (a || (b || c)) ≡ ((a || b) || c)
 or-assoc true b c = refl
 or-assoc false b c = refl
 
-in-more : (k i : ℕ) (ws : List Wait) (d : Wait) → i < length ws → is_in k (keys_of (take (suc i) ws)) ≡ (is_in k (keys_of (take i ws)) || is_in k (keys_of (get_or ws i d ∷ [])))
+in-more : (k i : ℕ) (ws : List Wait) (d : Wait) → i < length ws
+    → is_in k (keys_of (take (suc i) ws)) ≡ (is_in k (keys_of (take i ws)) || is_in k (keys_of (get_or ws i d ∷ [])))
 in-more k i [] d l = absurd (omega (arith, l))
 in-more k zero (w ∷ ws) d l = refl
 in-more k (suc i) (w ∷ ws) d l =
@@ -196,28 +215,37 @@ in-either true false false = refl
 in-either false b c = refl
 
 -- the goroutine leaves one more queue
-pub without-more : (t g i : ℕ) (ws : List Wait) (d : Wait) (old mid new : WaitQueues) → i < length ws → IsWithout (leaves t g (keys_of (take i ws))) old mid
-    → IsWithout (leaves t g (keys_of (get_or ws i d ∷ []))) mid new → IsWithout (leaves t g (keys_of (take (suc i) ws))) old new
+pub without-more : (t g i : ℕ) (ws : List Wait) (d : Wait) (old mid new : WaitQueues) → i < length ws
+    → IsWithout (leaves t g (keys_of (take i ws))) old mid
+    → IsWithout (leaves t g (keys_of (get_or ws i d ∷ []))) mid new
+    → IsWithout (leaves t g (keys_of (take (suc i) ws))) old new
 without-more t g i ws d old mid new l a b =
     let before = keys_of (take i ws) in
     let one = keys_of (get_or ws i d ∷ []) in
     without-then (leaves t g before) (leaves t g one) (leaves t g (keys_of (take (suc i) ws))) old mid new
-    (λ k h. ap (λ c. c && is_holder t g h) (in-more k i ws d l) ∙ in-either (is_in k before) (is_in k one) (is_holder t g h))
+    (λ k h. ap (λ c. c && is_holder t g h) (in-more k i ws d l)
+    ∙ in-either (is_in k before) (is_in k one) (is_holder t g h))
     a b
 
 -- ---- who stays
 
 -- one who is not asked to leave stands where it stood
-pub keeps-without : (P : ℕ → ℕ → Type 0) (p : ℕ → ℕ × ℕ → Bool) (old new : WaitQueues) → ((k t g : ℕ) → P t g → p k (t, g) ≡ false) → IsWithout p old new → Keeps P old new
+pub keeps-without : (P : ℕ → ℕ → Type 0) (p : ℕ → ℕ × ℕ → Bool) (old new : WaitQueues)
+    → ((k t g : ℕ) → P t g → p k (t, g) ≡ false) → IsWithout p old new → Keeps P old new
 keeps-without P p old new n w = λ k t g h i.
-    subst (λ (es : List (ℕ × ℕ)). Entry es t g) (sym (w k)) (Entry-filter (λ x. not (p k x)) (wait_queue_at k old) t g (ap not (n k t g h)) i)
+    subst (λ (es : List (ℕ × ℕ)). Entry es t g) (sym (w k))
+    (Entry-filter (λ x. not (p k x)) (wait_queue_at k old) t g (ap not (n k t g h)) i)
 
-pub below-without : (p : ℕ → ℕ × ℕ → Bool) (old new : WaitQueues) → IsWithout p old new → (n : ℕ) → AreBelow n old → AreBelow n new
-below-without p old new w = λ n b k. subst (AllBelow n) (sym (w k)) (AllBelow-filter (λ x. not (p k x)) n (wait_queue_at k old) (b k))
+pub below-without : (p : ℕ → ℕ × ℕ → Bool) (old new : WaitQueues) → IsWithout p old new → (n : ℕ) → AreBelow n old
+    → AreBelow n new
+below-without p old new w = λ n b k. subst (AllBelow n) (sym (w k))
+    (AllBelow-filter (λ x. not (p k x)) n (wait_queue_at k old) (b k))
 
 pub leaves-other : (t g : ℕ) (ks : List ℕ) (k u h : ℕ) → (h ≡ g → ⊥) → leaves t g ks k (u, h) ≡ false
 leaves-other t g ks k u h n = ap (λ b. is_in k ks && (b && (u == t))) (ne_eqb h g n) ∙ and-false (is_in k ks)
 
 -- another goroutine stands where it stood
-pub keeps-others : (t g : ℕ) (ks : List ℕ) (old new : WaitQueues) → IsWithout (leaves t g ks) old new → Keeps (λ u h. h ≡ g → ⊥) old new
-keeps-others t g ks old new w = keeps-without (λ u h. h ≡ g → ⊥) (leaves t g ks) old new (λ k u h n. leaves-other t g ks k u h n) w
+pub keeps-others : (t g : ℕ) (ks : List ℕ) (old new : WaitQueues) → IsWithout (leaves t g ks) old new
+    → Keeps (λ u h. h ≡ g → ⊥) old new
+keeps-others t g ks old new w = keeps-without (λ u h. h ≡ g → ⊥) (leaves t g ks) old new
+    (λ k u h n. leaves-other t g ks k u h n) w

@@ -1,5 +1,6 @@
 -- Queues of goroutines that wait, by object and side.
-use Rattle.std.specs.Prelude.{◌≡◌, ℕ, ◌+◌, ◌*◌, ◌<◌, ◌≤◌, Bool, true, false, cond, not, ◌&&◌, List, [], ◌∷◌, map, filter, Option, Some, None, ◌==◌}
+use Rattle.std.specs.Prelude.{◌≡◌, ℕ, ◌+◌, ◌*◌, ◌<◌, ◌≤◌, Bool, true, false, cond, not, ◌&&◌, List, [], ◌∷◌, map}
+use Rattle.std.specs.Prelude.{filter, Option, Some, None, ◌==◌}
 use Rattle.golf_theory.specs.Maps.{Entry, find, Rises, AllBelow}
 use Rattle.golf_theory.specs.Membership.{is_in}
 use Rattle.golf_base.specs.declared.ids.GoroutineId.{GoroutineId}
@@ -64,7 +65,8 @@ AreBelow n ls = (k : ℕ) → AllBelow n (wait_queue_at k ls)
 -- the last of a queue whose ticket is below this one; nobody if all tickets are later ones
 abbrev pub IsLastBefore : ℕ → List (ℕ × ℕ) → Option TicketHolder → Type 0
 IsLastBefore t es None = (u g : ℕ) → Entry es u g → t ≤ u
-IsLastBefore t es (Some h) = Entry es h.ticket h.goroutine.0 × (h.ticket < t) × ((u g : ℕ) → Entry es u g → u < t → u ≤ h.ticket)
+IsLastBefore t es (Some h) = Entry es h.ticket h.goroutine.0 × (h.ticket < t)
+    × ((u g : ℕ) → Entry es u g → u < t → u ≤ h.ticket)
 
 -- those of a queue who pass the test stand there still
 abbrev pub KeepsIn : (ℕ → ℕ → Type 0) → List (ℕ × ℕ) → List (ℕ × ℕ) → Type 0
@@ -105,7 +107,8 @@ AddsOnlyIn t g old new = (u h : ℕ) → is_holder t g (u, h) ≡ false → Entr
 
 -- whoever stands in a queue, but this goroutine with this ticket in the queues of these keys, stood in it before
 abbrev pub AddsOnly : ℕ → ℕ → List ℕ → WaitQueues → WaitQueues → Type 0
-AddsOnly t g ks old new = (k u h : ℕ) → leaves t g ks k (u, h) ≡ false → Entry (wait_queue_at k new) u h → Entry (wait_queue_at k old) u h
+AddsOnly t g ks old new = (k u h : ℕ) → leaves t g ks k (u, h) ≡ false → Entry (wait_queue_at k new) u h
+    → Entry (wait_queue_at k old) u h
 
 -- the goroutine stands in the queue of the wait
 abbrev pub StandsIn : ℕ → ℕ → Wait → WaitQueues → Type 0

@@ -3,13 +3,15 @@
 //! An entry that is marked as gone keeps its ticket and its place, so the tickets still rise. `held` is
 //! the list of the others: the goroutines that are in the queue.
 
-ghost use Rattle.std.specs.Prelude.{◌≡◌, ◌<◌, ◌≤◌, ◌+◌, ◌-◌, ◌&&◌, false, not, drop, filter, length, slice_get, take, IfSome, OnOk};
+ghost use Rattle.std.specs.Prelude.{◌≡◌, ◌<◌, ◌≤◌, ◌+◌, ◌-◌, ◌&&◌, false, not, drop, filter, length, slice_get, take};
+ghost use Rattle.std.specs.Prelude.{IfSome, OnOk};
 ghost use Rattle.golf_theory.specs.Maps.{keys, Entry, Rises, AllBelow};
 ghost use Rattle.golf_theory.specs.Membership.{is_in};
 ghost use Rattle.golf_heap.specs.Objects.{rank};
 ghost use Rattle.golf_state_goroutines.specs.Places.{plain_entries};
 ghost use Rattle.golf_state_queues.specs.Lines.{spots};
-ghost use Rattle.golf_state_queues.specs.WaitQueues.{held, has_anyone, is_held_in, parted, AddsOnlyIn, KeepsIn, IsLastBefore};
+ghost use Rattle.golf_state_queues.specs.WaitQueues.{held, has_anyone, is_held_in, parted, AddsOnlyIn, KeepsIn};
+ghost use Rattle.golf_state_queues.specs.WaitQueues.{IsLastBefore};
 
 use crate::line::Line;
 use golf_base::{GoroutineId, Memory};

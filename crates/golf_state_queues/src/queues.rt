@@ -7,7 +7,9 @@ ghost use Rattle.golf_heap.specs.Objects.{rank};
 ghost use Rattle.golf_model.specs.Waiting.{side_number};
 ghost use Rattle.golf_state_goroutines.specs.Places.{plain_entries};
 ghost use Rattle.golf_state_queues.specs.Lines.{spots};
-ghost use Rattle.golf_state_queues.specs.WaitQueues.{WaitQueues, IsInOrder, key, held, wait_queues_of, wait_queue_at, has_key, keys_of, leaves, standing, narrowed, AddsOnly, AreBelow, IsWithout, Keeps, StandsInAll};
+ghost use Rattle.golf_state_queues.specs.WaitQueues.{WaitQueues, IsInOrder, key, held, wait_queues_of, wait_queue_at};
+ghost use Rattle.golf_state_queues.specs.WaitQueues.{has_key, keys_of, leaves, standing, narrowed, AddsOnly, AreBelow};
+ghost use Rattle.golf_state_queues.specs.WaitQueues.{IsWithout, Keeps, StandsInAll};
 
 use crate::holders::{TicketHolder, has_anyone, join, part};
 use crate::line::Line;

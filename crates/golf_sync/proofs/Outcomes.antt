@@ -28,9 +28,11 @@ serves-free o gs = free (first o Side.Write gs) (first o Side.Read gs)
     free : (w r : Option Waiter) → has_block (serves_first o gs w r) ≡ false
     free None r = refl
     free (Some w) None = refl
-    free (Some w) (Some r) = elim (nat_lt (waiter_ticket r) (waiter_ticket w)) as (λ b. has_block (choose b (to_readers o (Some (waiter_ticket w)) gs) (to_writer o w)) ≡ false) [ true ↦ refl | false ↦ refl ]
+    free (Some w) (Some r) = elim (nat_lt (waiter_ticket r) (waiter_ticket w)) as (λ b. has_block
+        (choose b (to_readers o (Some (waiter_ticket w)) gs) (to_writer o w)) ≡ false) [ true ↦ refl | false ↦ refl ]
 
 -- a mutex is handed over, and then the goroutine blocks
-pub blocks-behind : (o : ℕ) (m : Option Waiter) (a : Actor) (f : FrameView) (kind : WaitKind) (waits : List Wait) → outcome_of (hands_over o m ++ blocks a f kind waits) ≡ Outcome.Blocked
+pub blocks-behind : (o : ℕ) (m : Option Waiter) (a : Actor) (f : FrameView) (kind : WaitKind) (waits : List Wait)
+    → outcome_of (hands_over o m ++ blocks a f kind waits) ≡ Outcome.Blocked
 blocks-behind o None a f kind waits = refl
 blocks-behind o (Some w) a f kind waits = refl

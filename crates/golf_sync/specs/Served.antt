@@ -18,12 +18,14 @@ readers_of o below gs = Served.Readers (pos (readers_next below o gs)) below
 abbrev pub next_in : ℕ → List (ℕ × GoroutineView) → Option Waiter → Option Waiter → Served
 next_in o gs None r = readers_of o None gs
 next_in o gs (Some w) None = Served.Writer (waiting_of w)
-next_in o gs (Some w) (Some r) = cond (nat_lt (waiter_ticket r) (waiter_ticket w)) (readers_of o (Some (waiter_ticket w)) gs) (Served.Writer (waiting_of w))
+next_in o gs (Some w) (Some r) = cond (nat_lt (waiter_ticket r) (waiter_ticket w))
+    (readers_of o (Some (waiter_ticket w)) gs) (Served.Writer (waiting_of w))
 
 -- the state once they have it
 abbrev pub served_by : ℕ → Served → State → State
 served_by o (Served.Readers count below) s = wake_all o (Waking.ToReaders below) (replace o (Object.Rw count) s)
-served_by o (Served.Writer x) s = looked_up x.goroutine.0 (λ r. become x.goroutine.0 (released r)) (replace o (Object.Rw (negsuc 0)) s)
+served_by o (Served.Writer x) s = looked_up x.goroutine.0 (λ r. become x.goroutine.0 (released r))
+    (replace o (Object.Rw (negsuc 0)) s)
 
 -- a writer that gets it is blocked
 abbrev pub is_ready_for : Served → State → Bool

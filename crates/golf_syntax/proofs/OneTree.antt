@@ -8,4 +8,5 @@ use Rattle.golf_syntax.specs.Laws.{OneTree}
 use Rattle.golf_syntax.proofs.FileLaws.{one-reads}
 
 pub one-tree : OneTree
-one-tree bytes f g r s = one-reads r.tokens f g r.reads (subst (λ ts. ReadsTokens ts g) (lexes-once bytes s.tokens r.tokens s.lexes r.lexes) s.reads)
+one-tree bytes f g r s = one-reads r.tokens f g r.reads
+    (subst (λ ts. ReadsTokens ts g) (lexes-once bytes s.tokens r.tokens s.lexes r.lexes) s.reads)

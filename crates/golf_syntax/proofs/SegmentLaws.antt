@@ -22,12 +22,14 @@ use Rattle.golf_syntax_trees.specs.Segments.{IsPackage, IsImport, IsDecl}
 use Rattle.golf_syntax_expressions.specs.Plan.{◌>>=◌}
 use Rattle.golf_syntax_expressions.specs.Front.{after, after_keyword, name_at}
 use Rattle.golf_syntax_expressions.proofs.Plans.{bind_some}
-use Rattle.golf_syntax_expressions.proofs.Fronts.{some-same, both, nothing, punctuation-then, keyword-then, name-then, behind-punctuation, ends}
+use Rattle.golf_syntax_expressions.proofs.Fronts.{some-same, both, nothing, punctuation-then, keyword-then, name-then}
+use Rattle.golf_syntax_expressions.proofs.Fronts.{behind-punctuation, ends}
 use Rattle.golf_syntax_expressions.proofs.ExprFronts.{then}
 use Rattle.golf_syntax_segments.specs.Laws.{Ended}
 use Rattle.golf_syntax_segments.proofs.Spelling.{split, join}
 use Rattle.golf_syntax.specs.DeclReading.{import_at, decl_at}
-use Rattle.golf_syntax.specs.SegmentReading.{is_last, is_end, alone, import_by_word, import_of, decl_of, is_main, is_package}
+use Rattle.golf_syntax.specs.SegmentReading.{is_last, is_end, alone, import_by_word, import_of, decl_of, is_main}
+use Rattle.golf_syntax.specs.SegmentReading.{is_package}
 use Rattle.golf_syntax.proofs.Found.{imports-found, imports-read, declarations-found, declarations-read}
 
 abbrev semicolon : List Word
@@ -42,7 +44,8 @@ end-spelt ts e = at (after punctuations.Semicolon ts) refl e
     at None q f = cc
 
 spelt-end : (ts : List Token) → Spells semicolon ts [] → is_end ts ≡ true
-spelt-end ts h = let b = behind-punctuation {ts = ts} punctuations.Semicolon (record { are = h }) in ap is_last (b.1 ∙ ap Some (ends b.2))
+spelt-end ts h = let b = behind-punctuation {ts = ts} punctuations.Semicolon (record { are = h }) in ap is_last
+    (b.1 ∙ ap Some (ends b.2))
 
 alone-found : {A : Type 0} (x : A × List Token) (a : A) → alone x ≡ Some a → (x.0 ≡ a) × (is_end x.1 ≡ true)
 alone-found x a e = at (is_end x.1) refl e
@@ -54,17 +57,22 @@ alone-found x a e = at (is_end x.1) refl e
 alone-is : {A : Type 0} (a : A) (ts : List Token) → Spells semicolon ts [] → alone (a, ts) ≡ Some a
 alone-is a ts h = ap (λ b. cond b (Some a) None) (spelt-end ts h)
 
-behind-word : (t : Token) (ts : List Token) (i : Import) → t.kind ≡ kinds.Keyword keywords.Import → (import_at t.line ts >>= alone) ≡ Some i → Ended (print_import i) (t ∷ ts)
+behind-word : (t : Token) (ts : List Token) (i : Import) → t.kind ≡ kinds.Keyword keywords.Import
+    → (import_at t.line ts >>= alone) ≡ Some i → Ended (print_import i) (t ∷ ts)
 behind-word t ts i is e =
     let a = bind_some (import_at t.line ts) alone i e in
     let k = alone-found a.0 i a.2 in
-    subst (λ j. Ended (print_import j) (t ∷ ts)) k.0 (join (print_import a.0.0) semicolon (t ∷ ts) a.0.1 [] (imports-found t ts a.0 is a.1).words (end-spelt a.0.1 k.1))
+    subst (λ j. Ended (print_import j) (t ∷ ts)) k.0
+    (join (print_import a.0.0) semicolon (t ∷ ts) a.0.1 [] (imports-found t ts a.0 is a.1).words
+    (end-spelt a.0.1 k.1))
 
-by-word : (t : Token) (ts : List Token) (i : Import) (w : Keyword) → t.kind ≡ kinds.Keyword w → import_by_word t.line (kinds.Keyword w) ts ≡ Some i → Ended (print_import i) (t ∷ ts)
+by-word : (t : Token) (ts : List Token) (i : Import) (w : Keyword) → t.kind ≡ kinds.Keyword w
+    → import_by_word t.line (kinds.Keyword w) ts ≡ Some i → Ended (print_import i) (t ∷ ts)
 by-word t ts i keywords.Import is e = behind-word t ts i is e
 by-word t ts i _ is e = cc
 
-by-kind : (t : Token) (ts : List Token) (i : Import) (k : TokenKind) → t.kind ≡ k → import_by_word t.line k ts ≡ Some i → Ended (print_import i) (t ∷ ts)
+by-kind : (t : Token) (ts : List Token) (i : Import) (k : TokenKind) → t.kind ≡ k → import_by_word t.line k ts ≡ Some i
+    → Ended (print_import i) (t ∷ ts)
 by-kind t ts i (kinds.Keyword w) is e = by-word t ts i w is e
 by-kind t ts i _ is e = cc
 
@@ -86,7 +94,8 @@ decl-found p x e =
     let a = bind_some (decl_at p) alone x e in
     let k = alone-found a.0 x a.2 in
     let r = declarations-found p a.0 a.1 in
-    subst (λ y. Ended (print_decl y) p × (decl_good y ≡ true)) k.0 (join (print_decl a.0.0) semicolon p a.0.1 [] r.words (end-spelt a.0.1 k.1), r.good)
+    subst (λ y. Ended (print_decl y) p × (decl_good y ≡ true)) k.0
+    (join (print_decl a.0.0) semicolon p a.0.1 [] r.words (end-spelt a.0.1 k.1), r.good)
 
 pub decl-read : (p : List Token) (x : Decl) → Ended (print_decl x) p → decl_good x ≡ true → decl_of p ≡ Some x
 decl-read p x h good =
@@ -110,12 +119,15 @@ no-decl p e k = never (sym e ∙ decl-read p k.tree k.words k.good)
 main-is : (n : List ℕ) → bytes_eq n (codes "main") ≡ true → n ≡ codes "main"
 main-is n e = (bytes_eq-Decides n (codes "main")).0 e
 
-package-by : (p us : List Token) (n : List ℕ × List Token) → after_keyword keywords.Package p ≡ Some us → name_at us ≡ Some n → n.0 ≡ codes "main" → is_end n.1 ≡ true → IsPackage p
+package-by : (p us : List Token) (n : List ℕ × List Token) → after_keyword keywords.Package p ≡ Some us
+    → name_at us ≡ Some n → n.0 ≡ codes "main" → is_end n.1 ≡ true → IsPackage p
 package-by p us n e f main end =
     (keyword-then {ws = words.name (codes "main") ∷ semicolon} {us = us} {rest = []} keywords.Package p e
-    (name-then {ws = semicolon} {us = n.1} {rest = []} (codes "main") us (f ∙ ap (λ m. Some (m, n.1)) main) (record { are = end-spelt n.1 end }))).are
+    (name-then {ws = semicolon} {us = n.1} {rest = []} (codes "main") us (f ∙ ap (λ m. Some (m, n.1)) main)
+    (record { are = end-spelt n.1 end }))).are
 
-package-named : (p : List Token) (o : Option (List ℕ × List Token)) → (after_keyword keywords.Package p >>= name_at) ≡ o → is_main o ≡ true → IsPackage p
+package-named : (p : List Token) (o : Option (List ℕ × List Token)) → (after_keyword keywords.Package p >>= name_at) ≡ o
+    → is_main o ≡ true → IsPackage p
 package-named p None q f = cc
 package-named p (Some n) q f =
     let k = both (bytes_eq n.0 (codes "main")) (is_end n.1) f in

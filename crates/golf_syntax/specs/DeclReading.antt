@@ -34,7 +34,8 @@ text_at (t ∷ ts) = text_of t.kind ts
 
 abbrev pub import_by : ℕ → List Token → Option (List Token) → Option (Import × List Token)
 import_by l ts None = text_at ts >>= λ p. Some (imports.One l p.0, p.1)
-import_by l ts (Some us) = list_at text_at punctuations.Semicolon punctuations.CloseParen us >>= λ ps. Some (imports.Group l ps.0, ps.1)
+import_by l ts (Some us) = list_at text_at punctuations.Semicolon punctuations.CloseParen us >>= λ ps. Some
+    (imports.Group l ps.0, ps.1)
 
 -- an import after its word, which stands on this line
 unfoldable pub import_at : ℕ → List Token → Option (Import × List Token)
@@ -49,7 +50,8 @@ negative_at [] = None
 negative_at (t ∷ ts) = integer_of t.kind ts
 
 abbrev pub named_const : List ℕ → List Token → Option (Const × List Token)
-named_const n ts = cond (bytes_eq n (codes "true")) (Some (const.True, ts)) (cond (bytes_eq n (codes "false")) (Some (const.False, ts)) None)
+named_const n ts = cond (bytes_eq n (codes "true")) (Some (const.True, ts))
+    (cond (bytes_eq n (codes "false")) (Some (const.False, ts)) None)
 
 abbrev pub const_of : TokenKind → List Token → Option (Const × List Token)
 const_of (kinds.Integer digits) ts = Some (const.Integer digits, ts)
@@ -64,7 +66,8 @@ const_at [] = None
 const_at (t ∷ ts) = const_of t.kind ts
 
 -- more names, each after a comma
-abbrev pub names_by : List (List ℕ) → List Token → (List (List ℕ) → List Token → Option (List (List ℕ) × List Token)) → Option (List Token) → Option (List (List ℕ) × List Token)
+abbrev pub names_by : List (List ℕ) → List Token → (List (List ℕ) → List Token → Option (List (List ℕ) × List Token))
+    → Option (List Token) → Option (List (List ℕ) × List Token)
 names_by done ts again None = Some (done, ts)
 names_by done ts again (Some us) = name_at us >>= λ m. again (done ++ m.0 ∷ []) m.1
 
@@ -77,33 +80,40 @@ names_at ts = names_in (suc (length ts)) [] ts
 
 -- names that share a type
 unfoldable pub field_at : List Token → Option (Field × List Token)
-field_at ts = name_at ts >>= λ n. names_at n.1 >>= λ ms. type_at OfType ms.1 >>= λ t. Some (record { first = n.0; more = ms.0; of_type = t.0 }, t.1)
+field_at ts = name_at ts >>= λ n. names_at n.1 >>= λ ms. type_at OfType ms.1 >>= λ t. Some
+    (record { first = n.0; more = ms.0; of_type = t.0 }, t.1)
 
 abbrev pub receiver_by : List Token → Option (List Token) → Option (Option Receiver × List Token)
 receiver_by ts None = Some (None, ts)
-receiver_by ts (Some us) = name_at us >>= λ n. after punctuations.Star n.1 >>= λ vs. name_at vs >>= λ m. after punctuations.CloseParen m.1 >>= λ ws. Some (Some (record { name = n.0; type_name = m.0 }), ws)
+receiver_by ts (Some us) = name_at us >>= λ n. after punctuations.Star n.1 >>= λ vs. name_at vs >>= λ m. after
+    punctuations.CloseParen m.1 >>= λ ws. Some (Some (record { name = n.0; type_name = m.0 }), ws)
 
 abbrev pub result_by : List Token → Option (TypeExpr × List Token) → Option TypeExpr × List Token
 result_by ts None = (None, ts)
 result_by ts (Some t) = (Some t.0, t.1)
 
-abbrev pub func_behind : ℕ → Option Receiver → List ℕ → List Field → Option TypeExpr × List Token → Option (Decl × List Token)
-func_behind l r n ps t = block_at t.1 >>= λ b. Some (d.Func (record { line = l; receiver = r; name = n; parameters = ps; result = t.0; body = b.0 }), b.1)
+abbrev pub func_behind : ℕ → Option Receiver → List ℕ → List Field → Option TypeExpr × List Token
+    → Option (Decl × List Token)
+func_behind l r n ps t = block_at t.1 >>= λ b. Some
+    (d.Func (record { line = l; receiver = r; name = n; parameters = ps; result = t.0; body = b.0 }), b.1)
 
 -- a function after its receiver
 abbrev pub func_named : ℕ → Option Receiver → List Token → Option (Decl × List Token)
-func_named l r ts = name_at ts >>= λ n. after punctuations.OpenParen n.1 >>= λ us. list_at field_at punctuations.Comma punctuations.CloseParen us >>= λ ps. func_behind l r n.0 ps.0 (result_by ps.1 (type_at OfType ps.1))
+func_named l r ts = name_at ts >>= λ n. after punctuations.OpenParen n.1 >>= λ us. list_at field_at punctuations.Comma
+    punctuations.CloseParen us >>= λ ps. func_behind l r n.0 ps.0 (result_by ps.1 (type_at OfType ps.1))
 
 -- a function after its word, which stands on this line
 unfoldable pub func_at : ℕ → List Token → Option (Decl × List Token)
 func_at l ts = receiver_by ts (after punctuations.OpenParen ts) >>= λ r. func_named l r.0 r.1
 
 abbrev pub const_decl : ℕ → List Token → Option (Decl × List Token)
-const_decl l ts = name_at ts >>= λ n. after punctuations.Assign n.1 >>= λ us. const_at us >>= λ c. Some (d.Const l n.0 c.0, c.1)
+const_decl l ts = name_at ts >>= λ n. after punctuations.Assign n.1 >>= λ us. const_at us >>= λ c. Some
+    (d.Const l n.0 c.0, c.1)
 
 abbrev pub struct_decl : ℕ → List Token → Option (Decl × List Token)
 struct_decl l ts =
-    name_at ts >>= λ n. after_keyword keywords.Struct n.1 >>= λ us. after punctuations.OpenBrace us >>= λ vs. list_at field_at punctuations.Semicolon punctuations.CloseBrace vs >>= λ fs. Some (d.Struct l n.0 fs.0, fs.1)
+    name_at ts >>= λ n. after_keyword keywords.Struct n.1 >>= λ us. after punctuations.OpenBrace us >>= λ vs. list_at
+    field_at punctuations.Semicolon punctuations.CloseBrace vs >>= λ fs. Some (d.Struct l n.0 fs.0, fs.1)
 
 -- a declaration by its word, which stands on this line
 abbrev pub decl_from : ℕ → Keyword → List Token → Option (Decl × List Token)

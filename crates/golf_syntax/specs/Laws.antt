@@ -22,17 +22,20 @@ pub record IsDeclIn (ts : List Token) (x : Decl × List Token) : Type 0 where
   pub good : decl_good x.0 ≡ true
 
 abbrev pub ImportsFound : Type 0
-ImportsFound = (word : Token) (ts : List Token) (x : Import × List Token) → word.kind ≡ kinds.Keyword keywords.Import → import_at word.line ts ≡ Some x → IsImportIn (word ∷ ts) x
+ImportsFound = (word : Token) (ts : List Token) (x : Import × List Token) → word.kind ≡ kinds.Keyword keywords.Import
+    → import_at word.line ts ≡ Some x → IsImportIn (word ∷ ts) x
 
 -- an import that is printed begins with its word
 abbrev pub ImportsRead : Type 0
-ImportsRead = (ts : List Token) (x : Import × List Token) → IsImportIn ts x → (word : Token) × (us : List Token) × (ts ≡ word ∷ us) × (word.kind ≡ kinds.Keyword keywords.Import) × (import_at word.line us ≡ Some x)
+ImportsRead = (ts : List Token) (x : Import × List Token) → IsImportIn ts x → (word : Token) × (us : List Token)
+    × (ts ≡ word ∷ us) × (word.kind ≡ kinds.Keyword keywords.Import) × (import_at word.line us ≡ Some x)
 
 abbrev pub DeclsFound : Type 0
 DeclsFound = (ts : List Token) (x : Decl × List Token) → decl_at ts ≡ Some x → IsDeclIn ts x
 
 abbrev pub DeclsRead : Type 0
-DeclsRead = (ts us : List Token) (x : Decl × List Token) → IsDeclIn ts x → after punctuations.Semicolon x.1 ≡ Some us → decl_at ts ≡ Some x
+DeclsRead = (ts us : List Token) (x : Decl × List Token) → IsDeclIn ts x → after punctuations.Semicolon x.1 ≡ Some us
+    → decl_at ts ≡ Some x
 
 -- at most one tree reads the tokens
 abbrev pub OneReads : Type 0

@@ -9,21 +9,25 @@ abbrev pub Item : Type 0 → Type 0
 Item A = List Token → Option (A × List Token)
 
 -- after an item: a separator and more, or what closes the list
-abbrev pub many_behind : {A : Type 0} → Punctuation → List A → List Token → Item (List A) → Option (List Token) → Option (List A × List Token)
+abbrev pub many_behind : {A : Type 0} → Punctuation → List A → List Token → Item (List A) → Option (List Token)
+    → Option (List A × List Token)
 many_behind close done ts again (Some us) = again us
 many_behind close done ts again None = after close ts >>= λ us. Some (done, us)
 
 -- so many items at most
 abbrev pub many_in : {A : Type 0} → Item A → Punctuation → Punctuation → ℕ → List A → Item (List A)
 many_in item sep close zero done ts = None
-many_in item sep close (suc n) done ts = item ts >>= λ x. many_behind close (done ++ x.0 ∷ []) x.1 (many_in item sep close n (done ++ x.0 ∷ [])) (after sep x.1)
+many_in item sep close (suc n) done ts =
+    item ts >>= λ x. many_behind close (done ++ x.0 ∷ []) x.1 (many_in item sep close n (done ++ x.0 ∷ []))
+    (after sep x.1)
 
 -- one item or more, after those that were read before, and what follows the closing punctuation mark
 unfoldable pub many_at : {A : Type 0} → Item A → Punctuation → Punctuation → List A → Item (List A)
 many_at item sep close done ts = many_in item sep close (suc (length ts)) done ts
 
 -- none, or such items
-abbrev pub list_by : {A : Type 0} → Item A → Punctuation → Punctuation → List Token → Option (List Token) → Option (List A × List Token)
+abbrev pub list_by : {A : Type 0} → Item A → Punctuation → Punctuation → List Token → Option (List Token)
+    → Option (List A × List Token)
 list_by item sep close ts (Some us) = Some ([], us)
 list_by item sep close ts None = many_at item sep close [] ts
 

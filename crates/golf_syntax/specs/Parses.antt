@@ -24,7 +24,8 @@ Accepts tokens result = (file : File) → ReadsTokens tokens file → (result �
 
 -- if no tree does, the answer is the line of the fault, unless memory runs out
 abbrev pub Refuses : List Token → Result File SyntaxFault → Type 0
-Refuses tokens result = ((file : File) → ReadsTokens tokens file → ⊥) → ((line : ℕ) × (result ≡ Err (faults.At line)) × IsFaultOn tokens line) ⊎ (result ≡ Err faults.Memory)
+Refuses tokens result = ((file : File) → ReadsTokens tokens file → ⊥)
+    → ((line : ℕ) × (result ≡ Err (faults.At line)) × IsFaultOn tokens line) ⊎ (result ≡ Err faults.Memory)
 
 -- no import is the first segment
 abbrev pub NoImport : List (List Token) → Type 0

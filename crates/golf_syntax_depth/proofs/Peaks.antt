@@ -67,7 +67,8 @@ pub record Rises (ws : List Word) (d : ℕ) : Type 0 where
 
 largest-within : (below d e top : ℕ) → below + d ≤ top → below + e ≤ top → below + max d e ≤ top
 largest-within below d e top first second =
-    let reached : max d e + below ≤ top = subst (λ m. m ≤ top) (add-max-add_right d e below) (max-le (omega (arith, first)) (omega (arith, second))) in
+    let reached : max d e + below ≤ top = subst (λ m. m ≤ top) (add-max-add_right d e below)
+    (max-le (omega (arith, first)) (omega (arith, second))) in
     omega (arith, reached)
 
 -- a word that is no bracket and no separator
@@ -75,14 +76,19 @@ abbrev pub Plain : Word → Type 0
 Plain w = (c : ℕ) (cs : List ℕ) → counted w.kind (c ∷ cs) ≡ (c + 1) ∷ cs
 
 pub nothing : Adds [] 0
-nothing = record { n = 0; ends = λ c cs. let same : c ≡ c + 0 = omega arith in ap (λ m. m ∷ cs) same; peaks = λ c cs. let is : peak (c ∷ cs) [] ≡ c + sum cs = sum-cons c cs in omega (arith, is) }
+nothing = record {
+  n = 0;
+  ends = λ c cs. let same : c ≡ c + 0 = omega arith in ap (λ m. m ∷ cs) same;
+  peaks = λ c cs. let is : peak (c ∷ cs) [] ≡ c + sum cs = sum-cons c cs in omega (arith, is);
+}
 
 abbrev pub one : (w : Word) → Plain w → Adds (w ∷ []) 1
 one w plain = record {
   n = 1;
   ends = plain;
   peaks = λ c cs.
-      let top : sum (counted w.kind (c ∷ cs)) ≤ peak (c ∷ cs) (w ∷ []) = le-max_right (sum (c ∷ cs)) (sum (counted w.kind (c ∷ cs))) in
+      let top : sum (counted w.kind (c ∷ cs)) ≤ peak (c ∷ cs) (w ∷ []) =
+      le-max_right (sum (c ∷ cs)) (sum (counted w.kind (c ∷ cs))) in
       let is : sum (counted w.kind (c ∷ cs)) ≡ c + 1 + sum cs = ap sum (plain c cs) ∙ sum-cons (c + 1) cs in
       omega (arith, top, is);
 }
@@ -92,7 +98,11 @@ pub less : {ws : List Word} {d : ℕ} (e : ℕ) → e ≤ d → Adds ws d → Ad
 less e few a = record { n = a.n; ends = a.ends; peaks = λ c cs. let most = a.peaks c cs in omega (arith, most, few) }
 
 pub lower : {ws : List Word} {d : ℕ} (e : ℕ) → e ≤ d → Rises ws d → Rises ws e
-lower e few a = record { count = a.count; ends = a.ends; peaks = λ c cs. let most = a.peaks c cs in omega (arith, most, few) }
+lower e few a = record {
+  count = a.count;
+  ends = a.ends;
+  peaks = λ c cs. let most = a.peaks c cs in omega (arith, most, few);
+}
 
 pub loose : {ws : List Word} {d : ℕ} → Adds ws d → Rises ws d
 loose a = record { count = λ c. c + a.n; ends = a.ends; peaks = λ c cs. let most = a.peaks c cs in omega (arith, most) }
@@ -101,13 +111,15 @@ loose a = record { count = λ c. c + a.n; ends = a.ends; peaks = λ c cs. let mo
 pub both : (n : ℕ) (xs ys : List Word) {d e : ℕ} (a : Adds xs d) → n ≤ a.n → Adds ys e → Adds (xs ++ ys) (max d (n + e))
 both n xs ys {d} {e} a few b = record {
   n = a.n + b.n;
-  ends = λ c cs. after-append (c ∷ cs) xs ys ∙ ap (λ counts. after counts ys) (a.ends c cs) ∙ b.ends (c + a.n) cs ∙ ap (λ m. m ∷ cs) (omega arith);
+  ends = λ c cs. after-append (c ∷ cs) xs ys ∙ ap (λ counts. after counts ys) (a.ends c cs) ∙ b.ends (c + a.n) cs
+      ∙ ap (λ m. m ∷ cs) (omega arith);
   peaks = λ c cs.
       let first = a.peaks c cs in
       let front = rises-first (c ∷ cs) xs ys in
       let second = subst (λ counts. c + a.n + sum cs + e ≤ peak counts ys) (sym (a.ends c cs)) (b.peaks (c + a.n) cs) in
       let back = rises-second (c ∷ cs) xs ys in
-      largest-within (c + sum cs) d (n + e) (peak (c ∷ cs) (xs ++ ys)) (omega (arith, first, front)) (omega (arith, second, back, few));
+      largest-within (c + sum cs) d (n + e) (peak (c ∷ cs) (xs ++ ys)) (omega (arith, first, front))
+      (omega (arith, second, back, few));
 }
 
 -- one after the other, as deep as the deeper one
@@ -120,7 +132,8 @@ joined xs ys {d} {e} a b = record {
       let front = rises-first (c ∷ cs) xs ys in
       let second = subst (λ counts. sum cs + e ≤ peak counts ys) (sym (a.ends c cs)) (b.peaks (a.count c) cs) in
       let back = rises-second (c ∷ cs) xs ys in
-      largest-within (sum cs) d e (peak (c ∷ cs) (xs ++ ys)) (omega (arith, first, front)) (omega (arith, second, back));
+      largest-within (sum cs) d e (peak (c ∷ cs) (xs ++ ys)) (omega (arith, first, front))
+      (omega (arith, second, back));
 }
 
 -- a word before a text: one more
@@ -139,7 +152,8 @@ abbrev pub Closes : Word → Type 0
 Closes w = (k c : ℕ) (cs : List ℕ) → counted w.kind (k ∷ c ∷ cs) ≡ (c + 1) ∷ cs
 
 -- a text in brackets: one more
-abbrev pub bracketed : (first last : Word) (ws : List Word) {d : ℕ} → Opens first → Closes last → Rises ws d → Adds (first ∷ (ws ++ last ∷ [])) (1 + d)
+abbrev pub bracketed : (first last : Word) (ws : List Word) {d : ℕ} → Opens first → Closes last → Rises ws d
+    → Adds (first ∷ (ws ++ last ∷ [])) (1 + d)
 bracketed first last ws {d} opens closes a = record {
   n = 2;
   ends = λ c cs.
@@ -152,7 +166,8 @@ bracketed first last ws {d} opens closes a = record {
       let inner : sum ((c + 1) ∷ cs) + d ≤ peak (0 ∷ (c + 1) ∷ cs) ws = a.peaks 0 ((c + 1) ∷ cs) in
       let outside = sum-cons (c + 1) cs in
       let front = rises-first (0 ∷ (c + 1) ∷ cs) ws (last ∷ []) in
-      let outer : peak (0 ∷ (c + 1) ∷ cs) (ws ++ last ∷ []) ≤ peak (c ∷ cs) (first ∷ (ws ++ last ∷ [])) = subst (λ counts. peak counts (ws ++ last ∷ []) ≤ peak (c ∷ cs) (first ∷ (ws ++ last ∷ []))) (opens c cs)
+      let outer : peak (0 ∷ (c + 1) ∷ cs) (ws ++ last ∷ []) ≤ peak (c ∷ cs) (first ∷ (ws ++ last ∷ [])) =
+      subst (λ counts. peak counts (ws ++ last ∷ []) ≤ peak (c ∷ cs) (first ∷ (ws ++ last ∷ []))) (opens c cs)
       (le-max_right (sum (c ∷ cs)) (peak (counted first.kind (c ∷ cs)) (ws ++ last ∷ []))) in
       omega (arith, inner, outside, front, outer);
 }
@@ -184,14 +199,17 @@ AllRise (x ∷ xs) (d ∷ ds) = Rises x d × AllRise xs ds
 pub empty : Rises [] 0
 empty = loose nothing
 
-pub behind-rises : (m : Punctuation) → Separates (punctuation m) → (xs : List (List Word)) (ds : List ℕ) → AllRise xs ds → Rises (behind m xs) (largest ds)
+pub behind-rises : (m : Punctuation) → Separates (punctuation m) → (xs : List (List Word)) (ds : List ℕ) → AllRise xs ds
+    → Rises (behind m xs) (largest ds)
 behind-rises m separates [] [] all = empty
 behind-rises m separates [] (d ∷ ds) all = absurd all
 behind-rises m separates (x ∷ xs) [] all = absurd all
 behind-rises m separates (x ∷ xs) (d ∷ ds) all =
-    separator-before (punctuation m) (x ++ behind m xs) separates (joined x (behind m xs) all.0 (behind-rises m separates xs ds all.1))
+    separator-before (punctuation m) (x ++ behind m xs) separates
+    (joined x (behind m xs) all.0 (behind-rises m separates xs ds all.1))
 
-pub separated-rises : (m : Punctuation) → Separates (punctuation m) → (xs : List (List Word)) (ds : List ℕ) → AllRise xs ds → Rises (separated m xs) (largest ds)
+pub separated-rises : (m : Punctuation) → Separates (punctuation m) → (xs : List (List Word)) (ds : List ℕ)
+    → AllRise xs ds → Rises (separated m xs) (largest ds)
 separated-rises m separates [] [] all = empty
 separated-rises m separates [] (d ∷ ds) all = absurd all
 separated-rises m separates (x ∷ xs) [] all = absurd all
@@ -206,10 +224,6 @@ closed-rises (x ∷ xs) (d ∷ ds) all =
     (separator-before (punctuation punctuations.Semicolon) (closed xs) (λ c cs. refl) (closed-rises xs ds all.1))
 
 -- ---- lines: what a word's line is tells nothing of its cost
-
-pub adds-on-line : (l : ℕ) (ws : List Word) {d : ℕ} → Adds ws d → Adds (on_line l ws) d
-adds-on-line l [] a = a
-adds-on-line l (w ∷ ws) a = record { n = a.n; ends = a.ends; peaks = a.peaks }
 
 pub on-line : (l : ℕ) (ws : List Word) {d : ℕ} → Rises ws d → Rises (on_line l ws) d
 on-line l [] a = a

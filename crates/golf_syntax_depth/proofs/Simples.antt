@@ -23,9 +23,12 @@ use Rattle.golf_syntax_trees.specs.declared.statements.Communication.TheVariants
 use Rattle.golf_syntax_trees.specs.Words.{Word, punctuation, keyword, name}
 use Rattle.golf_syntax_trees.specs.Types.{print_type}
 use Rattle.golf_syntax_trees.specs.Expressions.{print_expr}
-use Rattle.golf_syntax_trees.specs.Simple.{update_punctuation, print_simple_kind, print_simple, print_content, print_var, optional, print_range_names, print_header, print_comm}
-use Rattle.golf_syntax_depth.specs.Depths.{of_option, depth, kind_depth, simple_depth, content_depth, header_depth, comm_depth}
-use Rattle.golf_syntax_depth.proofs.Peaks.{Rises, Plain, empty, one, lower, loose, joined, plain-before, separator-before, on-line}
+use Rattle.golf_syntax_trees.specs.Simple.{update_punctuation, print_simple_kind, print_simple, print_content}
+use Rattle.golf_syntax_trees.specs.Simple.{print_var, optional, print_range_names, print_header, print_comm}
+use Rattle.golf_syntax_depth.specs.Depths.{of_option, depth, kind_depth, simple_depth, content_depth, header_depth}
+use Rattle.golf_syntax_depth.specs.Depths.{comm_depth}
+use Rattle.golf_syntax_depth.proofs.Peaks.{Rises, Plain, empty, one, lower, loose, joined, plain-before}
+use Rattle.golf_syntax_depth.proofs.Peaks.{separator-before, on-line}
 use Rattle.golf_syntax_depth.proofs.Types.{type-adds}
 use Rattle.golf_syntax_depth.proofs.Exprs.{expr-adds}
 
@@ -41,17 +44,23 @@ update-plain update.Remainder c cs = refl
 
 -- an expression, a word and an expression
 two : (a : Expr) (w : Word) (b : Expr) → Plain w → Rises (print_expr a ++ w ∷ print_expr b) (max (depth a) (depth b))
-two a w b plain = joined (print_expr a) (w ∷ print_expr b) (expr-rises a) (plain-before w (print_expr b) plain (expr-rises b))
+two a w b plain = joined (print_expr a) (w ∷ print_expr b) (expr-rises a)
+    (plain-before w (print_expr b) plain (expr-rises b))
 
 -- an expression and a word
 counted-up : (e : Expr) (w : Word) → Plain w → Rises (print_expr e ++ w ∷ []) (depth e)
-counted-up e w plain = lower (depth e) (le-max_left (depth e) 1) (joined (print_expr e) (w ∷ []) (expr-rises e) (loose (one w plain)))
+counted-up e w plain = lower (depth e) (le-max_left (depth e) 1)
+    (joined (print_expr e) (w ∷ []) (expr-rises e) (loose (one w plain)))
 
 -- two names, a word, and a receive
-received : (n ok : List ℕ) (w : Word) (c : Expr) → Plain w → Rises (name n ∷ punctuation punctuations.Comma ∷ name ok ∷ w ∷ punctuation punctuations.Arrow ∷ print_expr c) (depth c)
+received : (n ok : List ℕ) (w : Word) (c : Expr) → Plain w
+    → Rises (name n ∷ punctuation punctuations.Comma ∷ name ok ∷ w ∷ punctuation punctuations.Arrow ∷ print_expr c)
+    (depth c)
 received n ok w c plain =
-    plain-before (name n) (punctuation punctuations.Comma ∷ name ok ∷ w ∷ punctuation punctuations.Arrow ∷ print_expr c) (λ c cs. refl)
-    (separator-before (punctuation punctuations.Comma) (name ok ∷ w ∷ punctuation punctuations.Arrow ∷ print_expr c) (λ c cs. refl)
+    plain-before (name n) (punctuation punctuations.Comma ∷ name ok ∷ w ∷ punctuation punctuations.Arrow ∷ print_expr c)
+    (λ c cs. refl)
+    (separator-before (punctuation punctuations.Comma) (name ok ∷ w ∷ punctuation punctuations.Arrow ∷ print_expr c)
+    (λ c cs. refl)
     (plain-before (name ok) (w ∷ punctuation punctuations.Arrow ∷ print_expr c) (λ c cs. refl)
     (plain-before w (punctuation punctuations.Arrow ∷ print_expr c) plain
     (plain-before (punctuation punctuations.Arrow) (print_expr c) (λ c cs. refl) (expr-rises c)))))
@@ -77,7 +86,8 @@ content-rises (content.Zero t) = loose (type-adds t)
 content-rises (content.Typed t v) =
     joined (print_type t) (punctuation punctuations.Assign ∷ print_expr v) (loose (type-adds t))
     (plain-before (punctuation punctuations.Assign) (print_expr v) (λ c cs. refl) (expr-rises v))
-content-rises (content.Untyped v) = plain-before (punctuation punctuations.Assign) (print_expr v) (λ c cs. refl) (expr-rises v)
+content-rises (content.Untyped v) = plain-before (punctuation punctuations.Assign) (print_expr v) (λ c cs. refl)
+    (expr-rises v)
 
 pub var-rises : (v : Var) → Rises (print_var v) (content_depth v.content)
 var-rises v =
@@ -85,34 +95,44 @@ var-rises v =
     (plain-before (keyword keywords.Var) (name v.name ∷ print_content v.content) (λ c cs. refl)
     (plain-before (name v.name) (print_content v.content) (λ c cs. refl) (content-rises v.content)))
 
-pub optional-rises : {A : Type 0} (print : A → List Word) (deep : A → ℕ) → ((x : A) → Rises (print x) (deep x)) → (o : Option A) → Rises (optional print o) (of_option deep o)
+pub optional-rises : {A : Type 0} (print : A → List Word) (deep : A → ℕ) → ((x : A) → Rises (print x) (deep x))
+    → (o : Option A) → Rises (optional print o) (of_option deep o)
 optional-rises print deep rises None = empty
 optional-rises print deep rises (Some x) = rises x
 
 range-names : (n : RangeNames) → Rises (print_range_names n) 0
 range-names names.Neither = empty
 range-names (names.One n) =
-    plain-before (name n) (punctuation punctuations.Define ∷ []) (λ c cs. refl) (plain-before (punctuation punctuations.Define) [] (λ c cs. refl) empty)
+    plain-before (name n) (punctuation punctuations.Define ∷ []) (λ c cs. refl)
+    (plain-before (punctuation punctuations.Define) [] (λ c cs. refl) empty)
 range-names (names.Two n m) =
-    plain-before (name n) (punctuation punctuations.Comma ∷ name m ∷ punctuation punctuations.Define ∷ []) (λ c cs. refl)
+    plain-before (name n) (punctuation punctuations.Comma ∷ name m ∷ punctuation punctuations.Define ∷ [])
+    (λ c cs. refl)
     (separator-before (punctuation punctuations.Comma) (name m ∷ punctuation punctuations.Define ∷ []) (λ c cs. refl)
-    (plain-before (name m) (punctuation punctuations.Define ∷ []) (λ c cs. refl) (plain-before (punctuation punctuations.Define) [] (λ c cs. refl) empty)))
+    (plain-before (name m) (punctuation punctuations.Define ∷ []) (λ c cs. refl)
+    (plain-before (punctuation punctuations.Define) [] (λ c cs. refl) empty)))
 
 pub header-rises : (h : Header) → Rises (print_header h) (header_depth h)
 header-rises headers.Forever = empty
 header-rises (headers.While e) = expr-rises e
 header-rises (headers.Steps first test post) =
-    joined (optional print_simple first) (punctuation punctuations.Semicolon ∷ (optional print_expr test ++ punctuation punctuations.Semicolon ∷ optional print_simple post))
+    joined (optional print_simple first) (punctuation punctuations.Semicolon
+    ∷ (optional print_expr test ++ punctuation punctuations.Semicolon ∷ optional print_simple post))
     (optional-rises print_simple simple_depth simple-rises first)
-    (separator-before (punctuation punctuations.Semicolon) (optional print_expr test ++ punctuation punctuations.Semicolon ∷ optional print_simple post) (λ c cs. refl)
-    (joined (optional print_expr test) (punctuation punctuations.Semicolon ∷ optional print_simple post) (optional-rises print_expr depth expr-rises test)
-    (separator-before (punctuation punctuations.Semicolon) (optional print_simple post) (λ c cs. refl) (optional-rises print_simple simple_depth simple-rises post))))
+    (separator-before (punctuation punctuations.Semicolon)
+    (optional print_expr test ++ punctuation punctuations.Semicolon ∷ optional print_simple post) (λ c cs. refl)
+    (joined (optional print_expr test) (punctuation punctuations.Semicolon ∷ optional print_simple post)
+    (optional-rises print_expr depth expr-rises test)
+    (separator-before (punctuation punctuations.Semicolon) (optional print_simple post) (λ c cs. refl)
+    (optional-rises print_simple simple_depth simple-rises post))))
 header-rises (headers.Range n e) =
     lower (depth e) (le-max_right 0 (depth e))
-    (joined (print_range_names n) (keyword keywords.Range ∷ print_expr e) (range-names n) (plain-before (keyword keywords.Range) (print_expr e) (λ c cs. refl) (expr-rises e)))
+    (joined (print_range_names n) (keyword keywords.Range ∷ print_expr e) (range-names n)
+    (plain-before (keyword keywords.Range) (print_expr e) (λ c cs. refl) (expr-rises e)))
 
 -- a name, a word, and a receive
-taken : (n : List ℕ) (w : Word) (c : Expr) → Plain w → Rises (name n ∷ w ∷ punctuation punctuations.Arrow ∷ print_expr c) (depth c)
+taken : (n : List ℕ) (w : Word) (c : Expr) → Plain w
+    → Rises (name n ∷ w ∷ punctuation punctuations.Arrow ∷ print_expr c) (depth c)
 taken n w c plain =
     plain-before (name n) (w ∷ punctuation punctuations.Arrow ∷ print_expr c) (λ c cs. refl)
     (plain-before w (punctuation punctuations.Arrow ∷ print_expr c) plain

@@ -1,10 +1,15 @@
--- How deep trees are, counted over all parts but left operands and the `else` of an `if`: these two are followed without recursion.
+-- How deep trees are, counted over all parts but left operands and the `else` of an `if`: these two are followed
+-- without recursion.
 use Rattle.std.specs.Prelude.{ℕ, ◌+◌, max, List, [], ◌∷◌, map, Option, Some, None}
 use Rattle.golf_syntax_trees.specs.declared.types.TypeExpr.{TypeExpr}
-use Rattle.golf_syntax_trees.specs.declared.types.TypeExpr.TheOpen.{TypeExpr-F, Named, Pointer, SyncPointer, Slice, Chan, SendChan, ReceiveChan, EmptyStruct}
+use Rattle.golf_syntax_trees.specs.declared.types.TypeExpr.TheOpen.{TypeExpr-F, Named, Pointer, SyncPointer, Slice}
+use Rattle.golf_syntax_trees.specs.declared.types.TypeExpr.TheOpen.{Chan, SendChan, ReceiveChan, EmptyStruct}
 use Rattle.golf_syntax_trees.specs.declared.types.TypeExpr.TheFolds.{fold-TypeExpr}
 use Rattle.golf_syntax_trees.specs.declared.expressions.Expr.{Expr}
-use Rattle.golf_syntax_trees.specs.declared.expressions.Expr.TheOpen.{Expr-F, Element-F, Integer, Text, Name, Parens, StructLiteral, SyncLiteral, SliceLiteral, EmptyLiteral, Make, MakeSized, New, NewSync, Selector, Index, Call, Unary, Binary}
+use Rattle.golf_syntax_trees.specs.declared.expressions.Expr.TheOpen.{Expr-F, Element-F, Integer, Text, Name, Parens}
+use Rattle.golf_syntax_trees.specs.declared.expressions.Expr.TheOpen.{StructLiteral, SyncLiteral, SliceLiteral}
+use Rattle.golf_syntax_trees.specs.declared.expressions.Expr.TheOpen.{EmptyLiteral, Make, MakeSized, New, NewSync}
+use Rattle.golf_syntax_trees.specs.declared.expressions.Expr.TheOpen.{Selector, Index, Call, Unary, Binary}
 use Rattle.golf_syntax_trees.specs.declared.expressions.Expr.TheFolds.{fold-Expr}
 use Rattle.golf_syntax_trees.specs.declared.statements.Simple.{Simple}
 use Rattle.golf_syntax_trees.specs.declared.statements.SimpleKind.{SimpleKind}
@@ -16,7 +21,9 @@ use Rattle.golf_syntax_trees.specs.declared.statements.Header.TheVariants as hea
 use Rattle.golf_syntax_trees.specs.declared.statements.Communication.{Communication}
 use Rattle.golf_syntax_trees.specs.declared.statements.Communication.TheVariants as comm
 use Rattle.golf_syntax_trees.specs.declared.statements.Stmt.{Stmt}
-use Rattle.golf_syntax_trees.specs.declared.statements.Clause.TheOpen.{Stmt-F, Clause-F, Var, Simple as SimpleStmt, Go, Defer, Return, Break, Continue, Block, If, IfElse, For, Select, Case, Default}
+use Rattle.golf_syntax_trees.specs.declared.statements.Clause.TheOpen.{Stmt-F, Clause-F, Var, Simple as SimpleStmt, Go}
+use Rattle.golf_syntax_trees.specs.declared.statements.Clause.TheOpen.{Defer, Return, Break, Continue, Block, If}
+use Rattle.golf_syntax_trees.specs.declared.statements.Clause.TheOpen.{IfElse, For, Select, Case, Default}
 use Rattle.golf_syntax_trees.specs.declared.statements.Clause.TheFolds.{fold-Stmt}
 use Rattle.golf_syntax_trees.specs.declared.declarations.Field.{Field}
 use Rattle.golf_syntax_trees.specs.declared.declarations.Func.{Func}
@@ -94,7 +101,8 @@ content_depth (content.Untyped v) = depth v
 abbrev pub header_depth : Header → ℕ
 header_depth headers.Forever = 0
 header_depth (headers.While e) = depth e
-header_depth (headers.Steps first test post) = max (of_option simple_depth first) (max (of_option depth test) (of_option simple_depth post))
+header_depth (headers.Steps first test post) =
+    max (of_option simple_depth first) (max (of_option depth test) (of_option simple_depth post))
 header_depth (headers.Range n e) = depth e
 
 abbrev pub comm_depth : Communication → ℕ
@@ -118,7 +126,8 @@ stmt_depth_step (Break l) = 0
 stmt_depth_step (Continue l) = 0
 stmt_depth_step (Block l body) = 1 + largest body
 stmt_depth_step (If l first test body) = max (of_option simple_depth first) (max (depth test) (1 + largest body))
-stmt_depth_step (IfElse l first test body otherwise) = max (of_option simple_depth first) (max (depth test) (max (1 + largest body) otherwise))
+stmt_depth_step (IfElse l first test body otherwise) =
+    max (of_option simple_depth first) (max (depth test) (max (1 + largest body) otherwise))
 stmt_depth_step (For l header body) = max (header_depth header) (1 + largest body)
 stmt_depth_step (Select l clauses) = 1 + largest clauses
 
@@ -133,7 +142,8 @@ abbrev pub field_depth : Field → ℕ
 field_depth f = type_depth f.of_type
 
 abbrev pub func_depth : Func → ℕ
-func_depth f = max (1 + largest (map field_depth f.parameters)) (max (of_option type_depth f.result) (1 + largest (map stmt_depth f.body)))
+func_depth f = max (1 + largest (map field_depth f.parameters))
+    (max (of_option type_depth f.result) (1 + largest (map stmt_depth f.body)))
 
 abbrev pub decl_depth : Decl → ℕ
 decl_depth (d.Const l n value) = 0

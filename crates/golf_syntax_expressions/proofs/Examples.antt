@@ -17,7 +17,9 @@ use Rattle.golf_syntax_trees.specs.Types.{type_form}
 use Rattle.golf_syntax_trees.specs.Expressions.{print_expr, form}
 use Rattle.golf_syntax_expressions.specs.TypeReading.{type_at, OfType}
 use Rattle.golf_syntax_expressions.specs.Operators.{unary_at, binary_at}
-use Rattle.golf_syntax_expressions.specs.Starts.{start_at, start_from, named_start, make_start, new_start, empty_start, slice_start, sync_start, literal_start, punctuation_start, suffix_at, call_at}
+use Rattle.golf_syntax_expressions.specs.Starts.{start_at, start_from, named_start, make_start, new_start, empty_start}
+use Rattle.golf_syntax_expressions.specs.Starts.{slice_start, sync_start, literal_start, punctuation_start, suffix_at}
+use Rattle.golf_syntax_expressions.specs.Starts.{call_at}
 use Rattle.golf_syntax_expressions.specs.ExprReading.{Level, expr_at}
 use Rattle.golf_syntax_expressions.proofs.TypeShapes as type_shape
 use Rattle.golf_syntax_expressions.proofs.ExprShapes as shape
@@ -44,7 +46,9 @@ abbrev z : Expr
 z = ex.Name (codes "z")
 
 -- `x + y * z`
-sum_of_product : print_expr (ex.Binary binary.Add x (ex.Binary binary.Multiply y z)) ≡ words.name (codes "x") ∷ words.punctuation punctuations.Plus ∷ words.name (codes "y") ∷ words.punctuation punctuations.Star ∷ words.name (codes "z") ∷ []
+sum_of_product : print_expr (ex.Binary binary.Add x (ex.Binary binary.Multiply y z)) ≡ words.name (codes "x")
+    ∷ words.punctuation punctuations.Plus ∷ words.name (codes "y") ∷ words.punctuation punctuations.Star
+    ∷ words.name (codes "z") ∷ []
 sum_of_product = simp (shape.print-Binary, shape.print-Name)
 
 -- a product of a sum wants parentheses
@@ -62,7 +66,8 @@ grouped_right = simp (shape.form-Binary, shape.form-Name)
 arrow_to_the_left : (type_form (types.Chan (types.ReceiveChan (types.Named (codes "int"))))).good ≡ false
 arrow_to_the_left = simp (type_shape.form-Chan, type_shape.form-ReceiveChan, type_shape.form-Named)
 
-chan_of_chan : type_at OfType (word keywords.Chan ∷ punctuation punctuations.Arrow ∷ word keywords.Chan ∷ named (codes "int") ∷ []) ≡ Some (types.SendChan (types.Chan (types.Named (codes "int"))), [])
+chan_of_chan : type_at OfType (word keywords.Chan ∷ punctuation punctuations.Arrow ∷ word keywords.Chan
+    ∷ named (codes "int") ∷ []) ≡ Some (types.SendChan (types.Chan (types.Named (codes "int"))), [])
 unfolding type_at
 chan_of_chan = refl
 
@@ -71,16 +76,26 @@ make_alone : (form (ex.Name (codes "make"))).good ≡ false
 make_alone = simp shape.form-Name
 
 -- `x - y - z` groups to the left
-groups_left : expr_at (Level false 1) (named (codes "x") ∷ punctuation punctuations.Minus ∷ named (codes "y") ∷ punctuation punctuations.Minus ∷ named (codes "z") ∷ []) ≡ Some (ex.Binary binary.Subtract (ex.Binary binary.Subtract x y) z, [])
-unfolding expr_at unary_at binary_at start_at start_from named_start make_start new_start empty_start slice_start sync_start literal_start punctuation_start suffix_at call_at
+groups_left : expr_at (Level false 1) (named (codes "x") ∷ punctuation punctuations.Minus ∷ named (codes "y")
+    ∷ punctuation punctuations.Minus ∷ named (codes "z") ∷ []) ≡ Some
+    (ex.Binary binary.Subtract (ex.Binary binary.Subtract x y) z, [])
+unfolding expr_at unary_at binary_at start_at start_from named_start make_start new_start empty_start slice_start
+    sync_start literal_start punctuation_start suffix_at call_at
 groups_left = refl
 
 -- `&T{}` is no operand of a header
-no_literal_in_header : expr_at (Level true 1) (punctuation punctuations.Ampersand ∷ named (codes "T") ∷ punctuation punctuations.OpenBrace ∷ punctuation punctuations.CloseBrace ∷ []) ≡ None
-unfolding expr_at unary_at binary_at start_at start_from named_start make_start new_start empty_start slice_start sync_start literal_start punctuation_start suffix_at call_at
+no_literal_in_header : expr_at (Level true 1)
+    (punctuation punctuations.Ampersand ∷ named (codes "T") ∷ punctuation punctuations.OpenBrace
+    ∷ punctuation punctuations.CloseBrace ∷ []) ≡ None
+unfolding expr_at unary_at binary_at start_at start_from named_start make_start new_start empty_start slice_start
+    sync_start literal_start punctuation_start suffix_at call_at
 no_literal_in_header = refl
 
 -- but it is one in brackets: `(&T{})`
-literal_in_parens : expr_at (Level true 1) (punctuation punctuations.OpenParen ∷ punctuation punctuations.Ampersand ∷ named (codes "T") ∷ punctuation punctuations.OpenBrace ∷ punctuation punctuations.CloseBrace ∷ punctuation punctuations.CloseParen ∷ []) ≡ Some (ex.Parens (ex.StructLiteral (codes "T") []), [])
-unfolding expr_at unary_at binary_at start_at start_from named_start make_start new_start empty_start slice_start sync_start literal_start punctuation_start suffix_at call_at
+literal_in_parens : expr_at (Level true 1)
+    (punctuation punctuations.OpenParen ∷ punctuation punctuations.Ampersand ∷ named (codes "T")
+    ∷ punctuation punctuations.OpenBrace ∷ punctuation punctuations.CloseBrace ∷ punctuation punctuations.CloseParen
+    ∷ []) ≡ Some (ex.Parens (ex.StructLiteral (codes "T") []), [])
+unfolding expr_at unary_at binary_at start_at start_from named_start make_start new_start empty_start slice_start
+    sync_start literal_start punctuation_start suffix_at call_at
 literal_in_parens = refl

@@ -19,7 +19,8 @@ use Rattle.golf_syntax_trees.specs.Expressions.{unary_punctuation, binary_punctu
 use Rattle.golf_syntax_expressions.specs.Plan.{◌>>=◌}
 use Rattle.golf_syntax_expressions.specs.Front.{after, after_kind}
 use Rattle.golf_syntax_expressions.specs.Operators.{unary_of, binary_of, punctuation_of, unary_at, binary_at}
-use Rattle.golf_syntax_expressions.specs.Starts.{start_from, start_at, call_behind, call_at, no_field, suffix_by, suffix_at}
+use Rattle.golf_syntax_expressions.specs.Starts.{start_from, start_at, call_behind, call_at, no_field, suffix_by}
+use Rattle.golf_syntax_expressions.specs.Starts.{suffix_at}
 use Rattle.golf_syntax_expressions.specs.ExprReading.{Climb, expr_at}
 use Rattle.golf_syntax_expressions.proofs.Fronts.{Spelt, first, not-after}
 use Rattle.golf_syntax_expressions.proofs.ExprSteps.{climb_by, grown_by, expr-Climb}
@@ -67,55 +68,82 @@ pub record Quiet (ts : List Token) : Type 0 where
 pub quiet-head : (ts : List Token) → Quiet ts → head ts ≡ 0
 quiet-head ts q = ap tight q.operator
 
-pub no-suffix : (ts : List Token) → after punctuations.Dot ts ≡ None → after punctuations.OpenBracket ts ≡ None → after punctuations.OpenParen ts ≡ None → suffix_at ts ≡ None
+pub no-suffix : (ts : List Token) → after punctuations.Dot ts ≡ None → after punctuations.OpenBracket ts ≡ None
+    → after punctuations.OpenParen ts ≡ None → suffix_at ts ≡ None
 unfolding suffix_at call_at
-no-suffix ts d b p = ap (suffix_by ts) d ∙ ap (no_field ts) b ∙ ap (λ o. o >>= λ us. call_behind us (after punctuations.CloseParen us)) p
+no-suffix ts d b p = ap (suffix_by ts) d ∙ ap (no_field ts) b
+    ∙ ap (λ o. o >>= λ us. call_behind us (after punctuations.CloseParen us)) p
 
-pub binary-first : {ws : List Word} {ts rest : List Token} (k : TokenKind) → Spelt (words.word k ∷ ws) ts rest → (us : List Token) × (binary_at ts ≡ binary_behind k us) × Spelt ws us rest
+pub binary-first : {ws : List Word} {ts rest : List Token} (k : TokenKind) → Spelt (words.word k ∷ ws) ts rest
+    → (us : List Token) × (binary_at ts ≡ binary_behind k us) × Spelt ws us rest
 unfolding binary_at
 binary-first k h = let f = first h in (f.1, ap binary_at f.2 ∙ ap (λ q. binary_behind q f.1) f.3, f.5)
 
-pub quiet : {ws : List Word} {ts rest : List Token} (k : TokenKind) → ((us : List Token) → (after_kind punctuations.Dot k us ≡ None) × (after_kind punctuations.OpenBracket k us ≡ None) × (after_kind punctuations.OpenParen k us ≡ None) × (binary_behind k us ≡ None)) → Spelt (words.word k ∷ ws) ts rest → Quiet ts
+pub quiet : {ws : List Word} {ts rest : List Token} (k : TokenKind)
+    → ((us : List Token) → (after_kind punctuations.Dot k us ≡ None) × (after_kind punctuations.OpenBracket k us ≡ None)
+    × (after_kind punctuations.OpenParen k us ≡ None) × (binary_behind k us ≡ None)) → Spelt (words.word k ∷ ws) ts rest
+    → Quiet ts
 quiet {ws} {ts} {rest} k ordinary h =
     let b = binary-first k h in
     record {
-      suffix = no-suffix ts (not-after punctuations.Dot k (λ us. (ordinary us).0) h) (not-after punctuations.OpenBracket k (λ us. (ordinary us).1) h) (not-after punctuations.OpenParen k (λ us. (ordinary us).2) h);
+      suffix = no-suffix ts (not-after punctuations.Dot k (λ us. (ordinary us).0) h)
+          (not-after punctuations.OpenBracket k (λ us. (ordinary us).1) h)
+          (not-after punctuations.OpenParen k (λ us. (ordinary us).2) h);
       operator = b.1 ∙ (ordinary b.0).3;
     }
 
 -- a binary operator in front
-operator-is : (o : BinaryOperator) (us : List Token) → binary_behind (kinds.Punctuation (binary_punctuation o)) us ≡ Some (o, us)
+operator-is : (o : BinaryOperator) (us : List Token)
+    → binary_behind (kinds.Punctuation (binary_punctuation o)) us ≡ Some (o, us)
 operator-is binary.Or us = refl
 operator-is _ us = refl
 
-no-dot : (o : BinaryOperator) (us : List Token) → (after_kind punctuations.Dot (kinds.Punctuation (binary_punctuation o)) us ≡ None) × (after_kind punctuations.OpenBracket (kinds.Punctuation (binary_punctuation o)) us ≡ None) × (after_kind punctuations.OpenParen (kinds.Punctuation (binary_punctuation o)) us ≡ None)
+no-dot : (o : BinaryOperator) (us : List Token)
+    → (after_kind punctuations.Dot (kinds.Punctuation (binary_punctuation o)) us ≡ None)
+    × (after_kind punctuations.OpenBracket (kinds.Punctuation (binary_punctuation o)) us ≡ None)
+    × (after_kind punctuations.OpenParen (kinds.Punctuation (binary_punctuation o)) us ≡ None)
 no-dot binary.Or us = (refl, refl, refl)
 no-dot _ us = (refl, refl, refl)
 
-pub operator-first : {ws : List Word} {ts rest : List Token} (o : BinaryOperator) → Spelt (words.punctuation (binary_punctuation o) ∷ ws) ts rest → (us : List Token) × (binary_at ts ≡ Some (o, us)) × (suffix_at ts ≡ None) × Spelt ws us rest
+pub operator-first : {ws : List Word} {ts rest : List Token} (o : BinaryOperator)
+    → Spelt (words.punctuation (binary_punctuation o) ∷ ws) ts rest → (us : List Token) × (binary_at ts ≡ Some (o, us))
+    × (suffix_at ts ≡ None) × Spelt ws us rest
 operator-first {ws} {ts} {rest} o h =
     let b = binary-first (kinds.Punctuation (binary_punctuation o)) h in (
       b.0,
       b.1 ∙ operator-is o b.0,
-      no-suffix ts (not-after punctuations.Dot (kinds.Punctuation (binary_punctuation o)) (λ us. (no-dot o us).0) h) (not-after punctuations.OpenBracket (kinds.Punctuation (binary_punctuation o)) (λ us. (no-dot o us).1) h) (not-after punctuations.OpenParen (kinds.Punctuation (binary_punctuation o)) (λ us. (no-dot o us).2) h),
+      no-suffix ts (not-after punctuations.Dot (kinds.Punctuation (binary_punctuation o)) (λ us. (no-dot o us).0) h)
+          (not-after punctuations.OpenBracket (kinds.Punctuation (binary_punctuation o)) (λ us. (no-dot o us).1) h)
+          (not-after punctuations.OpenParen (kinds.Punctuation (binary_punctuation o)) (λ us. (no-dot o us).2) h),
       b.2,
     )
 
-prefix-is : (o : UnaryOperator) (us : List Token) → unary_behind (kinds.Punctuation (unary_punctuation o)) us ≡ Some (o, us)
+prefix-is : (o : UnaryOperator) (us : List Token)
+    → unary_behind (kinds.Punctuation (unary_punctuation o)) us ≡ Some (o, us)
 prefix-is unary.Negate us = refl
 prefix-is _ us = refl
 
-pub prefix-first : {ws : List Word} {ts rest : List Token} (o : UnaryOperator) → Spelt (words.punctuation (unary_punctuation o) ∷ ws) ts rest → (us : List Token) × (unary_at ts ≡ Some (o, us)) × Spelt ws us rest
+pub prefix-first : {ws : List Word} {ts rest : List Token} (o : UnaryOperator)
+    → Spelt (words.punctuation (unary_punctuation o) ∷ ws) ts rest → (us : List Token) × (unary_at ts ≡ Some (o, us))
+    × Spelt ws us rest
 unfolding unary_at
 prefix-first o h = let f = first h in (f.1, ap unary_at f.2 ∙ ap (λ q. unary_behind q f.1) f.3 ∙ prefix-is o f.1, f.5)
 
 -- how an operand begins, by its first token
-pub start-first : {ws : List Word} {ts rest : List Token} (header : Bool) (k : TokenKind) → Spelt (words.word k ∷ ws) ts rest → (us : List Token) × (start_at header ts ≡ start_from header k us) × (unary_at ts ≡ unary_behind k us) × Spelt ws us rest
+pub start-first : {ws : List Word} {ts rest : List Token} (header : Bool) (k : TokenKind)
+    → Spelt (words.word k ∷ ws) ts rest → (us : List Token) × (start_at header ts ≡ start_from header k us)
+    × (unary_at ts ≡ unary_behind k us) × Spelt ws us rest
 unfolding start_at unary_at
-start-first header k h = let f = first h in (f.1, ap (start_at header) f.2 ∙ ap (λ q. start_from header q f.1) f.3, ap unary_at f.2 ∙ ap (λ q. unary_behind q f.1) f.3, f.5)
+start-first header k h = let f = first h in (
+  f.1,
+  ap (start_at header) f.2 ∙ ap (λ q. start_from header q f.1) f.3,
+  ap unary_at f.2 ∙ ap (λ q. unary_behind q f.1) f.3,
+  f.5,
+)
 
 -- a climb ends if no operator binds so tightly
-pub climb-stops : (header : Bool) (l : ℕ) (left : Expr) (ts : List Token) → head ts < l → expr_at (Climb header l left) ts ≡ Some (left, ts)
+pub climb-stops : (header : Bool) (l : ℕ) (left : Expr) (ts : List Token) → head ts < l
+    → expr_at (Climb header l left) ts ≡ Some (left, ts)
 climb-stops header l left ts h = expr-Climb header l left ts ∙ at (binary_at ts) h
   where
     at : (o : Option (BinaryOperator × List Token)) → tight o < l → climb_by header l left ts o ≡ Some (left, ts)

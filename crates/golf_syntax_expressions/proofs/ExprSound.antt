@@ -1,7 +1,8 @@
 -- What is read is a good expression, and is printed as the tokens that were read.
 -- For: `expr_at`, golf_syntax_expressions/specs/ExprReading.antt; the law `expressions_found`, src/laws.rt.
 -- By: cases of the mode and of the next token; the induction, over how deep reading goes, is in Plans.antt.
-use Rattle.std.proofs.Common.{◌≡◌, ℕ, suc, ◌+◌, ◌*◌, ◌-◌, ◌≤◌, ◌<◌, Bool, true, false, not, ◌&&◌, ◌||◌, cond, List, [], ◌∷◌, ◌++◌, map, length, refl, ap, sym, subst, ◌∙◌, append_assoc, arith}
+use Rattle.std.proofs.Common.{◌≡◌, ℕ, suc, ◌+◌, ◌*◌, ◌-◌, ◌≤◌, ◌<◌, Bool, true, false, not, ◌&&◌, ◌||◌, cond, List, []}
+use Rattle.std.proofs.Common.{◌∷◌, ◌++◌, map, length, refl, ap, sym, subst, ◌∙◌, append_assoc, arith}
 use Rattle.std.specs.Prelude.{Option, Some, None, nat_le, nat_lt}
 use Rattle.std.specs.Str.{bytes_eq}
 use Rattle.std.proofs.lemmas.Slice.Eq.{bytes_eq-Decides}
@@ -25,7 +26,8 @@ use Rattle.golf_syntax_trees.specs.declared.expressions.Element.{Element}
 use Rattle.golf_syntax_trees.specs.Words as words
 use Rattle.golf_syntax_trees.specs.Words.{Word, separated}
 use Rattle.golf_syntax_trees.specs.Types.{sync, print_type, type_form}
-use Rattle.golf_syntax_trees.specs.Expressions.{make, new, binds, unary_punctuation, binary_punctuation, print_expr, print_element, Form, form, element_form, all_good}
+use Rattle.golf_syntax_trees.specs.Expressions.{make, new, binds, unary_punctuation, binary_punctuation, print_expr}
+use Rattle.golf_syntax_trees.specs.Expressions.{print_element, Form, form, element_form, all_good}
 use Rattle.golf_syntax_expressions.specs.declared.starts.Start.{Start}
 use Rattle.golf_syntax_expressions.specs.declared.starts.Start.TheVariants as starts
 use Rattle.golf_syntax_expressions.specs.declared.starts.Suffix.{Suffix}
@@ -34,10 +36,18 @@ use Rattle.golf_syntax_expressions.specs.Plan.{◌>>=◌, Ask, given}
 use Rattle.golf_syntax_expressions.specs.Front.{after, name_at}
 use Rattle.golf_syntax_expressions.specs.TypeReading.{type_at, OfType}
 use Rattle.golf_syntax_expressions.specs.Operators.{unary_of, binary_of, punctuation_of, unary_at, binary_at}
-use Rattle.golf_syntax_expressions.specs.Starts.{whole, make_behind, make_start, new_behind, new_start, empty_start, slice_behind, slice_start, sync_start, struct_behind, literal_behind, literal_start, punctuation_start, named_start, keyword_start, start_from, start_at, call_behind, call_at, no_field, suffix_by, suffix_at}
-use Rattle.golf_syntax_expressions.specs.ExprReading.{Mode, Node, just, found, finish, extend, suffixes_plan, prefixed_plan, climb_plan, items_behind, elements_behind, elements_plan, expr_plan, Finish, Extend, Suffixes, Prefixed, Level, Climb, Items, Elements, element, expr_at}
+use Rattle.golf_syntax_expressions.specs.Starts.{whole, make_behind, make_start, new_behind, new_start, empty_start}
+use Rattle.golf_syntax_expressions.specs.Starts.{slice_behind, slice_start, sync_start, struct_behind, literal_behind}
+use Rattle.golf_syntax_expressions.specs.Starts.{literal_start, punctuation_start, named_start, keyword_start}
+use Rattle.golf_syntax_expressions.specs.Starts.{start_from, start_at, call_behind, call_at, no_field, suffix_by}
+use Rattle.golf_syntax_expressions.specs.Starts.{suffix_at}
+use Rattle.golf_syntax_expressions.specs.ExprReading.{Mode, Node, just, found, finish, extend, suffixes_plan}
+use Rattle.golf_syntax_expressions.specs.ExprReading.{prefixed_plan, climb_plan, items_behind, elements_behind}
+use Rattle.golf_syntax_expressions.specs.ExprReading.{elements_plan, expr_plan, Finish, Extend, Suffixes, Prefixed}
+use Rattle.golf_syntax_expressions.specs.ExprReading.{Level, Climb, Items, Elements, element, expr_at}
 use Rattle.golf_syntax_expressions.proofs.Plans.{bind_some, Keeps, keeps-given, reads-keeps}
-use Rattle.golf_syntax_expressions.proofs.Fronts.{some-same, and-true, Spelt, nothing, kind-then, punctuation-then, name-then, join}
+use Rattle.golf_syntax_expressions.proofs.Fronts.{some-same, and-true, Spelt, nothing, kind-then, punctuation-then}
+use Rattle.golf_syntax_expressions.proofs.Fronts.{name-then, join}
 use Rattle.golf_syntax_expressions.proofs.TypeLaws.{type-sound}
 use Rattle.golf_syntax_expressions.proofs.ExprShapes as shape
 use Rattle.golf_syntax_expressions.proofs.ExprFronts.{le-true, true-le, tight, head, head-small, binds-some}
@@ -48,7 +58,8 @@ pub record Primary (header : Bool) (e : Expr) : Type 0 where
   pub top : (form e).top ≡ 7
   pub clear : (header && (form e).ampersand) ≡ false
 
-prim : (header : Bool) (e : Expr) (f : Form) → form e ≡ f → f.good ≡ true → f.top ≡ 7 → (header && f.ampersand) ≡ false → Primary header e
+prim : (header : Bool) (e : Expr) (f : Form) → form e ≡ f → f.good ≡ true → f.top ≡ 7 → (header && f.ampersand) ≡ false
+    → Primary header e
 prim header e f p g t c = record {
   good = ap (λ (f : Form). f.good) p ∙ g;
   top = ap (λ (f : Form). f.top) p ∙ t;
@@ -59,9 +70,12 @@ prim header e f p g t c = record {
 abbrev opening : Start → List Word
 opening (starts.Whole e) = print_expr e
 opening starts.Group = words.punctuation punctuations.OpenParen ∷ []
-opening (starts.Sized t) = words.name make ∷ words.punctuation punctuations.OpenParen ∷ (print_type t ++ words.punctuation punctuations.Comma ∷ [])
-opening (starts.Items t) = words.punctuation punctuations.OpenBracket ∷ words.punctuation punctuations.CloseBracket ∷ (print_type t ++ words.punctuation punctuations.OpenBrace ∷ [])
-opening (starts.Elements n) = words.punctuation punctuations.Ampersand ∷ words.name n ∷ words.punctuation punctuations.OpenBrace ∷ []
+opening (starts.Sized t) = words.name make ∷ words.punctuation punctuations.OpenParen
+    ∷ (print_type t ++ words.punctuation punctuations.Comma ∷ [])
+opening (starts.Items t) = words.punctuation punctuations.OpenBracket ∷ words.punctuation punctuations.CloseBracket
+    ∷ (print_type t ++ words.punctuation punctuations.OpenBrace ∷ [])
+opening (starts.Elements n) = words.punctuation punctuations.Ampersand ∷ words.name n
+    ∷ words.punctuation punctuations.OpenBrace ∷ []
 
 abbrev StartGood : Bool → Start → Type 0
 StartGood header (starts.Whole e) = Primary header e
@@ -88,30 +102,43 @@ record StandsWhole (header : Bool) (e : Expr) (ts us : List Token) (ws : List Wo
   clear : (header && f.ampersand) ≡ false
 
 -- an operand that stands there whole
-whole-begins : {ws : List Word} {f : Form} (header : Bool) (e : Expr) (ts us : List Token) (x : Start × List Token) → StandsWhole header e ts us ws f → whole e us ≡ Some x → Begins header ts x
+whole-begins : {ws : List Word} {f : Form} (header : Bool) (e : Expr) (ts us : List Token) (x : Start × List Token)
+    → StandsWhole header e ts us ws f → whole e us ≡ Some x → Begins header ts x
 whole-begins {f = f} header e ts us x s is =
-    subst (Begins header ts) (some-same (starts.Whole e, us) x is) (record { words = subst (λ vs. Spelt vs ts us) (sym s.print) s.spelt; good = prim header e f s.form s.good s.top s.clear })
+    subst (Begins header ts) (some-same (starts.Whole e, us) x is)
+    (record {
+      words = subst (λ vs. Spelt vs ts us) (sym s.print) s.spelt;
+      good = prim header e f s.form s.good s.top s.clear;
+    })
 
 module _ (header : Bool) (t : Token) (ts : List Token) where
   make-sound : t.kind ≡ kinds.Name make → (x : Start × List Token) → make_start ts ≡ Some x → Begins header (t ∷ ts) x
   unfolding make_start
   make-sound is x e =
-      let a = bind_some (after punctuations.OpenParen ts) (λ us. type_at OfType us >>= λ x. make_behind x.0 x.1 (after punctuations.Comma x.1)) x e in
+      let a = bind_some (after punctuations.OpenParen ts)
+      (λ us. type_at OfType us >>= λ x. make_behind x.0 x.1 (after punctuations.Comma x.1)) x e in
       let b = bind_some (type_at OfType a.0) (λ x. make_behind x.0 x.1 (after punctuations.Comma x.1)) x a.2 in
       at a.0 a.1 b.0.0 b.0.1 b.1 (after punctuations.Comma b.0.1) refl b.2
     where
-      at : (us : List Token) → after punctuations.OpenParen ts ≡ Some us → (y : TypeExpr) (vs : List Token) → type_at OfType us ≡ Some (y, vs) → (o : Option (List Token)) → after punctuations.Comma vs ≡ o → make_behind y vs o ≡ Some x → Begins header (t ∷ ts) x
+      at : (us : List Token) → after punctuations.OpenParen ts ≡ Some us → (y : TypeExpr) (vs : List Token)
+          → type_at OfType us ≡ Some (y, vs) → (o : Option (List Token)) → after punctuations.Comma vs ≡ o
+          → make_behind y vs o ≡ Some x → Begins header (t ∷ ts) x
       at us p y vs q (Some qs) c f =
           let s = type-sound us (y, vs) q in
           subst (Begins header (t ∷ ts)) (some-same (starts.Sized y, qs) x f)
-          (record { words = kind-then t _ is (punctuation-then punctuations.OpenParen ts p (join s.words (punctuation-then punctuations.Comma vs c nothing))); good = s.good })
+          (record {
+            words = kind-then t _ is (punctuation-then punctuations.OpenParen ts p
+                (join s.words (punctuation-then punctuations.Comma vs c nothing)));
+            good = s.good;
+          })
       at us p y vs q None c f =
           let s = type-sound us (y, vs) q in
           let d = bind_some (after punctuations.CloseParen vs) (whole (ex.Make y)) x f in
           whole-begins header (ex.Make y) (t ∷ ts) d.0 x (record {
             print = shape.print-Make y;
             form = shape.form-Make y;
-            spelt = kind-then t _ is (punctuation-then punctuations.OpenParen ts p (join s.words (punctuation-then punctuations.CloseParen vs d.1 nothing)));
+            spelt = kind-then t _ is (punctuation-then punctuations.OpenParen ts p
+                (join s.words (punctuation-then punctuations.CloseParen vs d.1 nothing)));
             good = s.good;
             top = refl;
             clear = false-and header;
@@ -120,11 +147,15 @@ module _ (header : Bool) (t : Token) (ts : List Token) where
   new-sound : t.kind ≡ kinds.Name new → (x : Start × List Token) → new_start ts ≡ Some x → Begins header (t ∷ ts) x
   unfolding new_start
   new-sound is x e =
-      let a = bind_some (after punctuations.OpenParen ts) (λ us. name_at us >>= λ n. new_behind n.0 n.1 (after punctuations.Dot n.1)) x e in
+      let a = bind_some (after punctuations.OpenParen ts)
+      (λ us. name_at us >>= λ n. new_behind n.0 n.1 (after punctuations.Dot n.1)) x e in
       let b = bind_some (name_at a.0) (λ n. new_behind n.0 n.1 (after punctuations.Dot n.1)) x a.2 in
       at a.0 a.1 b.0.0 b.0.1 b.1 (after punctuations.Dot b.0.1) refl b.2
     where
-      sync_at : (us : List Token) → after punctuations.OpenParen ts ≡ Some us → (n : List ℕ) (vs qs : List Token) → name_at us ≡ Some (n, vs) → after punctuations.Dot vs ≡ Some qs → (b : Bool) → bytes_eq n sync ≡ b → cond b (name_at qs >>= λ m. after punctuations.CloseParen m.1 >>= whole (ex.NewSync m.0)) None ≡ Some x → Begins header (t ∷ ts) x
+      sync_at : (us : List Token) → after punctuations.OpenParen ts ≡ Some us → (n : List ℕ) (vs qs : List Token)
+          → name_at us ≡ Some (n, vs) → after punctuations.Dot vs ≡ Some qs → (b : Bool) → bytes_eq n sync ≡ b
+          → cond b (name_at qs >>= λ m. after punctuations.CloseParen m.1 >>= whole (ex.NewSync m.0)) None ≡ Some x
+          → Begins header (t ∷ ts) x
       sync_at us p n vs qs q r false eq f = absurd (never f)
         where
           never : ◌≡◌ {A = Option (Start × List Token)} None (Some x) → ⊥
@@ -136,30 +167,37 @@ module _ (header : Bool) (t : Token) (ts : List Token) where
           whole-begins header (ex.NewSync c.0.0) (t ∷ ts) d.0 x (record {
             print = shape.print-NewSync c.0.0;
             form = shape.form-NewSync c.0.0;
-            spelt = kind-then t _ is (punctuation-then punctuations.OpenParen ts p (name-then sync us named (punctuation-then punctuations.Dot vs r (name-then c.0.0 qs c.1 (punctuation-then punctuations.CloseParen c.0.1 d.1 nothing)))));
+            spelt = kind-then t _ is (punctuation-then punctuations.OpenParen ts p
+                (name-then sync us named (punctuation-then punctuations.Dot vs r
+                (name-then c.0.0 qs c.1 (punctuation-then punctuations.CloseParen c.0.1 d.1 nothing)))));
             good = refl;
             top = refl;
             clear = false-and header;
           }) d.2
 
-      at : (us : List Token) → after punctuations.OpenParen ts ≡ Some us → (n : List ℕ) (vs : List Token) → name_at us ≡ Some (n, vs) → (o : Option (List Token)) → after punctuations.Dot vs ≡ o → new_behind n vs o ≡ Some x → Begins header (t ∷ ts) x
+      at : (us : List Token) → after punctuations.OpenParen ts ≡ Some us → (n : List ℕ) (vs : List Token)
+          → name_at us ≡ Some (n, vs) → (o : Option (List Token)) → after punctuations.Dot vs ≡ o
+          → new_behind n vs o ≡ Some x → Begins header (t ∷ ts) x
       at us p n vs q (Some qs) r f = sync_at us p n vs qs q r (bytes_eq n sync) refl f
       at us p n vs q None r f =
           let d = bind_some (after punctuations.CloseParen vs) (whole (ex.New n)) x f in
           whole-begins header (ex.New n) (t ∷ ts) d.0 x (record {
             print = shape.print-New n;
             form = shape.form-New n;
-            spelt = kind-then t _ is (punctuation-then punctuations.OpenParen ts p (name-then n us q (punctuation-then punctuations.CloseParen vs d.1 nothing)));
+            spelt = kind-then t _ is (punctuation-then punctuations.OpenParen ts p
+                (name-then n us q (punctuation-then punctuations.CloseParen vs d.1 nothing)));
             good = refl;
             top = refl;
             clear = false-and header;
           }) d.2
 
-  named-sound : (n : List ℕ) → t.kind ≡ kinds.Name n → (x : Start × List Token) → named_start n ts ≡ Some x → Begins header (t ∷ ts) x
+  named-sound : (n : List ℕ) → t.kind ≡ kinds.Name n → (x : Start × List Token) → named_start n ts ≡ Some x
+      → Begins header (t ∷ ts) x
   unfolding named_start
   named-sound n is x e = at (bytes_eq n make) refl (bytes_eq n new) refl e
     where
-      at : (b : Bool) → bytes_eq n make ≡ b → (c : Bool) → bytes_eq n new ≡ c → cond b (make_start ts) (cond c (new_start ts) (whole (ex.Name n) ts)) ≡ Some x → Begins header (t ∷ ts) x
+      at : (b : Bool) → bytes_eq n make ≡ b → (c : Bool) → bytes_eq n new ≡ c
+          → cond b (make_start ts) (cond c (new_start ts) (whole (ex.Name n) ts)) ≡ Some x → Begins header (t ∷ ts) x
       at true p c q f = make-sound (is ∙ ap kinds.Name ((bytes_eq-Decides n make).0 p)) x f
       at false p true q f = new-sound (is ∙ ap kinds.Name ((bytes_eq-Decides n new).0 q)) x f
       at false p false q f = whole-begins header (ex.Name n) (t ∷ ts) ts x (record {
@@ -171,47 +209,72 @@ module _ (header : Bool) (t : Token) (ts : List Token) where
         clear = false-and header;
       }) f
 
-  empty-sound : t.kind ≡ kinds.Keyword keywords.Struct → (x : Start × List Token) → empty_start ts ≡ Some x → Begins header (t ∷ ts) x
+  empty-sound : t.kind ≡ kinds.Keyword keywords.Struct → (x : Start × List Token) → empty_start ts ≡ Some x
+      → Begins header (t ∷ ts) x
   unfolding empty_start
   empty-sound is x e =
-      let a = bind_some (after punctuations.OpenBrace ts) (λ a. after punctuations.CloseBrace a >>= λ b. after punctuations.OpenBrace b >>= λ c. after punctuations.CloseBrace c >>= whole ex.EmptyLiteral) x e in
-      let b = bind_some (after punctuations.CloseBrace a.0) (λ b. after punctuations.OpenBrace b >>= λ c. after punctuations.CloseBrace c >>= whole ex.EmptyLiteral) x a.2 in
-      let c = bind_some (after punctuations.OpenBrace b.0) (λ c. after punctuations.CloseBrace c >>= whole ex.EmptyLiteral) x b.2 in
+      let a = bind_some (after punctuations.OpenBrace ts)
+      (λ a. after punctuations.CloseBrace a >>= λ b. after punctuations.OpenBrace b >>= λ c. after
+      punctuations.CloseBrace c >>= whole ex.EmptyLiteral) x e in
+      let b = bind_some (after punctuations.CloseBrace a.0)
+      (λ b. after punctuations.OpenBrace b >>= λ c. after punctuations.CloseBrace c >>= whole ex.EmptyLiteral) x
+      a.2 in
+      let c = bind_some (after punctuations.OpenBrace b.0)
+      (λ c. after punctuations.CloseBrace c >>= whole ex.EmptyLiteral) x b.2 in
       let d = bind_some (after punctuations.CloseBrace c.0) (whole ex.EmptyLiteral) x c.2 in
       whole-begins header ex.EmptyLiteral (t ∷ ts) d.0 x (record {
         print = shape.print-EmptyLiteral;
         form = shape.form-EmptyLiteral;
-        spelt = kind-then t _ is (punctuation-then punctuations.OpenBrace ts a.1 (punctuation-then punctuations.CloseBrace a.0 b.1 (punctuation-then punctuations.OpenBrace b.0 c.1 (punctuation-then punctuations.CloseBrace c.0 d.1 nothing))));
+        spelt = kind-then t _ is (punctuation-then punctuations.OpenBrace ts a.1
+            (punctuation-then punctuations.CloseBrace a.0 b.1
+            (punctuation-then punctuations.OpenBrace b.0 c.1
+            (punctuation-then punctuations.CloseBrace c.0 d.1 nothing))));
         good = refl;
         top = refl;
         clear = false-and header;
       }) d.2
 
-  slice-sound : t.kind ≡ kinds.Punctuation punctuations.OpenBracket → (x : Start × List Token) → slice_start ts ≡ Some x → Begins header (t ∷ ts) x
+  slice-sound : t.kind ≡ kinds.Punctuation punctuations.OpenBracket → (x : Start × List Token) → slice_start ts ≡ Some x
+      → Begins header (t ∷ ts) x
   unfolding slice_start
   slice-sound is x e =
-      let a = bind_some (after punctuations.CloseBracket ts) (λ us. type_at OfType us >>= λ x. after punctuations.OpenBrace x.1 >>= λ vs. slice_behind x.0 vs (after punctuations.CloseBrace vs)) x e in
-      let b = bind_some (type_at OfType a.0) (λ x. after punctuations.OpenBrace x.1 >>= λ vs. slice_behind x.0 vs (after punctuations.CloseBrace vs)) x a.2 in
-      let c = bind_some (after punctuations.OpenBrace b.0.1) (λ vs. slice_behind b.0.0 vs (after punctuations.CloseBrace vs)) x b.2 in
+      let a = bind_some (after punctuations.CloseBracket ts)
+      (λ us. type_at OfType us >>= λ x. after punctuations.OpenBrace x.1 >>= λ vs. slice_behind x.0 vs
+      (after punctuations.CloseBrace vs)) x e in
+      let b = bind_some (type_at OfType a.0)
+      (λ x. after punctuations.OpenBrace x.1 >>= λ vs. slice_behind x.0 vs (after punctuations.CloseBrace vs)) x
+      a.2 in
+      let c = bind_some (after punctuations.OpenBrace b.0.1)
+      (λ vs. slice_behind b.0.0 vs (after punctuations.CloseBrace vs)) x b.2 in
       at a.0 a.1 b.0.0 b.0.1 b.1 c.0 c.1 (after punctuations.CloseBrace c.0) refl c.2
     where
-      at : (us : List Token) → after punctuations.CloseBracket ts ≡ Some us → (y : TypeExpr) (vs : List Token) → type_at OfType us ≡ Some (y, vs) → (qs : List Token) → after punctuations.OpenBrace vs ≡ Some qs → (o : Option (List Token)) → after punctuations.CloseBrace qs ≡ o → slice_behind y qs o ≡ Some x → Begins header (t ∷ ts) x
+      at : (us : List Token) → after punctuations.CloseBracket ts ≡ Some us → (y : TypeExpr) (vs : List Token)
+          → type_at OfType us ≡ Some (y, vs) → (qs : List Token) → after punctuations.OpenBrace vs ≡ Some qs
+          → (o : Option (List Token)) → after punctuations.CloseBrace qs ≡ o → slice_behind y qs o ≡ Some x
+          → Begins header (t ∷ ts) x
       at us p y vs q qs r None c f =
           let s = type-sound us (y, vs) q in
           subst (Begins header (t ∷ ts)) (some-same (starts.Items y, qs) x f)
-          (record { words = kind-then t _ is (punctuation-then punctuations.CloseBracket ts p (join s.words (punctuation-then punctuations.OpenBrace vs r nothing))); good = s.good })
+          (record {
+            words = kind-then t _ is (punctuation-then punctuations.CloseBracket ts p
+                (join s.words (punctuation-then punctuations.OpenBrace vs r nothing)));
+            good = s.good;
+          })
       at us p y vs q qs r (Some zs) c f =
           let s = type-sound us (y, vs) q in
           whole-begins header (ex.SliceLiteral y []) (t ∷ ts) zs x (record {
             print = shape.print-SliceLiteral y [];
             form = shape.form-SliceLiteral y [];
-            spelt = kind-then t _ is (punctuation-then punctuations.CloseBracket ts p (join s.words (punctuation-then punctuations.OpenBrace vs r (punctuation-then punctuations.CloseBrace qs c nothing))));
+            spelt = kind-then t _ is (punctuation-then punctuations.CloseBracket ts p
+                (join s.words (punctuation-then punctuations.OpenBrace vs r
+                (punctuation-then punctuations.CloseBrace qs c nothing))));
             good = and-true (type_form y).good true s.good refl;
             top = refl;
             clear = false-and header;
           }) f
 
-  literal-sound : header ≡ false → t.kind ≡ kinds.Punctuation punctuations.Ampersand → (x : Start × List Token) → literal_start ts ≡ Some x → Begins header (t ∷ ts) x
+  literal-sound : header ≡ false → t.kind ≡ kinds.Punctuation punctuations.Ampersand → (x : Start × List Token)
+      → literal_start ts ≡ Some x → Begins header (t ∷ ts) x
   unfolding literal_start sync_start
   literal-sound off is x e =
       let a = bind_some (name_at ts) (λ n. literal_behind n.0 n.1 (after punctuations.Dot n.1)) x e in
@@ -220,47 +283,68 @@ module _ (header : Bool) (t : Token) (ts : List Token) where
       clear : (b : Bool) → (header && b) ≡ false
       clear b = ap (λ h. h && b) off
 
-      sync_at : (n : List ℕ) (us vs : List Token) → name_at ts ≡ Some (n, us) → after punctuations.Dot us ≡ Some vs → (b : Bool) → bytes_eq n sync ≡ b → cond b (name_at vs >>= λ m. after punctuations.OpenBrace m.1 >>= λ us. after punctuations.CloseBrace us >>= whole (ex.SyncLiteral m.0)) None ≡ Some x → Begins header (t ∷ ts) x
+      sync_at : (n : List ℕ) (us vs : List Token) → name_at ts ≡ Some (n, us) → after punctuations.Dot us ≡ Some vs
+          → (b : Bool) → bytes_eq n sync ≡ b → cond b
+          (name_at vs >>= λ m. after punctuations.OpenBrace m.1 >>= λ us. after punctuations.CloseBrace us >>= whole
+          (ex.SyncLiteral m.0)) None ≡ Some x → Begins header (t ∷ ts) x
       sync_at n us vs p q false eq f = absurd (never f)
         where
           never : ◌≡◌ {A = Option (Start × List Token)} None (Some x) → ⊥
           never f = cc
       sync_at n us vs p q true eq f =
-          let b = bind_some (name_at vs) (λ m. after punctuations.OpenBrace m.1 >>= λ us. after punctuations.CloseBrace us >>= whole (ex.SyncLiteral m.0)) x f in
-          let c = bind_some (after punctuations.OpenBrace b.0.1) (λ us. after punctuations.CloseBrace us >>= whole (ex.SyncLiteral b.0.0)) x b.2 in
+          let b = bind_some (name_at vs) (λ m. after punctuations.OpenBrace m.1 >>= λ us. after punctuations.CloseBrace
+          us >>= whole (ex.SyncLiteral m.0)) x f in
+          let c = bind_some (after punctuations.OpenBrace b.0.1)
+          (λ us. after punctuations.CloseBrace us >>= whole (ex.SyncLiteral b.0.0)) x b.2 in
           let d = bind_some (after punctuations.CloseBrace c.0) (whole (ex.SyncLiteral b.0.0)) x c.2 in
           let named = p ∙ ap (λ m. Some (m, us)) ((bytes_eq-Decides n sync).0 eq) in
           whole-begins header (ex.SyncLiteral b.0.0) (t ∷ ts) d.0 x (record {
             print = shape.print-SyncLiteral b.0.0;
             form = shape.form-SyncLiteral b.0.0;
-            spelt = kind-then t _ is (name-then sync ts named (punctuation-then punctuations.Dot us q (name-then b.0.0 vs b.1 (punctuation-then punctuations.OpenBrace b.0.1 c.1 (punctuation-then punctuations.CloseBrace c.0 d.1 nothing)))));
+            spelt = kind-then t _ is (name-then sync ts named
+                (punctuation-then punctuations.Dot us q
+                (name-then b.0.0 vs b.1 (punctuation-then punctuations.OpenBrace b.0.1 c.1
+                (punctuation-then punctuations.CloseBrace c.0 d.1 nothing)))));
             good = refl;
             top = refl;
             clear = clear true;
           }) d.2
 
-      opened : (n : List ℕ) (us vs : List Token) → name_at ts ≡ Some (n, us) → after punctuations.OpenBrace us ≡ Some vs → (o : Option (List Token)) → after punctuations.CloseBrace vs ≡ o → struct_behind n vs o ≡ Some x → Begins header (t ∷ ts) x
+      opened : (n : List ℕ) (us vs : List Token) → name_at ts ≡ Some (n, us) → after punctuations.OpenBrace us ≡ Some vs
+          → (o : Option (List Token)) → after punctuations.CloseBrace vs ≡ o → struct_behind n vs o ≡ Some x
+          → Begins header (t ∷ ts) x
       opened n us vs p q None c f =
-          subst (Begins header (t ∷ ts)) (some-same (starts.Elements n, vs) x f) (record { words = kind-then t _ is (name-then n ts p (punctuation-then punctuations.OpenBrace us q nothing)); good = off })
+          subst (Begins header (t ∷ ts)) (some-same (starts.Elements n, vs) x f)
+          (record {
+            words = kind-then t _ is (name-then n ts p
+                (punctuation-then punctuations.OpenBrace us q nothing));
+            good = off;
+          })
       opened n us vs p q (Some zs) c f =
           whole-begins header (ex.StructLiteral n []) (t ∷ ts) zs x (record {
             print = shape.print-StructLiteral n [];
             form = shape.form-StructLiteral n [];
-            spelt = kind-then t _ is (name-then n ts p (punctuation-then punctuations.OpenBrace us q (punctuation-then punctuations.CloseBrace vs c nothing)));
+            spelt = kind-then t _ is (name-then n ts p
+                (punctuation-then punctuations.OpenBrace us q (punctuation-then punctuations.CloseBrace vs c nothing)));
             good = refl;
             top = refl;
             clear = clear true;
           }) f
 
-      at : (n : List ℕ) (us : List Token) → name_at ts ≡ Some (n, us) → (o : Option (List Token)) → after punctuations.Dot us ≡ o → literal_behind n us o ≡ Some x → Begins header (t ∷ ts) x
+      at : (n : List ℕ) (us : List Token) → name_at ts ≡ Some (n, us) → (o : Option (List Token))
+          → after punctuations.Dot us ≡ o → literal_behind n us o ≡ Some x → Begins header (t ∷ ts) x
       at n us p (Some vs) q f = sync_at n us vs p q (bytes_eq n sync) refl f
       at n us p None q f =
-          let b = bind_some (after punctuations.OpenBrace us) (λ vs. struct_behind n vs (after punctuations.CloseBrace vs)) x f in
+          let b = bind_some (after punctuations.OpenBrace us)
+          (λ vs. struct_behind n vs (after punctuations.CloseBrace vs)) x f in
           opened n us b.0 p b.1 (after punctuations.CloseBrace b.0) refl b.2
 
-  punctuation-sound : (m : Punctuation) → t.kind ≡ kinds.Punctuation m → (x : Start × List Token) → punctuation_start header m ts ≡ Some x → Begins header (t ∷ ts) x
+  punctuation-sound : (m : Punctuation) → t.kind ≡ kinds.Punctuation m → (x : Start × List Token)
+      → punctuation_start header m ts ≡ Some x → Begins header (t ∷ ts) x
   unfolding punctuation_start
-  punctuation-sound punctuations.OpenParen is x e = subst (Begins header (t ∷ ts)) (some-same (starts.Group, ts) x e) (record { words = kind-then t _ is nothing; good = tt })
+  punctuation-sound punctuations.OpenParen is x e =
+      subst (Begins header (t ∷ ts)) (some-same (starts.Group, ts) x e)
+      (record { words = kind-then t _ is nothing; good = tt })
   punctuation-sound punctuations.OpenBracket is x e = slice-sound is x e
   punctuation-sound punctuations.Ampersand is x e = at header refl e
     where
@@ -272,11 +356,13 @@ module _ (header : Bool) (t : Token) (ts : List Token) where
       at false p f = literal-sound p is x f
   punctuation-sound _ is x e = cc
 
-  keyword-sound : (w : Keyword) → t.kind ≡ kinds.Keyword w → (x : Start × List Token) → keyword_start w ts ≡ Some x → Begins header (t ∷ ts) x
+  keyword-sound : (w : Keyword) → t.kind ≡ kinds.Keyword w → (x : Start × List Token) → keyword_start w ts ≡ Some x
+      → Begins header (t ∷ ts) x
   keyword-sound keywords.Struct is x e = empty-sound is x e
   keyword-sound _ is x e = cc
 
-  kind-sound : (k : TokenKind) → t.kind ≡ k → (x : Start × List Token) → start_from header k ts ≡ Some x → Begins header (t ∷ ts) x
+  kind-sound : (k : TokenKind) → t.kind ≡ k → (x : Start × List Token) → start_from header k ts ≡ Some x
+      → Begins header (t ∷ ts) x
   unfolding start_from
   kind-sound (kinds.Integer digits) is x e = whole-begins header (ex.Integer digits) (t ∷ ts) ts x (record {
     print = shape.print-Integer digits;
@@ -298,7 +384,8 @@ module _ (header : Bool) (t : Token) (ts : List Token) where
   kind-sound (kinds.Keyword w) is x e = keyword-sound w is x e
   kind-sound (kinds.Punctuation m) is x e = punctuation-sound m is x e
 
-start-sound : (header : Bool) (ts : List Token) (x : Start × List Token) → start_at header ts ≡ Some x → Begins header ts x
+start-sound : (header : Bool) (ts : List Token) (x : Start × List Token) → start_at header ts ≡ Some x
+    → Begins header ts x
 unfolding start_at
 start-sound header [] x e = cc
 start-sound header (t ∷ ts) x e = kind-sound header t ts t.kind refl x e
@@ -307,25 +394,37 @@ start-sound header (t ∷ ts) x e = kind-sound header t ts t.kind refl x e
 abbrev suffix_words : Suffix → List Word
 suffix_words (suffixes.Field n) = words.punctuation punctuations.Dot ∷ words.name n ∷ []
 suffix_words suffixes.Index = words.punctuation punctuations.OpenBracket ∷ []
-suffix_words suffixes.NoArguments = words.punctuation punctuations.OpenParen ∷ words.punctuation punctuations.CloseParen ∷ []
+suffix_words suffixes.NoArguments = words.punctuation punctuations.OpenParen ∷ words.punctuation punctuations.CloseParen
+    ∷ []
 suffix_words suffixes.Arguments = words.punctuation punctuations.OpenParen ∷ []
 
 suffix-sound : (ts : List Token) (s : Suffix × List Token) → suffix_at ts ≡ Some s → Spelt (suffix_words s.0) ts s.1
 unfolding suffix_at call_at
 suffix-sound ts s e = at (after punctuations.Dot ts) refl e
   where
-    called : (us : List Token) → after punctuations.OpenParen ts ≡ Some us → (o : Option (List Token)) → after punctuations.CloseParen us ≡ o → call_behind us o ≡ Some s → Spelt (suffix_words s.0) ts s.1
-    called us p None c f = subst (λ (x : Suffix × List Token). Spelt (suffix_words x.0) ts x.1) (some-same (suffixes.Arguments, us) s f) (punctuation-then punctuations.OpenParen ts p nothing)
-    called us p (Some vs) c f = subst (λ (x : Suffix × List Token). Spelt (suffix_words x.0) ts x.1) (some-same (suffixes.NoArguments, vs) s f) (punctuation-then punctuations.OpenParen ts p (punctuation-then punctuations.CloseParen us c nothing))
+    called : (us : List Token) → after punctuations.OpenParen ts ≡ Some us → (o : Option (List Token))
+        → after punctuations.CloseParen us ≡ o → call_behind us o ≡ Some s → Spelt (suffix_words s.0) ts s.1
+    called us p None c f = subst (λ (x : Suffix × List Token). Spelt (suffix_words x.0) ts x.1)
+        (some-same (suffixes.Arguments, us) s f) (punctuation-then punctuations.OpenParen ts p nothing)
+    called us p (Some vs) c f = subst (λ (x : Suffix × List Token). Spelt (suffix_words x.0) ts x.1)
+        (some-same (suffixes.NoArguments, vs) s f)
+        (punctuation-then punctuations.OpenParen ts p (punctuation-then punctuations.CloseParen us c nothing))
 
-    opened : (o : Option (List Token)) → after punctuations.OpenBracket ts ≡ o → no_field ts o ≡ Some s → Spelt (suffix_words s.0) ts s.1
-    opened (Some us) p f = subst (λ (x : Suffix × List Token). Spelt (suffix_words x.0) ts x.1) (some-same (suffixes.Index, us) s f) (punctuation-then punctuations.OpenBracket ts p nothing)
-    opened None p f = let a = bind_some (after punctuations.OpenParen ts) (λ us. call_behind us (after punctuations.CloseParen us)) s f in called a.0 a.1 (after punctuations.CloseParen a.0) refl a.2
+    opened : (o : Option (List Token)) → after punctuations.OpenBracket ts ≡ o → no_field ts o ≡ Some s
+        → Spelt (suffix_words s.0) ts s.1
+    opened (Some us) p f = subst (λ (x : Suffix × List Token). Spelt (suffix_words x.0) ts x.1)
+        (some-same (suffixes.Index, us) s f) (punctuation-then punctuations.OpenBracket ts p nothing)
+    opened None p f = let a = bind_some (after punctuations.OpenParen ts)
+        (λ us. call_behind us (after punctuations.CloseParen us)) s f in called a.0 a.1
+        (after punctuations.CloseParen a.0) refl a.2
 
-    at : (o : Option (List Token)) → after punctuations.Dot ts ≡ o → suffix_by ts o ≡ Some s → Spelt (suffix_words s.0) ts s.1
+    at : (o : Option (List Token)) → after punctuations.Dot ts ≡ o → suffix_by ts o ≡ Some s
+        → Spelt (suffix_words s.0) ts s.1
     at (Some us) p f =
         let a = bind_some (name_at us) (λ n. Some (suffixes.Field n.0, n.1)) s f in
-        subst (λ (x : Suffix × List Token). Spelt (suffix_words x.0) ts x.1) (some-same (suffixes.Field a.0.0, a.0.1) s a.2) (punctuation-then punctuations.Dot ts p (name-then a.0.0 us a.1 nothing))
+        subst (λ (x : Suffix × List Token). Spelt (suffix_words x.0) ts x.1)
+        (some-same (suffixes.Field a.0.0, a.0.1) s a.2)
+        (punctuation-then punctuations.Dot ts p (name-then a.0.0 us a.1 nothing))
     at None p f = opened (after punctuations.OpenBracket ts) refl f
 
 unary-punctuation : (m : Punctuation) (o : UnaryOperator) → unary_of m ≡ Some o → m ≡ unary_punctuation o
@@ -354,23 +453,29 @@ punctuation-kind : (k : TokenKind) (m : Punctuation) → punctuation_of k ≡ So
 punctuation-kind (kinds.Punctuation n) m e = ap kinds.Punctuation (some-same n m e)
 punctuation-kind _ m e = cc
 
-unary-sound : (ts : List Token) (o : UnaryOperator × List Token) → unary_at ts ≡ Some o → Spelt (words.punctuation (unary_punctuation o.0) ∷ []) ts o.1
+unary-sound : (ts : List Token) (o : UnaryOperator × List Token) → unary_at ts ≡ Some o
+    → Spelt (words.punctuation (unary_punctuation o.0) ∷ []) ts o.1
 unfolding unary_at
 unary-sound [] o e = cc
 unary-sound (t ∷ ts) o e =
     let a = bind_some (punctuation_of t.kind) (λ m. unary_of m >>= λ o. Some (o, ts)) o e in
     let b = bind_some (unary_of a.0) (λ o. Some (o, ts)) o a.2 in
-    subst (λ (x : UnaryOperator × List Token). Spelt (words.punctuation (unary_punctuation x.0) ∷ []) (t ∷ ts) x.1) (some-same (b.0, ts) o b.2)
-    (kind-then t (kinds.Punctuation (unary_punctuation b.0)) (punctuation-kind t.kind a.0 a.1 ∙ ap kinds.Punctuation (unary-punctuation a.0 b.0 b.1)) nothing)
+    subst (λ (x : UnaryOperator × List Token). Spelt (words.punctuation (unary_punctuation x.0) ∷ []) (t ∷ ts) x.1)
+    (some-same (b.0, ts) o b.2)
+    (kind-then t (kinds.Punctuation (unary_punctuation b.0))
+    (punctuation-kind t.kind a.0 a.1 ∙ ap kinds.Punctuation (unary-punctuation a.0 b.0 b.1)) nothing)
 
-binary-sound : (ts : List Token) (o : BinaryOperator × List Token) → binary_at ts ≡ Some o → Spelt (words.punctuation (binary_punctuation o.0) ∷ []) ts o.1
+binary-sound : (ts : List Token) (o : BinaryOperator × List Token) → binary_at ts ≡ Some o
+    → Spelt (words.punctuation (binary_punctuation o.0) ∷ []) ts o.1
 unfolding binary_at
 binary-sound [] o e = cc
 binary-sound (t ∷ ts) o e =
     let a = bind_some (punctuation_of t.kind) (λ m. binary_of m >>= λ o. Some (o, ts)) o e in
     let b = bind_some (binary_of a.0) (λ o. Some (o, ts)) o a.2 in
-    subst (λ (x : BinaryOperator × List Token). Spelt (words.punctuation (binary_punctuation x.0) ∷ []) (t ∷ ts) x.1) (some-same (b.0, ts) o b.2)
-    (kind-then t (kinds.Punctuation (binary_punctuation b.0)) (punctuation-kind t.kind a.0 a.1 ∙ ap kinds.Punctuation (binary-punctuation a.0 b.0 b.1)) nothing)
+    subst (λ (x : BinaryOperator × List Token). Spelt (words.punctuation (binary_punctuation x.0) ∷ []) (t ∷ ts) x.1)
+    (some-same (b.0, ts) o b.2)
+    (kind-then t (kinds.Punctuation (binary_punctuation b.0))
+    (punctuation-kind t.kind a.0 a.1 ∙ ap kinds.Punctuation (binary-punctuation a.0 b.0 b.1)) nothing)
 
 -- read with operators in front
 pub record IsPrefixed (header : Bool) (ts : List Token) (x : Expr × List Token) : Type 0 where
@@ -415,7 +520,8 @@ record ElementsRead (done : List Element) (ts : List Token) (x : List Element ×
 
 -- what is read after something that was read before
 abbrev Grows : (List Word) → List Token → (Bool → Type 0) → Expr × List Token → Type 0
-Grows ws ts good x = (header : Bool) (before : List Token) → Spelt ws before ts → good header → Spelt (print_expr x.0) before x.1 × Primary header x.0
+Grows ws ts good x = (header : Bool) (before : List Token) → Spelt ws before ts → good header
+    → Spelt (print_expr x.0) before x.1 × Primary header x.0
 
 abbrev Sound : (m : Mode) → List Token → Node m × List Token → Type 0
 Sound (Finish s) ts x = Grows (opening s) ts (λ h. StartGood h s) x
@@ -423,42 +529,62 @@ Sound (Extend base s) ts x = Grows (print_expr base ++ suffix_words s) ts (λ h.
 Sound (Suffixes base) ts x = Grows (print_expr base) ts (λ h. Primary h base) x
 Sound (Prefixed header) ts x = IsPrefixed header ts x
 Sound (Level header l) ts x = l ≤ 6 → IsAtLevel header l ts x
-Sound (Climb header l left) ts x = (before : List Token) → Spelt (print_expr left) before ts → MayGrow header l left ts → IsAtLevel header l before x
+Sound (Climb header l left) ts x = (before : List Token) → Spelt (print_expr left) before ts → MayGrow header l left ts
+    → IsAtLevel header l before x
 Sound (Items close done) ts x = ListRead close done ts x
 Sound (Elements done) ts x = ElementsRead done ts x
 
 -- a primary expression, made of its words
-built : (e : Expr) (before rest : List Token) (ws : List Word) (header : Bool) → print_expr e ≡ ws → Spelt ws before rest → Primary header e → Spelt (print_expr e) before rest × Primary header e
+built : (e : Expr) (before rest : List Token) (ws : List Word) (header : Bool) → print_expr e ≡ ws
+    → Spelt ws before rest → Primary header e → Spelt (print_expr e) before rest × Primary header e
 built e before rest ws header p h g = (subst (λ vs. Spelt vs before rest) (sym p) h, g)
 
 finish-sound : (s : Start) (ts : List Token) → Keeps Sound (Sound (Finish s) ts) (finish s ts)
 finish-sound (starts.Whole e) ts = λ header before w g. (w, g)
-finish-sound starts.Group ts = λ x lvl. keeps-given Sound (Sound (Finish starts.Group) ts) (after punctuations.CloseParen x.1) (just (ex.Parens x.0)) (λ us c header before w g.
+finish-sound starts.Group ts = λ x lvl. keeps-given Sound (Sound (Finish starts.Group) ts)
+    (after punctuations.CloseParen x.1) (just (ex.Parens x.0)) (λ us c header before w g.
     let k = lvl (omega arith) in
-    built (ex.Parens x.0) before us _ header (shape.print-Parens x.0) (join w (join k.words (punctuation-then punctuations.CloseParen x.1 c nothing)))
+    built (ex.Parens x.0) before us _ header (shape.print-Parens x.0)
+    (join w (join k.words (punctuation-then punctuations.CloseParen x.1 c nothing)))
     (prim header (ex.Parens x.0) _ (shape.form-Parens x.0) k.good refl (false-and header)))
-finish-sound (starts.Sized t) ts = λ x lvl. keeps-given Sound (Sound (Finish (starts.Sized t)) ts) (after punctuations.CloseParen x.1) (just (ex.MakeSized t x.0)) (λ us c header before w g.
+finish-sound (starts.Sized t) ts = λ x lvl. keeps-given Sound (Sound (Finish (starts.Sized t)) ts)
+    (after punctuations.CloseParen x.1) (just (ex.MakeSized t x.0)) (λ us c header before w g.
     let k = lvl (omega arith) in
     let all = join w (join k.words (punctuation-then punctuations.CloseParen x.1 c nothing)) in
-    let same : (words.name make ∷ words.punctuation punctuations.OpenParen ∷ (print_type t ++ words.punctuation punctuations.Comma ∷ [])) ++ (print_expr x.0 ++ words.punctuation punctuations.CloseParen ∷ [])
-    ≡ words.name make ∷ words.punctuation punctuations.OpenParen ∷ ((print_type t ++ words.punctuation punctuations.Comma ∷ print_expr x.0) ++ words.punctuation punctuations.CloseParen ∷ []) =
+    let same : (words.name make ∷ words.punctuation punctuations.OpenParen
+    ∷ (print_type t ++ words.punctuation punctuations.Comma ∷ []))
+    ++ (print_expr x.0 ++ words.punctuation punctuations.CloseParen ∷ [])
+    ≡ words.name make ∷ words.punctuation punctuations.OpenParen
+    ∷ ((print_type t ++ words.punctuation punctuations.Comma ∷ print_expr x.0)
+    ++ words.punctuation punctuations.CloseParen ∷ []) =
     ap (λ ws. words.name make ∷ words.punctuation punctuations.OpenParen ∷ ws)
-    (append_assoc (print_type t) (words.punctuation punctuations.Comma ∷ []) (print_expr x.0 ++ words.punctuation punctuations.CloseParen ∷ [])
-    ∙ sym (append_assoc (print_type t) (words.punctuation punctuations.Comma ∷ print_expr x.0) (words.punctuation punctuations.CloseParen ∷ []))) in
-    built (ex.MakeSized t x.0) before us _ header (shape.print-MakeSized t x.0) (subst (λ ws. Spelt ws before us) same all)
-    (prim header (ex.MakeSized t x.0) _ (shape.form-MakeSized t x.0) (and-true (type_form t).good (form x.0).good g k.good) refl (false-and header)))
+    (append_assoc (print_type t) (words.punctuation punctuations.Comma ∷ [])
+    (print_expr x.0 ++ words.punctuation punctuations.CloseParen ∷ [])
+    ∙ sym (append_assoc (print_type t) (words.punctuation punctuations.Comma ∷ print_expr x.0)
+    (words.punctuation punctuations.CloseParen ∷ []))) in
+    built (ex.MakeSized t x.0) before us _ header (shape.print-MakeSized t x.0)
+    (subst (λ ws. Spelt ws before us) same all)
+    (prim header (ex.MakeSized t x.0) _ (shape.form-MakeSized t x.0)
+    (and-true (type_form t).good (form x.0).good g k.good) refl (false-and header)))
 finish-sound (starts.Items t) ts = λ x k header before w g.
     let e = ex.SliceLiteral t (k.first ∷ k.more) in
     let all = join w (join k.words (punctuation-then punctuations.CloseBrace k.mid k.closed nothing)) in
     let same = ap (λ ws. words.punctuation punctuations.OpenBracket ∷ words.punctuation punctuations.CloseBracket ∷ ws)
-    (append_assoc (print_type t) (words.punctuation punctuations.OpenBrace ∷ []) (separated punctuations.Comma (map print_expr (k.first ∷ k.more)) ++ words.punctuation punctuations.CloseBrace ∷ [])) in
-    subst (λ (q : List Expr). Spelt (print_expr (ex.SliceLiteral t q)) before x.1 × Primary header (ex.SliceLiteral t q)) (sym k.are)
-    (built e before x.1 _ header (shape.print-SliceLiteral t (k.first ∷ k.more)) (subst (λ ws. Spelt ws before x.1) same all)
-    (prim header e _ (shape.form-SliceLiteral t (k.first ∷ k.more)) (and-true (type_form t).good (all_good (map form (k.first ∷ k.more))) g k.good) refl (false-and header)))
+    (append_assoc (print_type t) (words.punctuation punctuations.OpenBrace ∷ [])
+    (separated punctuations.Comma (map print_expr (k.first ∷ k.more)) ++ words.punctuation punctuations.CloseBrace
+    ∷ [])) in
+    subst (λ (q : List Expr). Spelt (print_expr (ex.SliceLiteral t q)) before x.1
+    × Primary header (ex.SliceLiteral t q)) (sym k.are)
+    (built e before x.1 _ header (shape.print-SliceLiteral t (k.first ∷ k.more))
+    (subst (λ ws. Spelt ws before x.1) same all)
+    (prim header e _ (shape.form-SliceLiteral t (k.first ∷ k.more))
+    (and-true (type_form t).good (all_good (map form (k.first ∷ k.more))) g k.good) refl (false-and header)))
 finish-sound (starts.Elements n) ts = λ x k header before w g.
     let e = ex.StructLiteral n (k.first ∷ k.more) in
-    subst (λ (q : List Element). Spelt (print_expr (ex.StructLiteral n q)) before x.1 × Primary header (ex.StructLiteral n q)) (sym k.are)
-    (built e before x.1 _ header (shape.print-StructLiteral n (k.first ∷ k.more)) (join w (join k.words (punctuation-then punctuations.CloseBrace k.mid k.closed nothing)))
+    subst (λ (q : List Element). Spelt (print_expr (ex.StructLiteral n q)) before x.1
+    × Primary header (ex.StructLiteral n q)) (sym k.are)
+    (built e before x.1 _ header (shape.print-StructLiteral n (k.first ∷ k.more))
+    (join w (join k.words (punctuation-then punctuations.CloseBrace k.mid k.closed nothing)))
     (prim header e _ (shape.form-StructLiteral n (k.first ∷ k.more)) k.good refl (ap (λ h. h && true) g)))
 
 seven : (n : ℕ) → n ≡ 7 → nat_le 7 n ≡ true
@@ -467,44 +593,65 @@ seven n e = le-true 7 n (omega (arith, e))
 extend-sound : (base : Expr) (s : Suffix) (ts : List Token) → Keeps Sound (Sound (Extend base s) ts) (extend base s ts)
 extend-sound base (suffixes.Field n) ts = λ header before w g.
     built (ex.Selector base n) before ts _ header (shape.print-Selector base n) w
-    (prim header (ex.Selector base n) _ (shape.form-Selector base n) (and-true (form base).good (nat_le 7 (form base).top) g.good (seven (form base).top g.top)) refl g.clear)
-extend-sound base suffixes.Index ts = λ x lvl. keeps-given Sound (Sound (Extend base suffixes.Index) ts) (after punctuations.CloseBracket x.1) (just (ex.Index base x.0)) (λ us c header before w g.
+    (prim header (ex.Selector base n) _ (shape.form-Selector base n)
+    (and-true (form base).good (nat_le 7 (form base).top) g.good (seven (form base).top g.top)) refl g.clear)
+extend-sound base suffixes.Index ts = λ x lvl. keeps-given Sound (Sound (Extend base suffixes.Index) ts)
+    (after punctuations.CloseBracket x.1) (just (ex.Index base x.0)) (λ us c header before w g.
     let k = lvl (omega arith) in
     let all = join w (join k.words (punctuation-then punctuations.CloseBracket x.1 c nothing)) in
     built (ex.Index base x.0) before us _ header (shape.print-Index base x.0)
-    (subst (λ ws. Spelt ws before us) (append_assoc (print_expr base) (words.punctuation punctuations.OpenBracket ∷ []) (print_expr x.0 ++ words.punctuation punctuations.CloseBracket ∷ [])) all)
+    (subst (λ ws. Spelt ws before us) (append_assoc (print_expr base) (words.punctuation punctuations.OpenBracket ∷ [])
+    (print_expr x.0 ++ words.punctuation punctuations.CloseBracket ∷ [])) all)
     (prim header (ex.Index base x.0) _ (shape.form-Index base x.0)
-    (and-true ((form base).good && (form x.0).good) (nat_le 7 (form base).top) (and-true (form base).good (form x.0).good g.good k.good) (seven (form base).top g.top)) refl g.clear))
+    (and-true ((form base).good && (form x.0).good) (nat_le 7 (form base).top)
+    (and-true (form base).good (form x.0).good g.good k.good) (seven (form base).top g.top)) refl g.clear))
 extend-sound base suffixes.NoArguments ts = λ header before w g.
     built (ex.Call base []) before ts _ header (shape.print-Call base []) w
-    (prim header (ex.Call base []) _ (shape.form-Call base []) (and-true ((form base).good && true) (nat_le 7 (form base).top) (and-true (form base).good true g.good refl) (seven (form base).top g.top)) refl g.clear)
+    (prim header (ex.Call base []) _ (shape.form-Call base [])
+    (and-true ((form base).good && true) (nat_le 7 (form base).top) (and-true (form base).good true g.good refl)
+    (seven (form base).top g.top)) refl g.clear)
 extend-sound base suffixes.Arguments ts = λ x k header before w g.
     let e = ex.Call base (k.first ∷ k.more) in
     let all = join w (join k.words (punctuation-then punctuations.CloseParen k.mid k.closed nothing)) in
-    subst (λ (q : List Expr). Spelt (print_expr (ex.Call base q)) before x.1 × Primary header (ex.Call base q)) (sym k.are)
+    subst (λ (q : List Expr). Spelt (print_expr (ex.Call base q)) before x.1 × Primary header (ex.Call base q))
+    (sym k.are)
     (built e before x.1 _ header (shape.print-Call base (k.first ∷ k.more))
-    (subst (λ ws. Spelt ws before x.1) (append_assoc (print_expr base) (words.punctuation punctuations.OpenParen ∷ []) (separated punctuations.Comma (map print_expr (k.first ∷ k.more)) ++ words.punctuation punctuations.CloseParen ∷ [])) all)
+    (subst (λ ws. Spelt ws before x.1) (append_assoc (print_expr base) (words.punctuation punctuations.OpenParen ∷ [])
+    (separated punctuations.Comma (map print_expr (k.first ∷ k.more)) ++ words.punctuation punctuations.CloseParen
+    ∷ [])) all)
     (prim header e _ (shape.form-Call base (k.first ∷ k.more))
-    (and-true ((form base).good && all_good (map form (k.first ∷ k.more))) (nat_le 7 (form base).top) (and-true (form base).good (all_good (map form (k.first ∷ k.more))) g.good k.good) (seven (form base).top g.top)) refl g.clear))
+    (and-true ((form base).good && all_good (map form (k.first ∷ k.more))) (nat_le 7 (form base).top)
+    (and-true (form base).good (all_good (map form (k.first ∷ k.more))) g.good k.good)
+    (seven (form base).top g.top)) refl g.clear))
 
-suffixes-sound : (base : Expr) (ts : List Token) (o : Option (Suffix × List Token)) → suffix_at ts ≡ o → Keeps Sound (Sound (Suffixes base) ts) (suffixes_plan base ts o)
+suffixes-sound : (base : Expr) (ts : List Token) (o : Option (Suffix × List Token)) → suffix_at ts ≡ o
+    → Keeps Sound (Sound (Suffixes base) ts) (suffixes_plan base ts o)
 suffixes-sound base ts None e = λ header before w g. (w, g)
 suffixes-sound base ts (Some s) e = λ x k y r header before w g.
     let a = k header before (join w (suffix-sound ts s e)) g in r header before a.0 a.1
 
-from-primary : (header : Bool) (ts : List Token) (x : Expr × List Token) → Spelt (print_expr x.0) ts x.1 → Primary header x.0 → IsPrefixed header ts x
-from-primary header ts x w g = let t = g.top in record { words = w; good = g.good; top = omega (arith, t); clear = g.clear }
+from-primary : (header : Bool) (ts : List Token) (x : Expr × List Token) → Spelt (print_expr x.0) ts x.1
+    → Primary header x.0 → IsPrefixed header ts x
+from-primary header ts x w g = let t = g.top in record {
+  words = w;
+  good = g.good;
+  top = omega (arith, t);
+  clear = g.clear;
+}
 
-prefixed-sound : (header : Bool) (ts : List Token) (o : Option (UnaryOperator × List Token)) → unary_at ts ≡ o → Keeps Sound (Sound (Prefixed header) ts) (prefixed_plan header ts o)
+prefixed-sound : (header : Bool) (ts : List Token) (o : Option (UnaryOperator × List Token)) → unary_at ts ≡ o
+    → Keeps Sound (Sound (Prefixed header) ts) (prefixed_plan header ts o)
 prefixed-sound header ts (Some o) e = λ x p.
     let t = ap (λ (f : Form). f.top) (shape.form-Unary o.0 x.0) in
     record {
       words = subst (λ vs. Spelt vs ts x.1) (sym (shape.print-Unary o.0 x.0)) (join (unary-sound ts o e) p.words);
-      good = ap (λ (f : Form). f.good) (shape.form-Unary o.0 x.0) ∙ and-true (form x.0).good (nat_le 6 (form x.0).top) p.good (le-true 6 (form x.0).top p.top);
+      good = ap (λ (f : Form). f.good) (shape.form-Unary o.0 x.0)
+          ∙ and-true (form x.0).good (nat_le 6 (form x.0).top) p.good (le-true 6 (form x.0).top p.top);
       top = omega (arith, t);
       clear = ap (λ (f : Form). header && f.ampersand) (shape.form-Unary o.0 x.0) ∙ p.clear;
     }
-prefixed-sound header ts None e = keeps-given Sound (Sound (Prefixed header) ts) (start_at header ts) (λ s. Ask (Finish s.0) s.1 (λ x. Ask (Suffixes x.0) x.1 found)) (λ s f x k y r.
+prefixed-sound header ts None e = keeps-given Sound (Sound (Prefixed header) ts) (start_at header ts)
+    (λ s. Ask (Finish s.0) s.1 (λ x. Ask (Suffixes x.0) x.1 found)) (λ s f x k y r.
     let b = start-sound header ts s f in
     let a = k header ts b.words b.good in
     let c = r header ts a.0 a.1 in
@@ -527,45 +674,71 @@ clear-both false a b p q = refl
 clear-both true false b p q = q
 clear-both true true b p q = cc
 
-ended : (header : Bool) (l : ℕ) (left : Expr) (ts before : List Token) → Spelt (print_expr left) before ts → MayGrow header l left ts → head ts ≤ l - 1 → IsAtLevel header l before (left, ts)
-ended header l left ts before w may hd = record { words = w; good = may.good; top = may.top; clear = may.clear; follows = hd }
+ended : (header : Bool) (l : ℕ) (left : Expr) (ts before : List Token) → Spelt (print_expr left) before ts
+    → MayGrow header l left ts → head ts ≤ l - 1 → IsAtLevel header l before (left, ts)
+ended header l left ts before w may hd =
+    record { words = w; good = may.good; top = may.top; clear = may.clear; follows = hd }
 
 -- an operator and what it takes on its right
-grew : (header : Bool) (l : ℕ) (left : Expr) (ts : List Token) (o : BinaryOperator × List Token) (right : Expr × List Token) → binary_at ts ≡ Some o → l ≤ binds o.0 → IsAtLevel header (suc (binds o.0)) o.1 right →
-    (before : List Token) → Spelt (print_expr left) before ts → MayGrow header l left ts → Spelt (print_expr (ex.Binary o.0 left right.0)) before right.1 × MayGrow header l (ex.Binary o.0 left right.0) right.1
+grew : (header : Bool) (l : ℕ) (left : Expr) (ts : List Token) (o : BinaryOperator × List Token)
+    (right : Expr × List Token) → binary_at ts ≡ Some o → l ≤ binds o.0 → IsAtLevel header (suc (binds o.0)) o.1 right →
+    (before : List Token) → Spelt (print_expr left) before ts → MayGrow header l left ts
+    → Spelt (print_expr (ex.Binary o.0 left right.0)) before right.1
+    × MayGrow header l (ex.Binary o.0 left right.0) right.1
 grew header l left ts o right e le k before w may =
     let t = ap (λ (f : Form). f.top) (shape.form-Binary o.0 left right.0) in
     let hd = head-some ts o e in
     let mf = may.follows in
     let kt = k.top in
     let kf = k.follows in (
-      subst (λ vs. Spelt vs before right.1) (sym (shape.print-Binary o.0 left right.0)) (join w (join (binary-sound ts o e) k.words)),
+      subst (λ vs. Spelt vs before right.1) (sym (shape.print-Binary o.0 left right.0))
+          (join w (join (binary-sound ts o e) k.words)),
       record {
         good = ap (λ (f : Form). f.good) (shape.form-Binary o.0 left right.0)
-            ∙ and-true ((form left).good && (form right.0).good) (nat_le (binds o.0) (form left).top && nat_lt (binds o.0) (form right.0).top)
+            ∙ and-true ((form left).good && (form right.0).good)
+            (nat_le (binds o.0) (form left).top && nat_lt (binds o.0) (form right.0).top)
             (and-true (form left).good (form right.0).good may.good k.good)
-            (and-true (nat_le (binds o.0) (form left).top) (nat_lt (binds o.0) (form right.0).top) (le-true (binds o.0) (form left).top (omega (arith, hd, mf))) (lt-true (binds o.0) (form right.0).top (omega (arith, kt))));
+            (and-true (nat_le (binds o.0) (form left).top) (nat_lt (binds o.0) (form right.0).top)
+            (le-true (binds o.0) (form left).top (omega (arith, hd, mf)))
+            (lt-true (binds o.0) (form right.0).top (omega (arith, kt))));
         top = omega (arith, t, le);
-        clear = ap (λ (f : Form). header && f.ampersand) (shape.form-Binary o.0 left right.0) ∙ clear-both header (form left).ampersand (form right.0).ampersand may.clear k.clear;
+        clear = ap (λ (f : Form). header && f.ampersand) (shape.form-Binary o.0 left right.0)
+            ∙ clear-both header (form left).ampersand (form right.0).ampersand may.clear k.clear;
         follows = omega (arith, t, kf);
       },
     )
 
-climb-sound : (header : Bool) (l : ℕ) (left : Expr) (ts : List Token) (o : Option (BinaryOperator × List Token)) → binary_at ts ≡ o → Keeps Sound (Sound (Climb header l left) ts) (climb_plan header l left ts o)
-climb-sound header l left ts None e = λ before w may. let hd = head-none ts e in ended header l left ts before w may (omega (arith, hd))
+climb-sound : (header : Bool) (l : ℕ) (left : Expr) (ts : List Token) (o : Option (BinaryOperator × List Token))
+    → binary_at ts ≡ o → Keeps Sound (Sound (Climb header l left) ts) (climb_plan header l left ts o)
+climb-sound header l left ts None e = λ before w may. let hd =
+    head-none ts e in ended header l left ts before w may (omega (arith, hd))
 climb-sound header l left ts (Some o) e = at (nat_le l (binds o.0)) refl
   where
     at : (b : Bool) → nat_le l (binds o.0) ≡ b →
-        Keeps Sound (Sound (Climb header l left) ts) (cond b (Ask (Level header (suc (binds o.0))) o.1 (λ right. Ask (Climb header l (ex.Binary o.0 left right.0)) right.1 found)) (just left ts))
-    at false is = λ before w may. let hd = head-some ts o e in let lt = le-by l (binds o.0) is in ended header l left ts before w may (omega (arith, hd, lt))
+        Keeps Sound (Sound (Climb header l left) ts)
+        (cond b (Ask (Level header (suc (binds o.0))) o.1
+        (λ right. Ask (Climb header l (ex.Binary o.0 left right.0)) right.1 found)) (just left ts))
+    at false is = λ before w may. let hd = head-some ts o e in let lt =
+        le-by l (binds o.0) is in ended header l left ts before w may (omega (arith, hd, lt))
     at true is = λ right k y r before w may.
         let small = (binds-some o.0).1 in
         let g = grew header l left ts o right e (true-le l (binds o.0) is) (k (omega (arith, small))) before w may in
         r before g.0 g.1
 
-items-sound : (close : Punctuation) (done : List Expr) (ts : List Token) (x : Expr × List Token) → IsAtLevel false 1 ts x → (o : Option (List Token)) → after punctuations.Comma x.1 ≡ o → Keeps Sound (Sound (Items close done) ts) (items_behind close (done ++ x.0 ∷ []) x.1 o)
-items-sound close done ts x k None e = keeps-given Sound (Sound (Items close done) ts) (after close x.1) (just (done ++ x.0 ∷ [])) (λ us c.
-    record { first = x.0; more = []; are = refl; good = and-true (form x.0).good true k.good refl; mid = x.1; words = join k.words nothing; closed = c })
+items-sound : (close : Punctuation) (done : List Expr) (ts : List Token) (x : Expr × List Token)
+    → IsAtLevel false 1 ts x → (o : Option (List Token)) → after punctuations.Comma x.1 ≡ o
+    → Keeps Sound (Sound (Items close done) ts) (items_behind close (done ++ x.0 ∷ []) x.1 o)
+items-sound close done ts x k None e = keeps-given Sound (Sound (Items close done) ts) (after close x.1)
+    (just (done ++ x.0 ∷ [])) (λ us c.
+    record {
+      first = x.0;
+      more = [];
+      are = refl;
+      good = and-true (form x.0).good true k.good refl;
+      mid = x.1;
+      words = join k.words nothing;
+      closed = c;
+    })
 items-sound close done ts x k (Some us) e = λ y r.
     record {
       first = x.0;
@@ -577,27 +750,49 @@ items-sound close done ts x k (Some us) e = λ y r.
       closed = r.closed;
     }
 
-elements-behind-sound : (done : List Element) (ts : List Token) (n : List ℕ) (x : Expr × List Token) → Spelt (print_element (element n x.0)) ts x.1 → (form x.0).good ≡ true → (o : Option (List Token)) → after punctuations.Comma x.1 ≡ o →
+elements-behind-sound : (done : List Element) (ts : List Token) (n : List ℕ) (x : Expr × List Token)
+    → Spelt (print_element (element n x.0)) ts x.1 → (form x.0).good ≡ true → (o : Option (List Token))
+    → after punctuations.Comma x.1 ≡ o →
     Keeps Sound (Sound (Elements done) ts) (elements_behind (done ++ element n x.0 ∷ []) x.1 o)
-elements-behind-sound done ts n x w g None e = keeps-given Sound (Sound (Elements done) ts) (after punctuations.CloseBrace x.1) (just (done ++ element n x.0 ∷ [])) (λ us c.
-    record { first = element n x.0; more = []; are = refl; good = and-true (element_form (element n x.0)) true (shape.form-element n x.0 ∙ g) refl; mid = x.1; words = join w nothing; closed = c })
+elements-behind-sound done ts n x w g None e =
+    keeps-given Sound (Sound (Elements done) ts) (after punctuations.CloseBrace x.1) (just (done ++ element n x.0 ∷ []))
+    (λ us c.
+    record {
+      first = element n x.0;
+      more = [];
+      are = refl;
+      good = and-true (element_form (element n x.0)) true (shape.form-element n x.0 ∙ g) refl;
+      mid = x.1;
+      words =
+          join w nothing;
+      closed = c;
+    })
 elements-behind-sound done ts n x w g (Some us) e = λ y r.
     record {
       first = element n x.0;
       more = r.first ∷ r.more;
       are = r.are ∙ append_assoc done (element n x.0 ∷ []) (r.first ∷ r.more);
-      good = and-true (element_form (element n x.0)) (list_all (λ good. good) (map element_form (r.first ∷ r.more))) (shape.form-element n x.0 ∙ g) r.good;
+      good = and-true (element_form (element n x.0)) (list_all (λ good. good) (map element_form (r.first ∷ r.more)))
+          (shape.form-element n x.0 ∙ g) r.good;
       mid = r.mid;
       words = join w (punctuation-then punctuations.Comma x.1 e r.words);
       closed = r.closed;
     }
 
-elements-sound : (done : List Element) (ts : List Token) → Keeps Sound (Sound (Elements done) ts) (elements_plan done ts)
+elements-sound : (done : List Element) (ts : List Token)
+    → Keeps Sound (Sound (Elements done) ts) (elements_plan done ts)
 elements-sound done ts =
-    keeps-given Sound (Sound (Elements done) ts) (name_at ts) (λ n. given (after punctuations.Colon n.1) (λ us. Ask (Level false 1) us (λ x. elements_behind (done ++ element n.0 x.0 ∷ []) x.1 (after punctuations.Comma x.1)))) (λ n e.
-    keeps-given Sound (Sound (Elements done) ts) (after punctuations.Colon n.1) (λ us. Ask (Level false 1) us (λ x. elements_behind (done ++ element n.0 x.0 ∷ []) x.1 (after punctuations.Comma x.1))) (λ us f x lvl.
+    keeps-given Sound (Sound (Elements done) ts) (name_at ts)
+    (λ n. given (after punctuations.Colon n.1)
+    (λ us. Ask (Level false 1) us (λ x. elements_behind (done ++ element n.0 x.0 ∷ []) x.1
+    (after punctuations.Comma x.1)))) (λ n e.
+    keeps-given Sound (Sound (Elements done) ts) (after punctuations.Colon n.1)
+    (λ us. Ask (Level false 1) us (λ x. elements_behind (done ++ element n.0 x.0 ∷ []) x.1
+    (after punctuations.Comma x.1))) (λ us f x lvl.
     let k = lvl (omega arith) in
-    elements-behind-sound done ts n.0 x (subst (λ vs. Spelt vs ts x.1) (sym (shape.print-element n.0 x.0)) (name-then n.0 ts e (punctuation-then punctuations.Colon n.1 f k.words))) k.good (after punctuations.Comma x.1) refl))
+    elements-behind-sound done ts n.0 x (subst (λ vs. Spelt vs ts x.1) (sym (shape.print-element n.0 x.0))
+    (name-then n.0 ts e (punctuation-then punctuations.Colon n.1 f k.words))) k.good
+    (after punctuations.Comma x.1) refl))
 
 plan-sound : (m : Mode) (ts : List Token) → Keeps Sound (Sound m ts) (expr_plan m ts)
 plan-sound (Finish s) ts = finish-sound s ts
@@ -607,16 +802,26 @@ plan-sound (Prefixed header) ts = prefixed-sound header ts (unary_at ts) refl
 plan-sound (Level header l) ts = λ x p y r le.
     let pt = p.top in
     let hd = head-small x.1 in
-    r ts p.words (record { good = p.good; top = omega (arith, pt, le); clear = p.clear; follows = omega (arith, pt, hd) })
+    r ts p.words (record {
+      good = p.good;
+      top = omega (arith, pt, le);
+      clear = p.clear;
+      follows = omega (arith, pt, hd);
+    })
 plan-sound (Climb header l left) ts = climb-sound header l left ts (binary_at ts) refl
-plan-sound (Items close done) ts = λ x lvl. items-sound close done ts x (lvl (omega arith)) (after punctuations.Comma x.1) refl
+plan-sound (Items close done) ts = λ x lvl. items-sound close done ts x (lvl (omega arith))
+    (after punctuations.Comma x.1) refl
 plan-sound (Elements done) ts = elements-sound done ts
 
 -- what is read is an expression
-pub expr-sound : (header : Bool) (ts : List Token) (x : Expr × List Token) → expr_at (Level header 1) ts ≡ Some x → IsAtLevel header 1 ts x
+pub expr-sound : (header : Bool) (ts : List Token) (x : Expr × List Token) → expr_at (Level header 1) ts ≡ Some x
+    → IsAtLevel header 1 ts x
 unfolding expr_at
-expr-sound header ts x e = reads-keeps Token Mode Node expr_plan Sound plan-sound (suc (5 * length ts + 3)) (Level header 1) ts x e (omega arith)
+expr-sound header ts x e = reads-keeps Token Mode Node expr_plan Sound plan-sound (suc (5 * length ts + 3))
+    (Level header 1) ts x e (omega arith)
 
-pub prefixed-is-sound : (header : Bool) (ts : List Token) (x : Expr × List Token) → expr_at (Prefixed header) ts ≡ Some x → IsPrefixed header ts x
+pub prefixed-is-sound : (header : Bool) (ts : List Token) (x : Expr × List Token)
+    → expr_at (Prefixed header) ts ≡ Some x → IsPrefixed header ts x
 unfolding expr_at
-prefixed-is-sound header ts x e = reads-keeps Token Mode Node expr_plan Sound plan-sound (suc (5 * length ts + 2)) (Prefixed header) ts x e
+prefixed-is-sound header ts x e = reads-keeps Token Mode Node expr_plan Sound plan-sound (suc (5 * length ts + 2))
+    (Prefixed header) ts x e

@@ -1,7 +1,8 @@
 -- Words that stand at the beginning of the tokens: joined, split, and read off one by one.
 -- For: `Spells`, golf_syntax_trees/specs/Words.antt; `after` and `name_at`, src/front.rt.
 -- By: induction over the list of words.
-use Rattle.std.proofs.Common.{◌≡◌, ℕ, suc, Bool, true, false, ◌&&◌, cond, List, [], ◌∷◌, ◌++◌, length, refl, ap, sym, subst, ◌∙◌, rules}
+use Rattle.std.proofs.Common.{◌≡◌, ℕ, suc, Bool, true, false, ◌&&◌, cond, List, [], ◌∷◌, ◌++◌, length, refl, ap, sym}
+use Rattle.std.proofs.Common.{subst, ◌∙◌, rules}
 use Rattle.std.specs.Prelude.{Option, Some, None, MatchOption}
 use denote.Enum.Bare.{same_true, true_same}
 use Rattle.golf_lex_tokens.specs.declared.token.Token.{Token}
@@ -13,7 +14,8 @@ use Rattle.golf_lex_tokens.specs.contracts.token.Punctuation as punctuation
 use Rattle.golf_lex_tokens.specs.contracts.token.Keyword as keyword
 use Rattle.golf_syntax_trees.specs.Words as words
 use Rattle.golf_syntax_trees.specs.Words.{Word, Spells}
-use Rattle.golf_syntax_expressions.specs.Front.{same_punctuation, same_keyword, after_kind, after, after_keyword_kind, after_keyword, name_of, name_at}
+use Rattle.golf_syntax_expressions.specs.Front.{same_punctuation, same_keyword, after_kind, after, after_keyword_kind}
+use Rattle.golf_syntax_expressions.specs.Front.{after_keyword, name_of, name_at}
 
 pub some-same : {A : Type 0} (x y : A) → Some x ≡ Some y → x ≡ y
 some-same x y e = cc
@@ -37,22 +39,28 @@ pub record Spelt (ws : List Word) (ts rest : List Token) : Type 0 where
 pub nothing : {ts : List Token} → Spelt [] ts ts
 nothing = record { are = refl }
 
-pub kind-then : {ws : List Word} {ts rest : List Token} (t : Token) (k : TokenKind) → t.kind ≡ k → Spelt ws ts rest → Spelt (words.word k ∷ ws) (t ∷ ts) rest
+pub kind-then : {ws : List Word} {ts rest : List Token} (t : Token) (k : TokenKind) → t.kind ≡ k → Spelt ws ts rest
+    → Spelt (words.word k ∷ ws) (t ∷ ts) rest
 kind-then t k e h = record { are = ((e, tt), h.are) }
 
-pub punctuation-then : {ws : List Word} {us rest : List Token} (m : Punctuation) (ts : List Token) → after m ts ≡ Some us → Spelt ws us rest → Spelt (words.punctuation m ∷ ws) ts rest
+pub punctuation-then : {ws : List Word} {us rest : List Token} (m : Punctuation) (ts : List Token)
+    → after m ts ≡ Some us → Spelt ws us rest → Spelt (words.punctuation m ∷ ws) ts rest
 punctuation-then {ws} {us} {rest} m [] e h = cc
 punctuation-then {ws} {us} {rest} m (t ∷ ts) e h = at t.kind refl e
   where
-    by_punctuation : (n : Punctuation) (b : Bool) → same_punctuation n m ≡ b → cond b (Some ts) None ≡ Some us → (n ≡ m) × (ts ≡ us)
+    by_punctuation : (n : Punctuation) (b : Bool) → same_punctuation n m ≡ b → cond b (Some ts) None ≡ Some us → (n ≡ m)
+        × (ts ≡ us)
     by_punctuation n true s f = (same_true punctuation.the_type (search rules) n m s, cc)
     by_punctuation n false s f = cc
 
     at : (k : TokenKind) → t.kind ≡ k → after_kind m k ts ≡ Some us → Spelt (words.punctuation m ∷ ws) (t ∷ ts) rest
-    at (kinds.Punctuation n) is f = let b = by_punctuation n (same_punctuation n m) refl f in kind-then t (kinds.Punctuation m) (is ∙ ap kinds.Punctuation b.0) (subst (λ qs. Spelt ws qs rest) (sym b.1) h)
+    at (kinds.Punctuation n) is f = let b =
+        by_punctuation n (same_punctuation n m) refl f in kind-then t (kinds.Punctuation m)
+        (is ∙ ap kinds.Punctuation b.0) (subst (λ qs. Spelt ws qs rest) (sym b.1) h)
     at _ is f = cc
 
-pub keyword-then : {ws : List Word} {us rest : List Token} (w : Keyword) (ts : List Token) → after_keyword w ts ≡ Some us → Spelt ws us rest → Spelt (words.keyword w ∷ ws) ts rest
+pub keyword-then : {ws : List Word} {us rest : List Token} (w : Keyword) (ts : List Token)
+    → after_keyword w ts ≡ Some us → Spelt ws us rest → Spelt (words.keyword w ∷ ws) ts rest
 keyword-then {ws} {us} {rest} w [] e h = cc
 keyword-then {ws} {us} {rest} w (t ∷ ts) e h = at t.kind refl e
   where
@@ -61,21 +69,25 @@ keyword-then {ws} {us} {rest} w (t ∷ ts) e h = at t.kind refl e
     by_keyword n false s f = cc
 
     at : (k : TokenKind) → t.kind ≡ k → after_keyword_kind w k ts ≡ Some us → Spelt (words.keyword w ∷ ws) (t ∷ ts) rest
-    at (kinds.Keyword n) is f = let b = by_keyword n (same_keyword n w) refl f in kind-then t (kinds.Keyword w) (is ∙ ap kinds.Keyword b.0) (subst (λ qs. Spelt ws qs rest) (sym b.1) h)
+    at (kinds.Keyword n) is f = let b = by_keyword n (same_keyword n w) refl f in kind-then t (kinds.Keyword w)
+        (is ∙ ap kinds.Keyword b.0) (subst (λ qs. Spelt ws qs rest) (sym b.1) h)
     at _ is f = cc
 
-pub name-then : {ws : List Word} {us rest : List Token} (n : List ℕ) (ts : List Token) → name_at ts ≡ Some (n, us) → Spelt ws us rest → Spelt (words.name n ∷ ws) ts rest
+pub name-then : {ws : List Word} {us rest : List Token} (n : List ℕ) (ts : List Token) → name_at ts ≡ Some (n, us)
+    → Spelt ws us rest → Spelt (words.name n ∷ ws) ts rest
 name-then {ws} {us} {rest} n [] e h = cc
 name-then {ws} {us} {rest} n (t ∷ ts) e h = at t.kind refl e
   where
     at : (k : TokenKind) → t.kind ≡ k → name_of k ts ≡ Some (n, us) → Spelt (words.name n ∷ ws) (t ∷ ts) rest
     at (kinds.Name m) is f =
         let same = some-same (m, ts) (n, us) f in
-        kind-then t (kinds.Name n) (is ∙ ap (λ (x : List ℕ × List Token). kinds.Name x.0) same) (subst (λ qs. Spelt ws qs rest) (sym (ap (λ (x : List ℕ × List Token). x.1) same)) h)
+        kind-then t (kinds.Name n) (is ∙ ap (λ (x : List ℕ × List Token). kinds.Name x.0) same)
+        (subst (λ qs. Spelt ws qs rest) (sym (ap (λ (x : List ℕ × List Token). x.1) same)) h)
     at _ is f = cc
 
 -- words in a row
-pub join : {xs ys : List Word} {ts mid rest : List Token} → Spelt xs ts mid → Spelt ys mid rest → Spelt (xs ++ ys) ts rest
+pub join : {xs ys : List Word} {ts mid rest : List Token} → Spelt xs ts mid → Spelt ys mid rest
+    → Spelt (xs ++ ys) ts rest
 join {xs} {ys} {ts} {mid} {rest} h k = record { are = at xs ts h.are }
   where
     at : (xs : List Word) (ts : List Token) → Spells xs ts mid → Spells (xs ++ ys) ts rest
@@ -83,14 +95,17 @@ join {xs} {ys} {ts} {mid} {rest} h k = record { are = at xs ts h.are }
     at (x ∷ xs) [] p = absurd p
     at (x ∷ xs) (t ∷ ts) p = (p.0, at xs ts p.1)
 
-pub split : (xs ys : List Word) {ts rest : List Token} → Spelt (xs ++ ys) ts rest → (mid : List Token) × Spelt xs ts mid × Spelt ys mid rest
+pub split : (xs ys : List Word) {ts rest : List Token} → Spelt (xs ++ ys) ts rest → (mid : List Token) × Spelt xs ts mid
+    × Spelt ys mid rest
 split [] ys {ts} {rest} h = (ts, nothing, h)
 split (x ∷ xs) ys {ts = []} {rest} h = absurd h.are
 split (x ∷ xs) ys {ts = t ∷ ts} {rest} h =
-    let r = split xs ys {ts = ts} {rest = rest} (record { are = h.are.1 }) in (r.0, record { are = (h.are.0, r.1.are) }, r.2)
+    let r = split xs ys {ts = ts} {rest = rest}
+    (record { are = h.are.1 }) in (r.0, record { are = (h.are.0, r.1.are) }, r.2)
 
 -- a first word is a first token
-pub first : {w : Word} {ws : List Word} {ts rest : List Token} → Spelt (w ∷ ws) ts rest → (t : Token) × (us : List Token) × (ts ≡ t ∷ us) × (t.kind ≡ w.kind) × words.OnLine w.line t.line × Spelt ws us rest
+pub first : {w : Word} {ws : List Word} {ts rest : List Token} → Spelt (w ∷ ws) ts rest → (t : Token)
+    × (us : List Token) × (ts ≡ t ∷ us) × (t.kind ≡ w.kind) × words.OnLine w.line t.line × Spelt ws us rest
 first {w} {ws} {ts = []} {rest} h = absurd h.are
 first {w} {ws} {ts = t ∷ us} {rest} h = (t, us, refl, h.are.0.0, h.are.0.1, record { are = h.are.1 })
 
@@ -103,20 +118,32 @@ same-punctuation m = true_same punctuation.the_type m m refl
 pub same-keyword : (w : Keyword) → same_keyword w w ≡ true
 same-keyword w = true_same keyword.the_type w w refl
 
-pub behind-punctuation : {ws : List Word} {ts rest : List Token} (m : Punctuation) → Spelt (words.punctuation m ∷ ws) ts rest → (us : List Token) × (after m ts ≡ Some us) × Spelt ws us rest
+pub behind-punctuation : {ws : List Word} {ts rest : List Token} (m : Punctuation)
+    → Spelt (words.punctuation m ∷ ws) ts rest → (us : List Token) × (after m ts ≡ Some us) × Spelt ws us rest
 behind-punctuation {ws} {ts = []} {rest} m h = absurd h.are
-behind-punctuation {ws} {ts = t ∷ us} {rest} m h = (us, ap (λ k. after_kind m k us) h.are.0.0 ∙ ap (λ b. cond b (Some us) None) (same-punctuation m), record { are = h.are.1 })
+behind-punctuation {ws} {ts = t ∷ us} {rest} m h = (
+  us,
+  ap (λ k. after_kind m k us) h.are.0.0 ∙ ap (λ b. cond b (Some us) None) (same-punctuation m),
+  record { are = h.are.1 },
+)
 
-pub behind-keyword : {ws : List Word} {ts rest : List Token} (w : Keyword) → Spelt (words.keyword w ∷ ws) ts rest → (us : List Token) × (after_keyword w ts ≡ Some us) × Spelt ws us rest
+pub behind-keyword : {ws : List Word} {ts rest : List Token} (w : Keyword) → Spelt (words.keyword w ∷ ws) ts rest
+    → (us : List Token) × (after_keyword w ts ≡ Some us) × Spelt ws us rest
 behind-keyword {ws} {ts = []} {rest} w h = absurd h.are
-behind-keyword {ws} {ts = t ∷ us} {rest} w h = (us, ap (λ k. after_keyword_kind w k us) h.are.0.0 ∙ ap (λ b. cond b (Some us) None) (same-keyword w), record { are = h.are.1 })
+behind-keyword {ws} {ts = t ∷ us} {rest} w h = (
+  us,
+  ap (λ k. after_keyword_kind w k us) h.are.0.0 ∙ ap (λ b. cond b (Some us) None) (same-keyword w),
+  record { are = h.are.1 },
+)
 
-pub behind-name : {ws : List Word} {ts rest : List Token} (n : List ℕ) → Spelt (words.name n ∷ ws) ts rest → (us : List Token) × (name_at ts ≡ Some (n, us)) × Spelt ws us rest
+pub behind-name : {ws : List Word} {ts rest : List Token} (n : List ℕ) → Spelt (words.name n ∷ ws) ts rest
+    → (us : List Token) × (name_at ts ≡ Some (n, us)) × Spelt ws us rest
 behind-name {ws} {ts = []} {rest} n h = absurd h.are
 behind-name {ws} {ts = t ∷ us} {rest} n h = (us, ap (λ k. name_of k us) h.are.0.0, record { are = h.are.1 })
 
 -- another kind of word in front
-pub not-after : {ws : List Word} {ts rest : List Token} (m : Punctuation) (k : TokenKind) → ((us : List Token) → after_kind m k us ≡ None) → Spelt (words.word k ∷ ws) ts rest → after m ts ≡ None
+pub not-after : {ws : List Word} {ts rest : List Token} (m : Punctuation) (k : TokenKind)
+    → ((us : List Token) → after_kind m k us ≡ None) → Spelt (words.word k ∷ ws) ts rest → after m ts ≡ None
 not-after {ws} {ts = []} {rest} m k other h = absurd h.are
 not-after {ws} {ts = t ∷ us} {rest} m k other h = ap (λ q. after_kind m q us) h.are.0.0 ∙ other us
 

@@ -68,17 +68,20 @@ unlined-kind (s.DefineReceived n m c) = begun _ _ refl
 unlined-kind (s.AssignReceived n m c) = begun _ _ refl
 
 -- words on the line of their first token
-pub on-line-then : (ws : List Word) (t : Token) (ts rest : List Token) → Spelt ws (t ∷ ts) rest → Spelt (on_line t.line ws) (t ∷ ts) rest
+pub on-line-then : (ws : List Word) (t : Token) (ts rest : List Token) → Spelt ws (t ∷ ts) rest
+    → Spelt (on_line t.line ws) (t ∷ ts) rest
 on-line-then [] t ts rest h = h
 on-line-then (w ∷ ws) t ts rest h = record { are = ((h.are.0.0, refl), h.are.1) }
 
-pub on-line-back : (l : ℕ) (ws : List Word) (t : Token) (ts rest : List Token) → Unlined ws → Spelt (on_line l ws) (t ∷ ts) rest → (t.line ≡ l) × Spelt ws (t ∷ ts) rest
+pub on-line-back : (l : ℕ) (ws : List Word) (t : Token) (ts rest : List Token) → Unlined ws
+    → Spelt (on_line l ws) (t ∷ ts) rest → (t.line ≡ l) × Spelt ws (t ∷ ts) rest
 on-line-back l ws t ts rest u h = at (subst (λ vs. Spelt (on_line l vs) (t ∷ ts) rest) u.are h)
   where
     at : Spelt (on_line l (u.first ∷ u.more)) (t ∷ ts) rest → (t.line ≡ l) × Spelt ws (t ∷ ts) rest
     at g = (
       g.are.0.1,
-      subst (λ vs. Spelt vs (t ∷ ts) rest) (sym u.are) (record { are = ((g.are.0.0, subst (λ o. words.OnLine o t.line) (sym u.none) tt), g.are.1) }),
+      subst (λ vs. Spelt vs (t ∷ ts) rest) (sym u.are)
+          (record { are = ((g.are.0.0, subst (λ o. words.OnLine o t.line) (sym u.none) tt), g.are.1) }),
     )
 
 pub on-line-some : (l : ℕ) (ws : List Word) (rest : List Token) → Unlined ws → Spelt (on_line l ws) [] rest → ⊥
@@ -91,7 +94,8 @@ pub record IsSimpleAt (header : Bool) (ts : List Token) (x : Simple × List Toke
   pub clear : (header && (simple_form x.0.kind).ampersand) ≡ false
 
 -- what is read is a simple statement
-pub simple-sound : (header : Bool) (ts : List Token) (x : Simple × List Token) → simple_at header ts ≡ Some x → IsSimpleAt header ts x
+pub simple-sound : (header : Bool) (ts : List Token) (x : Simple × List Token) → simple_at header ts ≡ Some x
+    → IsSimpleAt header ts x
 unfolding simple_at
 simple-sound header [] x e = cc
 simple-sound header (t ∷ ts) x e =
@@ -101,10 +105,14 @@ simple-sound header (t ∷ ts) x e =
     (record { words = on-line-then (print_simple_kind a.0.0) t ts a.0.1 k.words; good = k.good; clear = k.clear })
 
 -- a simple statement that is printed is read
-pub simple-complete : (header : Bool) (x : Simple) (ts rest : List Token) → (simple_form x.kind).good ≡ true → (header && (simple_form x.kind).ampersand) ≡ false → Spelt (print_simple x) ts rest → Ends rest → simple_at header ts ≡ Some (x, rest)
+pub simple-complete : (header : Bool) (x : Simple) (ts rest : List Token) → (simple_form x.kind).good ≡ true
+    → (header && (simple_form x.kind).ampersand) ≡ false → Spelt (print_simple x) ts rest → Ends rest
+    → simple_at header ts ≡ Some (x, rest)
 unfolding simple_at
-simple-complete header x [] rest good clear h en = absurd (on-line-some x.line (print_simple_kind x.kind) rest (unlined-kind x.kind) h)
+simple-complete header x [] rest good clear h en =
+    absurd (on-line-some x.line (print_simple_kind x.kind) rest (unlined-kind x.kind) h)
 simple-complete header x (t ∷ ts) rest good clear h en =
     let b = on-line-back x.line (print_simple_kind x.kind) t ts rest (unlined-kind x.kind) h in
-    then (λ y. Some (record { line = t.line; kind = y.0 }, y.1)) (kind_at header (t ∷ ts)) (x.kind, rest) (kind-complete header x.kind (t ∷ ts) rest good clear b.1 en)
+    then (λ y. Some (record { line = t.line; kind = y.0 }, y.1)) (kind_at header (t ∷ ts)) (x.kind, rest)
+    (kind-complete header x.kind (t ∷ ts) rest good clear b.1 en)
     ∙ ap (λ n. Some (record { line = n; kind = x.kind }, rest)) b.0

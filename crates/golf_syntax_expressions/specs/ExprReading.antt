@@ -1,5 +1,6 @@
 -- How an expression is read.
-use Rattle.std.specs.Prelude.{ℕ, suc, ◌+◌, ◌*◌, Bool, false, cond, nat_le, List, [], ◌∷◌, ◌++◌, length, Option, Some, None}
+use Rattle.std.specs.Prelude.{ℕ, suc, ◌+◌, ◌*◌, Bool, false, cond, nat_le, List, [], ◌∷◌, ◌++◌, length, Option, Some}
+use Rattle.std.specs.Prelude.{None}
 use Rattle.golf_lex_tokens.specs.declared.token.Token.{Token}
 use Rattle.golf_lex_tokens.specs.declared.token.Punctuation.{Punctuation}
 use Rattle.golf_lex_tokens.specs.declared.token.Punctuation.TheVariants as punctuations
@@ -18,8 +19,9 @@ use Rattle.golf_syntax_expressions.specs.Front.{after, name_at}
 use Rattle.golf_syntax_expressions.specs.Operators.{unary_at, binary_at}
 use Rattle.golf_syntax_expressions.specs.Starts.{start_at, suffix_at}
 
--- What is read: the rest of an operand, a suffix of one, all its suffixes; an expression with operators in front, one of a level,
--- and what follows on that level; expressions and elements with commas between. In a header no operand outside brackets begins with `&`.
+-- What is read: the rest of an operand, a suffix of one, all its suffixes; an expression with operators in front, one
+-- of a level, and what follows on that level; expressions and elements with commas between. In a header no operand
+-- outside brackets begins with `&`.
 pub data Mode : Type 0 where
   Finish : Start → Mode
   Extend : Expr → Suffix → Mode
@@ -68,13 +70,15 @@ suffixes_plan base ts (Some s) = Ask (Extend base s.0) s.1 (λ x. Ask (Suffixes 
 
 abbrev pub prefixed_plan : Bool → List Token → Option (UnaryOperator × List Token) → ExprPlan Expr
 prefixed_plan header ts (Some o) = Ask (Prefixed header) o.1 (λ x. just (ex.Unary o.0 x.0) x.1)
-prefixed_plan header ts None = given (start_at header ts) (λ s. Ask (Finish s.0) s.1 (λ x. Ask (Suffixes x.0) x.1 found))
+prefixed_plan header ts None = given (start_at header ts)
+    (λ s. Ask (Finish s.0) s.1 (λ x. Ask (Suffixes x.0) x.1 found))
 
 -- an operator that binds so tightly, with what is on its right, any number of times
 abbrev pub climb_plan : Bool → ℕ → Expr → List Token → Option (BinaryOperator × List Token) → ExprPlan Expr
 climb_plan header l left ts None = just left ts
 climb_plan header l left ts (Some o) =
-    cond (nat_le l (binds o.0)) (Ask (Level header (suc (binds o.0))) o.1 (λ right. Ask (Climb header l (ex.Binary o.0 left right.0)) right.1 found)) (just left ts)
+    cond (nat_le l (binds o.0)) (Ask (Level header (suc (binds o.0))) o.1
+    (λ right. Ask (Climb header l (ex.Binary o.0 left right.0)) right.1 found)) (just left ts)
 
 -- after an item: a comma and more, or what closes the list
 abbrev pub items_behind : Punctuation → List Expr → List Token → Option (List Token) → ExprPlan (List Expr)
@@ -90,7 +94,9 @@ elements_behind done ts None = given (after punctuations.CloseBrace ts) (just do
 
 abbrev pub elements_plan : List Element → List Token → ExprPlan (List Element)
 elements_plan done ts =
-    given (name_at ts) (λ n. given (after punctuations.Colon n.1) (λ us. Ask (Level false 1) us (λ x. elements_behind (done ++ element n.0 x.0 ∷ []) x.1 (after punctuations.Comma x.1))))
+    given (name_at ts) (λ n. given (after punctuations.Colon n.1)
+    (λ us. Ask (Level false 1) us (λ x. elements_behind (done ++ element n.0 x.0 ∷ []) x.1
+    (after punctuations.Comma x.1))))
 
 abbrev pub expr_plan : (m : Mode) → List Token → ExprPlan (Node m)
 expr_plan (Finish s) ts = finish s ts
@@ -99,7 +105,8 @@ expr_plan (Suffixes base) ts = suffixes_plan base ts (suffix_at ts)
 expr_plan (Prefixed header) ts = prefixed_plan header ts (unary_at ts)
 expr_plan (Level header l) ts = Ask (Prefixed header) ts (λ x. Ask (Climb header l x.0) x.1 found)
 expr_plan (Climb header l left) ts = climb_plan header l left ts (binary_at ts)
-expr_plan (Items close done) ts = Ask (Level false 1) ts (λ x. items_behind close (done ++ x.0 ∷ []) x.1 (after punctuations.Comma x.1))
+expr_plan (Items close done) ts = Ask (Level false 1) ts
+    (λ x. items_behind close (done ++ x.0 ∷ []) x.1 (after punctuations.Comma x.1))
 expr_plan (Elements done) ts = elements_plan done ts
 
 -- a mode asks only for those of lower rank if it has taken no token

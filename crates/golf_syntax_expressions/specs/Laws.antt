@@ -53,22 +53,29 @@ abbrev pub TypesFound : Type 0
 TypesFound = (ts : List Token) (x : TypeExpr × List Token) → type_at OfType ts ≡ Some x → IsTypeIn ts x
 
 abbrev pub TypesRead : Type 0
-TypesRead = (ts : List Token) (x : TypeExpr × List Token) → IsTypeIn ts x → after punctuations.Dot x.1 ≡ None → type_at OfType ts ≡ Some x
+TypesRead = (ts : List Token) (x : TypeExpr × List Token) → IsTypeIn ts x → after punctuations.Dot x.1 ≡ None
+    → type_at OfType ts ≡ Some x
 
 abbrev pub ExpressionsFound : Type 0
-ExpressionsFound = (header : Bool) (ts : List Token) (x : Expr × List Token) → expr_at (Level header 1) ts ≡ Some x → IsExprIn header ts x
+ExpressionsFound = (header : Bool) (ts : List Token) (x : Expr × List Token) → expr_at (Level header 1) ts ≡ Some x
+    → IsExprIn header ts x
 
 abbrev pub ExpressionsRead : Type 0
-ExpressionsRead = (header : Bool) (ts : List Token) (x : Expr × List Token) → IsExprIn header ts x → EndsExpr x.1 → expr_at (Level header 1) ts ≡ Some x
+ExpressionsRead = (header : Bool) (ts : List Token) (x : Expr × List Token) → IsExprIn header ts x → EndsExpr x.1
+    → expr_at (Level header 1) ts ≡ Some x
 
 abbrev pub OperandsFound : Type 0
-OperandsFound = (header : Bool) (ts : List Token) (x : Expr × List Token) → expr_at (Prefixed header) ts ≡ Some x → IsOperandIn header ts x
+OperandsFound = (header : Bool) (ts : List Token) (x : Expr × List Token) → expr_at (Prefixed header) ts ≡ Some x
+    → IsOperandIn header ts x
 
 abbrev pub OperandsRead : Type 0
-OperandsRead = (header : Bool) (ts : List Token) (x : Expr × List Token) → IsOperandIn header ts x → EndsExpr x.1 → expr_at (Prefixed header) ts ≡ Some x
+OperandsRead = (header : Bool) (ts : List Token) (x : Expr × List Token) → IsOperandIn header ts x → EndsExpr x.1
+    → expr_at (Prefixed header) ts ≡ Some x
 
 abbrev pub SimplesFound : Type 0
-SimplesFound = (header : Bool) (ts : List Token) (x : Simple × List Token) → simple_at header ts ≡ Some x → IsSimpleIn header ts x
+SimplesFound = (header : Bool) (ts : List Token) (x : Simple × List Token) → simple_at header ts ≡ Some x
+    → IsSimpleIn header ts x
 
 abbrev pub SimplesRead : Type 0
-SimplesRead = (header : Bool) (ts : List Token) (x : Simple × List Token) → IsSimpleIn header ts x → EndsSimple x.1 → simple_at header ts ≡ Some x
+SimplesRead = (header : Bool) (ts : List Token) (x : Simple × List Token) → IsSimpleIn header ts x → EndsSimple x.1
+    → simple_at header ts ≡ Some x

@@ -20,7 +20,8 @@ use Rattle.golf_syntax_expressions.specs.declared.pending.Move.{Move}
 use Rattle.golf_syntax_expressions.specs.declared.pending.Move.TheVariants as moves
 use Rattle.golf_syntax_expressions.specs.Plan.{◌>>=◌, moved_by, waited_by}
 use Rattle.golf_syntax_expressions.specs.Front.{after, name_at}
-use Rattle.golf_syntax_expressions.specs.ExprReading.{Suffixes, Prefixed, Level, Climb, Items, Elements, element, expr_at}
+use Rattle.golf_syntax_expressions.specs.ExprReading.{Suffixes, Prefixed, Level, Climb, Items, Elements, element}
+use Rattle.golf_syntax_expressions.specs.ExprReading.{expr_at}
 
 abbrev pub Found : Type 0
 Found = Option (Expr × List Token)
@@ -46,7 +47,8 @@ argument_at f done ts (Some us) = expr_at (Items punctuations.CloseParen done) u
 argument_at f done ts None = closed_at punctuations.CloseParen (ex.Call f done) ts
 
 abbrev pub item_at : TypeExpr → List Expr → List Token → Option (List Token) → Found
-item_at t done ts (Some us) = expr_at (Items punctuations.CloseBrace done) us >>= λ y. suffixed (ex.SliceLiteral t y.0) y.1
+item_at t done ts (Some us) = expr_at (Items punctuations.CloseBrace done) us >>= λ y. suffixed
+    (ex.SliceLiteral t y.0) y.1
 item_at t done ts None = closed_at punctuations.CloseBrace (ex.SliceLiteral t done) ts
 
 abbrev pub element_at : List ℕ → List Element → List Token → Option (List Token) → Found
@@ -60,7 +62,8 @@ pending_at (pendings.Sized t) x = closed_at punctuations.CloseParen (ex.MakeSize
 pending_at (pendings.Index base) x = closed_at punctuations.CloseBracket (ex.Index base x.0) x.1
 pending_at (pendings.Argument f done) x = argument_at f (done ++ x.0 ∷ []) x.1 (after punctuations.Comma x.1)
 pending_at (pendings.Item t done) x = item_at t (done ++ x.0 ∷ []) x.1 (after punctuations.Comma x.1)
-pending_at (pendings.Element n done field) x = element_at n (done ++ element field x.0 ∷ []) x.1 (after punctuations.Comma x.1)
+pending_at (pendings.Element n done field) x =
+    element_at n (done ++ element field x.0 ∷ []) x.1 (after punctuations.Comma x.1)
 pending_at (pendings.Prefix o) x = Some (ex.Unary o x.0, x.1)
 pending_at (pendings.Level header l) x = expr_at (Climb header l x.0) x.1
 pending_at (pendings.Operand header l left o) x = expr_at (Climb header l (ex.Binary o left x.0)) x.1
@@ -80,7 +83,8 @@ waited fs o = waited_by pending_at fs o
 
 -- what is found after how an operand begins
 abbrev pub field_at : List ℕ → List Element → List Token → Found
-field_at n done ts = name_at ts >>= λ m. after punctuations.Colon m.1 >>= λ us. expr_at (Level false 1) us >>= pending_at (pendings.Element n done m.0)
+field_at n done ts = name_at ts >>= λ m. after punctuations.Colon m.1 >>= λ us. expr_at
+    (Level false 1) us >>= pending_at (pendings.Element n done m.0)
 
 abbrev pub started_at : Start → List Token → Found
 started_at (starts.Whole e) ts = suffixed e ts

@@ -56,7 +56,8 @@ expression_at header ts = expr_at (Level header 1) ts >>= λ e. behind_expr head
 
 -- `<-channel` after two names
 abbrev pub received : Bool → (Expr → SimpleKind) → List Token → Found
-received header wrap ts = after punctuations.Arrow ts >>= λ us. expr_at (Prefixed header) us >>= λ c. Some (wrap c.0, c.1)
+received header wrap ts = after punctuations.Arrow ts >>= λ us. expr_at (Prefixed header) us >>= λ c. Some
+    (wrap c.0, c.1)
 
 abbrev pub behind_names : Bool → List ℕ → List ℕ → List Token → Option (List Token) → Found
 behind_names header n m ts (Some us) = received header (s.DefineReceived n m) us

@@ -34,22 +34,26 @@ make_behind t ts (Some us) = Some (starts.Sized t, us)
 make_behind t ts None = after punctuations.CloseParen ts >>= whole (ex.Make t)
 
 unfoldable pub make_start : List Token → Started
-make_start ts = after punctuations.OpenParen ts >>= λ us. type_at OfType us >>= λ x. make_behind x.0 x.1 (after punctuations.Comma x.1)
+make_start ts = after punctuations.OpenParen ts >>= λ us. type_at OfType us >>= λ x. make_behind x.0 x.1
+    (after punctuations.Comma x.1)
 
 -- `(T)` or `(sync.T)` after `new`
 abbrev pub new_sync : List ℕ → List Token → Started
-new_sync n ts = cond (bytes_eq n sync) (name_at ts >>= λ m. after punctuations.CloseParen m.1 >>= whole (ex.NewSync m.0)) None
+new_sync n ts = cond (bytes_eq n sync) (name_at ts >>= λ m. after punctuations.CloseParen m.1 >>= whole
+    (ex.NewSync m.0)) None
 
 abbrev pub new_behind : List ℕ → List Token → Option (List Token) → Started
 new_behind n ts (Some us) = new_sync n us
 new_behind n ts None = after punctuations.CloseParen ts >>= whole (ex.New n)
 
 unfoldable pub new_start : List Token → Started
-new_start ts = after punctuations.OpenParen ts >>= λ us. name_at us >>= λ n. new_behind n.0 n.1 (after punctuations.Dot n.1)
+new_start ts = after punctuations.OpenParen ts >>= λ us. name_at us >>= λ n. new_behind n.0 n.1
+    (after punctuations.Dot n.1)
 
 -- `{}{}` after `struct`
 unfoldable pub empty_start : List Token → Started
-empty_start ts = after punctuations.OpenBrace ts >>= λ a. after punctuations.CloseBrace a >>= λ b. after punctuations.OpenBrace b >>= λ c. after punctuations.CloseBrace c >>= whole ex.EmptyLiteral
+empty_start ts = after punctuations.OpenBrace ts >>= λ a. after punctuations.CloseBrace a >>= λ b. after
+    punctuations.OpenBrace b >>= λ c. after punctuations.CloseBrace c >>= whole ex.EmptyLiteral
 
 -- `]T{` or `]T{}` after `[`
 abbrev pub slice_behind : TypeExpr → List Token → Option (List Token) → Started
@@ -57,11 +61,14 @@ slice_behind t ts (Some us) = whole (ex.SliceLiteral t []) us
 slice_behind t ts None = Some (starts.Items t, ts)
 
 unfoldable pub slice_start : List Token → Started
-slice_start ts = after punctuations.CloseBracket ts >>= λ us. type_at OfType us >>= λ x. after punctuations.OpenBrace x.1 >>= λ vs. slice_behind x.0 vs (after punctuations.CloseBrace vs)
+slice_start ts = after punctuations.CloseBracket ts >>= λ us. type_at OfType us >>= λ x. after punctuations.OpenBrace
+    x.1 >>= λ vs. slice_behind x.0 vs (after punctuations.CloseBrace vs)
 
 -- `T{}` after `&sync.`
 unfoldable pub sync_start : List ℕ → List Token → Started
-sync_start n ts = cond (bytes_eq n sync) (name_at ts >>= λ m. after punctuations.OpenBrace m.1 >>= λ us. after punctuations.CloseBrace us >>= whole (ex.SyncLiteral m.0)) None
+sync_start n ts = cond (bytes_eq n sync)
+    (name_at ts >>= λ m. after punctuations.OpenBrace m.1 >>= λ us. after punctuations.CloseBrace us >>= whole
+    (ex.SyncLiteral m.0)) None
 
 -- `T{`, `T{}` or `sync.T{}` after `&`
 abbrev pub struct_behind : List ℕ → List Token → Option (List Token) → Started
@@ -70,7 +77,8 @@ struct_behind n ts None = Some (starts.Elements n, ts)
 
 abbrev pub literal_behind : List ℕ → List Token → Option (List Token) → Started
 literal_behind n ts (Some us) = sync_start n us
-literal_behind n ts None = after punctuations.OpenBrace ts >>= λ us. struct_behind n us (after punctuations.CloseBrace us)
+literal_behind n ts None = after punctuations.OpenBrace ts >>= λ us. struct_behind n us
+    (after punctuations.CloseBrace us)
 
 unfoldable pub literal_start : List Token → Started
 literal_start ts = name_at ts >>= λ n. literal_behind n.0 n.1 (after punctuations.Dot n.1)

@@ -29,13 +29,18 @@ inside wrap ts = Ask OfType ts (λ x. Done (Some (wrap x.0, x.1)))
 
 -- `*n`, or `*sync.m`
 abbrev pub pointer_to : List ℕ → List Token → Option (TypeExpr × List Token)
-pointer_to n ts = elim (after punctuations.Dot ts) [ None ↦ Some (types.Pointer n, ts) | Some us ↦ name_at us >>= λ m. Some (types.SyncPointer m.0, m.1) ]
+pointer_to n ts = elim (after punctuations.Dot ts) [
+  | None ↦ Some (types.Pointer n, ts)
+  | Some us ↦
+      name_at us >>= λ m. Some (types.SyncPointer m.0, m.1)
+]
 
 abbrev pub pointer : List Token → Option (TypeExpr × List Token)
 pointer ts = name_at ts >>= λ n. cond (bytes_eq n.0 sync) (pointer_to n.0 n.1) (Some (types.Pointer n.0, n.1))
 
 abbrev pub empty_struct : List Token → Option (TypeExpr × List Token)
-empty_struct ts = after punctuations.OpenBrace ts >>= λ us. after punctuations.CloseBrace us >>= λ vs. Some (types.EmptyStruct, vs)
+empty_struct ts = after punctuations.OpenBrace ts >>= λ us. after punctuations.CloseBrace us >>= λ vs. Some
+    (types.EmptyStruct, vs)
 
 abbrev pub chan_of : List Token → Option (List Token) → TypePlan
 chan_of ts None = inside types.Chan ts
@@ -48,7 +53,8 @@ type_from_keyword _ ts = Done None
 
 abbrev pub type_from_punctuation : Punctuation → List Token → TypePlan
 type_from_punctuation punctuations.Star ts = Done (pointer ts)
-type_from_punctuation punctuations.OpenBracket ts = given (after punctuations.CloseBracket ts) (λ us. inside types.Slice us)
+type_from_punctuation punctuations.OpenBracket ts =
+    given (after punctuations.CloseBracket ts) (λ us. inside types.Slice us)
 type_from_punctuation punctuations.Arrow ts = given (after_keyword keywords.Chan ts) (λ us. inside types.ReceiveChan us)
 type_from_punctuation _ ts = Done None
 

@@ -6,12 +6,13 @@ ghost use Rattle.golf_syntax_expressions.specs.Front.{seen};
 ghost use Rattle.golf_syntax_expressions.specs.ExprReading.{expr_at, Suffixes, Prefixed, Level, Climb};
 ghost use Rattle.golf_syntax_expressions.specs.Places as places_spec;
 ghost use Rattle.golf_syntax_expressions.specs.Moves as moves_spec;
-ghost use Rattle.golf_syntax_expressions.specs.Moves.{goal_at, pending_at, argument_at, item_at, element_at, closed_at, field_at, started_at, extended_at, goal_weight, weight};
+ghost use Rattle.golf_syntax_expressions.specs.Moves.{goal_at, pending_at, argument_at, item_at, element_at, closed_at};
+ghost use Rattle.golf_syntax_expressions.specs.Moves.{field_at, started_at, extended_at, goal_weight, weight};
 
 use crate::front::{after, copied, name_at};
 use crate::operators::{binary_at, binds, unary_at};
 use crate::pending::{Goal, Move, Pending};
-use crate::place::{Place, in_header};
+use crate::place::{Context, in_header};
 use crate::starts::{Start, Suffix, start_at, suffix_at};
 use golf_base::{List, Memory};
 use golf_lex_tokens::{Punctuation, Token};
@@ -377,7 +378,7 @@ pub(crate) fn prefixed_at(
 /// The expression at the front, and what follows it.
 pub fn expression_at(
     alloc: Global,
-    place: Place,
+    place: Context,
     tokens: &[Token],
 ) -> Result<Option<(OwnedExpr, &[Token])>, Memory>
     ensures value { IfOk result (λ o. seen o ≡ expr_at (Level (places_spec.in_header place) 1) tokens.now) }

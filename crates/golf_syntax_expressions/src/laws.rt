@@ -1,6 +1,7 @@
 //! Laws: what is read is what is printed.
 
-ghost use Rattle.golf_syntax_expressions.specs.Laws.{ExpressionsFound, ExpressionsRead, OperandsFound, OperandsRead, SimplesFound, SimplesRead, TypesFound, TypesRead};
+ghost use Rattle.golf_syntax_expressions.specs.Laws.{ExpressionsFound, ExpressionsRead, OperandsFound, OperandsRead};
+ghost use Rattle.golf_syntax_expressions.specs.Laws.{SimplesFound, SimplesRead, TypesFound, TypesRead};
 
 /// A type that is found is well formed, and printed there.
 pub fn types_found()

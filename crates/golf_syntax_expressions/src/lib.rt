@@ -21,6 +21,6 @@ pub use laws::{
     expressions_found, expressions_read, operands_found, operands_read, simples_found,
     simples_read, types_found, types_read,
 };
-pub use place::Place;
+pub use place::Context;
 pub use simple::simple_at;
 pub use types::type_at;

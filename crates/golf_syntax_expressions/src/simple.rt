@@ -8,7 +8,7 @@ ghost use Rattle.golf_syntax_expressions.specs.SimpleReading.{follow_of, second,
 
 use crate::expressions::{level_at, prefixed_at};
 use crate::front::{after, copied, name_at};
-use crate::place::{Place, in_header};
+use crate::place::{Context, in_header};
 use golf_base::Memory;
 use golf_lex_tokens::{Punctuation, Token, TokenKind};
 use golf_syntax_trees::{
@@ -278,7 +278,7 @@ fn kind_at(
 #[tactic(auto, unfolding(crate::specs::SimpleReading::simple_at))]
 pub fn simple_at(
     alloc: Global,
-    place: Place,
+    place: Context,
     tokens: &[Token],
 ) -> Result<Option<(OwnedSimple, &[Token])>, Memory>
     ensures value { IfOk result (λ o. seen o ≡ simple_spec.simple_at (places_spec.in_header place) tokens.now) }

@@ -1,8 +1,9 @@
 -- How a list of tokens is cut.
 -- For: `front_segment`, src/segments.rt
 -- By: induction over the list of tokens
-use Rattle.std.proofs.Common.{◌≡◌, ℕ, zero, suc, ◌+◌, ◌<◌, ◌≤◌, Bool, true, false, cond, List, [], ◌∷◌, length, get_or, take, drop, refl, ap, sym, subst, ◌∙◌, arith, ◌⊎◌, inl, inr}
-use Rattle.std.proofs.lemmas.List.{at_drop_more, take-append-drop}
+use Rattle.std.proofs.Common.{◌≡◌, ℕ, zero, suc, ◌<◌, ◌≤◌, Bool, true, false, cond, List, [], ◌∷◌, length, take, drop}
+use Rattle.std.proofs.Common.{refl, ap, sym, subst, ◌∙◌, arith, ◌⊎◌, inl, inr}
+use Rattle.std.proofs.lemmas.List.{take-append-drop}
 use Rattle.golf_lex_tokens.specs.declared.token.Token.{Token}
 use Rattle.golf_lex_tokens.specs.declared.token.TokenKind.{TokenKind}
 use Rattle.golf_lex_tokens.specs.declared.token.TokenKind.TheVariants as kinds
@@ -25,38 +26,43 @@ ends-shallow _ depth h = cc
 abbrev pub Front : ℕ → List Token → Type 0
 Front depth ts = segments depth ts ≡ take (front_length depth ts) ts ∷ segments 0 (drop (front_length depth ts) ts)
 
-ended : (t : Token) (ts : List Token) (depth : ℕ) (b : Bool) → ends_segment t.kind depth ≡ b → (b ≡ false → (ts ≡ []) ⊎ Front (depth_behind t.kind depth) ts) →
-    before_segment b t (segments (depth_behind t.kind depth) ts) ≡ take (cond b 1 (suc (front_length (depth_behind t.kind depth) ts))) (t ∷ ts) ∷ segments 0 (drop (cond b 1 (suc (front_length (depth_behind t.kind depth) ts))) (t ∷ ts))
+ended : (t : Token) (ts : List Token) (depth : ℕ) (b : Bool) → ends_segment t.kind depth ≡ b
+    → (b ≡ false → (ts ≡ []) ⊎ Front (depth_behind t.kind depth) ts) →
+    before_segment b t (segments (depth_behind t.kind depth) ts) ≡ take
+    (cond b 1 (suc (front_length (depth_behind t.kind depth) ts))) (t ∷ ts)
+    ∷ segments 0 (drop (cond b 1 (suc (front_length (depth_behind t.kind depth) ts))) (t ∷ ts))
 ended t ts depth true e h = ap (λ d. (t ∷ []) ∷ segments d ts) (ends-shallow t.kind depth e)
-ended t ts depth false e h = elim (h refl) as (λ _. in_front t (segments (depth_behind t.kind depth) ts) ≡ (t ∷ take (front_length (depth_behind t.kind depth) ts) ts) ∷ segments 0 (drop (front_length (depth_behind t.kind depth) ts) ts)) [
-  | inl none ↦ nothing ts none
-  | inr front ↦ ap (in_front t) front
-]
+ended t ts depth false e h = elim (h refl) as (λ _. in_front t (segments (depth_behind t.kind depth) ts) ≡
+    (t ∷ take (front_length (depth_behind t.kind depth) ts) ts)
+    ∷ segments 0 (drop (front_length (depth_behind t.kind depth) ts) ts)) [
+      | inl none ↦ nothing ts none
+      | inr front ↦ ap (in_front t) front
+    ]
   where
-    nothing : (us : List Token) → us ≡ [] → in_front t (segments (depth_behind t.kind depth) us) ≡ (t ∷ take (front_length (depth_behind t.kind depth) us) us) ∷ segments 0 (drop (front_length (depth_behind t.kind depth) us) us)
+    nothing : (us : List Token) → us ≡ [] → in_front t (segments (depth_behind t.kind depth) us) ≡
+        (t ∷ take (front_length (depth_behind t.kind depth) us) us)
+        ∷ segments 0 (drop (front_length (depth_behind t.kind depth) us) us)
     nothing [] h = refl
     nothing (u ∷ us) h = cc
 
 pub front : (t : Token) (ts : List Token) (depth : ℕ) → Front depth (t ∷ ts)
 front t [] depth = ended t [] depth (ends_segment t.kind depth) refl (λ _. inl refl)
-front t (u ∷ us) depth = ended t (u ∷ us) depth (ends_segment t.kind depth) refl (λ _. inr (front u us (depth_behind t.kind depth)))
-
--- one token on
-on : (depth : ℕ) (ts : List Token) (i : ℕ) (t : Token) → i < length ts → t ≡ get_or ts i t →
-    front_length depth (drop i ts) ≡ cond (ends_segment t.kind depth) 1 (suc (front_length (depth_behind t.kind depth) (drop (i + 1) ts)))
-on depth ts i t h e =
-    at_drop_more (front_length depth) ts i t h
-    ∙ ap (λ (q : Token). cond (ends_segment q.kind depth) 1 (suc (front_length (depth_behind q.kind depth) (drop (i + 1) ts)))) (sym e)
+front t (u ∷ us) depth = ended t (u ∷ us) depth (ends_segment t.kind depth) refl
+    (λ _. inr (front u us (depth_behind t.kind depth)))
 
 pub front-is : (ts : List Token) → 0 < length ts → Cut ts (take (front_length 0 ts) ts) (drop (front_length 0 ts) ts)
 front-is [] h = absurd (omega (arith, h))
-front-is (t ∷ ts) h = record { whole = sym (take-append-drop (front_length 0 (t ∷ ts)) (t ∷ ts)); segments = front t ts 0 }
+front-is (t ∷ ts) h = record {
+  whole = sym (take-append-drop (front_length 0 (t ∷ ts)) (t ∷ ts));
+  segments = front t ts 0;
+}
 
 pub length-within : (depth : ℕ) (ts : List Token) → front_length depth ts ≤ length ts
 length-within depth [] = omega arith
 length-within depth (t ∷ ts) = by (ends_segment t.kind depth) (length-within (depth_behind t.kind depth) ts)
   where
-    by : (b : Bool) → front_length (depth_behind t.kind depth) ts ≤ length ts → cond b 1 (suc (front_length (depth_behind t.kind depth) ts)) ≤ suc (length ts)
+    by : (b : Bool) → front_length (depth_behind t.kind depth) ts ≤ length ts
+        → cond b 1 (suc (front_length (depth_behind t.kind depth) ts)) ≤ suc (length ts)
     by true h = omega arith
     by false h = omega arith
 
@@ -68,6 +74,8 @@ length-some depth (t ∷ ts) h = by (ends_segment t.kind depth)
     by true = omega arith
     by false = omega arith
 
-pub cut-is : (ts front back : List Token) (n : ℕ) → n ≡ front_length 0 ts → 0 < length ts → front ≡ take n ts → back ≡ drop n ts → Cut ts front back
+pub cut-is : (ts front back : List Token) (n : ℕ) → n ≡ front_length 0 ts → 0 < length ts → front ≡ take n ts
+    → back ≡ drop n ts → Cut ts front back
 cut-is ts front back n is some f b =
-    subst (λ us. Cut ts us back) (sym (f ∙ ap (λ m. take m ts) is)) (subst (λ us. Cut ts (take (front_length 0 ts) ts) us) (sym (b ∙ ap (λ m. drop m ts) is)) (front-is ts some))
+    subst (λ us. Cut ts us back) (sym (f ∙ ap (λ m. take m ts) is))
+    (subst (λ us. Cut ts (take (front_length 0 ts) ts) us) (sym (b ∙ ap (λ m. drop m ts) is)) (front-is ts some))

@@ -19,11 +19,16 @@ abbrev named : List ℕ → Token
 named n = on 1 (kinds.Name n)
 
 -- the list is cut after each semicolon outside all brackets
-three_segments : segments 0 (named (codes "x") ∷ punctuation punctuations.Semicolon ∷ punctuation punctuations.OpenBrace ∷ punctuation punctuations.Semicolon ∷ punctuation punctuations.CloseBrace ∷ punctuation punctuations.Semicolon ∷ punctuation punctuations.CloseBrace ∷ [])
-    ≡ (named (codes "x") ∷ punctuation punctuations.Semicolon ∷ []) ∷ (punctuation punctuations.OpenBrace ∷ punctuation punctuations.Semicolon ∷ punctuation punctuations.CloseBrace ∷ punctuation punctuations.Semicolon ∷ []) ∷ (punctuation punctuations.CloseBrace ∷ []) ∷ []
+three_segments : segments 0 (named (codes "x") ∷ punctuation punctuations.Semicolon ∷ punctuation punctuations.OpenBrace
+    ∷ punctuation punctuations.Semicolon ∷ punctuation punctuations.CloseBrace ∷ punctuation punctuations.Semicolon
+    ∷ punctuation punctuations.CloseBrace ∷ [])
+    ≡ (named (codes "x") ∷ punctuation punctuations.Semicolon ∷ [])
+    ∷ (punctuation punctuations.OpenBrace ∷ punctuation punctuations.Semicolon ∷ punctuation punctuations.CloseBrace
+    ∷ punctuation punctuations.Semicolon ∷ []) ∷ (punctuation punctuations.CloseBrace ∷ []) ∷ []
 three_segments = refl
 
 -- no token of a short list costs too much
-cheap : first_too_complex no_counts (punctuation punctuations.OpenParen ∷ punctuation punctuations.OpenParen ∷ punctuation punctuations.CloseParen ∷ []) ≡ None
+cheap : first_too_complex no_counts (punctuation punctuations.OpenParen ∷ punctuation punctuations.OpenParen
+    ∷ punctuation punctuations.CloseParen ∷ []) ≡ None
 unfolding most
 cheap = refl

@@ -40,9 +40,12 @@ is_ordinary _ = true
 -- the brackets are in pairs, and semicolons stand outside them only if they may
 pub data Nested : Bool → List Word → Type 0 where
   none : (b : Bool) → Nested b []
-  ordinary : (b : Bool) (k : TokenKind) (l : Option ℕ) (ws : List Word) → is_ordinary k ≡ true → Nested b ws → Nested b (record { kind = k; line = l } ∷ ws)
-  semicolon : (l : Option ℕ) (ws : List Word) → Nested true ws → Nested true (record { kind = kinds.Punctuation punctuations.Semicolon; line = l } ∷ ws)
-  bracket : (b : Bool) (first last : Punctuation) (l : Option ℕ) (inner ws : List Word) → is_open first ≡ true → is_close last ≡ true → Nested true inner → Nested b ws →
+  ordinary : (b : Bool) (k : TokenKind) (l : Option ℕ) (ws : List Word) → is_ordinary k ≡ true → Nested b ws
+      → Nested b (record { kind = k; line = l } ∷ ws)
+  semicolon : (l : Option ℕ) (ws : List Word) → Nested true ws
+      → Nested true (record { kind = kinds.Punctuation punctuations.Semicolon; line = l } ∷ ws)
+  bracket : (b : Bool) (first last : Punctuation) (l : Option ℕ) (inner ws : List Word) → is_open first ≡ true
+      → is_close last ≡ true → Nested true inner → Nested b ws →
       Nested b (record { kind = kinds.Punctuation first; line = l } ∷ (inner ++ words.punctuation last ∷ ws))
 
 pub append : (b : Bool) (xs ys : List Word) → Nested b xs → Nested b ys → Nested b (xs ++ ys)
@@ -50,7 +53,9 @@ append _ _ ys (none b) n = n
 append _ _ ys (ordinary b k l ws p m) n = ordinary b k l (ws ++ ys) p (append b ws ys m n)
 append _ _ ys (semicolon l ws m) n = semicolon l (ws ++ ys) (append true ws ys m n)
 append _ _ ys (bracket b first last l inner ws o c i m) n =
-    subst (λ vs. Nested b (record { kind = kinds.Punctuation first; line = l } ∷ vs)) (sym (append_assoc inner (words.punctuation last ∷ ws) ys)) (bracket b first last l inner (ws ++ ys) o c i (append b ws ys m n))
+    subst (λ vs. Nested b (record { kind = kinds.Punctuation first; line = l } ∷ vs))
+    (sym (append_assoc inner (words.punctuation last ∷ ws) ys))
+    (bracket b first last l inner (ws ++ ys) o c i (append b ws ys m n))
 
 pub weaken : (b : Bool) (ws : List Word) → Nested b ws → Nested true ws
 weaken _ _ (none b) = none true
@@ -65,16 +70,21 @@ on-line _ l _ (semicolon old vs m) = semicolon (Some l) vs m
 on-line _ l _ (bracket b first last old inner vs o c i m) = bracket b first last (Some l) inner vs o c i m
 
 -- a word in front
-pub one : (b : Bool) (k : TokenKind) (ws : List Word) → is_ordinary k ≡ true → Nested b ws → Nested b (words.word k ∷ ws)
+pub one : (b : Bool) (k : TokenKind) (ws : List Word) → is_ordinary k ≡ true → Nested b ws
+    → Nested b (words.word k ∷ ws)
 one b k ws p m = ordinary b k None ws p m
 
-pub parens : (b : Bool) (inner ws : List Word) → Nested true inner → Nested b ws → Nested b (words.punctuation punctuations.OpenParen ∷ (inner ++ words.punctuation punctuations.CloseParen ∷ ws))
+pub parens : (b : Bool) (inner ws : List Word) → Nested true inner → Nested b ws
+    → Nested b (words.punctuation punctuations.OpenParen ∷ (inner ++ words.punctuation punctuations.CloseParen ∷ ws))
 parens b inner ws i m = bracket b punctuations.OpenParen punctuations.CloseParen None inner ws refl refl i m
 
-pub braces : (b : Bool) (inner ws : List Word) → Nested true inner → Nested b ws → Nested b (words.punctuation punctuations.OpenBrace ∷ (inner ++ words.punctuation punctuations.CloseBrace ∷ ws))
+pub braces : (b : Bool) (inner ws : List Word) → Nested true inner → Nested b ws
+    → Nested b (words.punctuation punctuations.OpenBrace ∷ (inner ++ words.punctuation punctuations.CloseBrace ∷ ws))
 braces b inner ws i m = bracket b punctuations.OpenBrace punctuations.CloseBrace None inner ws refl refl i m
 
-pub brackets : (b : Bool) (inner ws : List Word) → Nested true inner → Nested b ws → Nested b (words.punctuation punctuations.OpenBracket ∷ (inner ++ words.punctuation punctuations.CloseBracket ∷ ws))
+pub brackets : (b : Bool) (inner ws : List Word) → Nested true inner → Nested b ws
+    → Nested b (words.punctuation punctuations.OpenBracket
+    ∷ (inner ++ words.punctuation punctuations.CloseBracket ∷ ws))
 brackets b inner ws i m = bracket b punctuations.OpenBracket punctuations.CloseBracket None inner ws refl refl i m
 
 -- each of these texts
@@ -82,17 +92,20 @@ abbrev pub Each : List (List Word) → Type 0
 Each [] = Unit {0}
 Each (x ∷ xs) = Nested true x × Each xs
 
-pub each-print : (A : Type 0) (print : A → List Word) → ((x : A) → Nested true (print x)) → (xs : List A) → Each (map print xs)
+pub each-print : (A : Type 0) (print : A → List Word) → ((x : A) → Nested true (print x)) → (xs : List A)
+    → Each (map print xs)
 each-print A print f [] = tt
 each-print A print f (x ∷ xs) = (f x, each-print A print f xs)
 
-pub each-known : (A : Type 0) (b : Bool) (print : A → List Word) (xs : List ((x : A) × Nested b (print x))) → Each (map print (map (λ p. p.0) xs))
+pub each-known : (A : Type 0) (b : Bool) (print : A → List Word) (xs : List ((x : A) × Nested b (print x)))
+    → Each (map print (map (λ p. p.0) xs))
 each-known A b print [] = tt
 each-known A b print (x ∷ xs) = (weaken b (print x.0) x.1, each-known A b print xs)
 
 behind-commas : (xs : List (List Word)) → Each xs → Nested true (behind punctuations.Comma xs)
 behind-commas [] e = none true
-behind-commas (x ∷ xs) e = one true (kinds.Punctuation punctuations.Comma) _ refl (append true x _ e.0 (behind-commas xs e.1))
+behind-commas (x ∷ xs) e = one true (kinds.Punctuation punctuations.Comma) _ refl
+    (append true x _ e.0 (behind-commas xs e.1))
 
 pub commas : (xs : List (List Word)) → Each xs → Nested true (separated punctuations.Comma xs)
 commas [] e = none true

@@ -7,12 +7,14 @@ use Rattle.golf_lex_tokens.specs.declared.token.Punctuation.TheVariants as punct
 use Rattle.golf_syntax_trees.specs.Words.{Word, punctuation, Spells}
 
 -- the tokens between
-pub split : (xs ys : List Word) (ts rest : List Token) → Spells (xs ++ ys) ts rest → (mid : List Token) × (Spells xs ts mid) × (Spells ys mid rest)
+pub split : (xs ys : List Word) (ts rest : List Token) → Spells (xs ++ ys) ts rest → (mid : List Token)
+    × (Spells xs ts mid) × (Spells ys mid rest)
 split [] ys ts rest h = (ts, refl, h)
 split (x ∷ xs) ys [] rest h = absurd h
 split (x ∷ xs) ys (t ∷ ts) rest h = let k = split xs ys ts rest h.1 in (k.0, (h.0, k.1), k.2)
 
-pub join : (xs ys : List Word) (ts mid rest : List Token) → Spells xs ts mid → Spells ys mid rest → Spells (xs ++ ys) ts rest
+pub join : (xs ys : List Word) (ts mid rest : List Token) → Spells xs ts mid → Spells ys mid rest
+    → Spells (xs ++ ys) ts rest
 join [] ys ts mid rest h k = subst (λ us. Spells ys us rest) (sym h) k
 join (x ∷ xs) ys [] mid rest h k = absurd h
 join (x ∷ xs) ys (t ∷ ts) mid rest h k = (h.0, join xs ys ts mid rest h.1 k)
@@ -26,7 +28,8 @@ pub record Parted (ws : List Word) (ts rest : List Token) : Type 0 where
 pub part : (ws : List Word) (ts rest : List Token) → Spells ws ts rest → Parted ws ts rest
 part [] ts rest h = record { segment = []; words = refl; whole = h }
 part (w ∷ ws) [] rest h = absurd h
-part (w ∷ ws) (t ∷ ts) rest h = let k = part ws ts rest h.1 in record { segment = t ∷ k.segment; words = (h.0, k.words); whole = ap (λ us. t ∷ us) k.whole }
+part (w ∷ ws) (t ∷ ts) rest h = let k = part ws ts rest
+    h.1 in record { segment = t ∷ k.segment; words = (h.0, k.words); whole = ap (λ us. t ∷ us) k.whole }
 
 -- more tokens after
 pub longer : (ws : List Word) (ts rest us : List Token) → Spells ws ts rest → Spells ws (ts ++ us) (rest ++ us)
@@ -35,9 +38,12 @@ longer (w ∷ ws) [] rest us h = absurd h
 longer (w ∷ ws) (t ∷ ts) rest us h = (h.0, longer ws ts rest us h.1)
 
 -- words with a semicolon, before other words
-pub closing : (ws vs : List Word) (ts rest : List Token) → Spells (ws ++ punctuation punctuations.Semicolon ∷ vs) ts rest → (mid : List Token) × (Spells (ws ++ punctuation punctuations.Semicolon ∷ []) ts mid) × (Spells vs mid rest)
+pub closing : (ws vs : List Word) (ts rest : List Token)
+    → Spells (ws ++ punctuation punctuations.Semicolon ∷ vs) ts rest → (mid : List Token)
+    × (Spells (ws ++ punctuation punctuations.Semicolon ∷ []) ts mid) × (Spells vs mid rest)
 closing ws vs ts rest h = let k = split ws (punctuation punctuations.Semicolon ∷ vs) ts rest h in next k.0 k.1 k.2
   where
-    next : (mid : List Token) → Spells ws ts mid → Spells (punctuation punctuations.Semicolon ∷ vs) mid rest → (mid : List Token) × (Spells (ws ++ punctuation punctuations.Semicolon ∷ []) ts mid) × (Spells vs mid rest)
+    next : (mid : List Token) → Spells ws ts mid → Spells (punctuation punctuations.Semicolon ∷ vs) mid rest
+        → (mid : List Token) × (Spells (ws ++ punctuation punctuations.Semicolon ∷ []) ts mid) × (Spells vs mid rest)
     next [] a b = absurd b
     next (s ∷ ss) a b = (ss, join ws (punctuation punctuations.Semicolon ∷ []) ts (s ∷ ss) ss a (b.0, refl), b.1)

@@ -19,7 +19,8 @@ use Rattle.golf_syntax_statements.specs.CommReading.{channel_in, channel_of, ope
 pub channel-is : (e c : Expr) → channel_of e ≡ Some c → e ≡ ex.Unary unary.Receive c
 channel-is e c h = at (out-Expr e) refl h
   where
-    operand : (o : UnaryOperator) (a : Expr) → operand_of o a ≡ Some c → ◌≡◌ {A = Expr-F Expr Element} (F.Unary o a) (F.Unary unary.Receive c)
+    operand : (o : UnaryOperator) (a : Expr) → operand_of o a ≡ Some c
+        → ◌≡◌ {A = Expr-F Expr Element} (F.Unary o a) (F.Unary unary.Receive c)
     operand unary.Receive a f = ap (λ b. F.Unary unary.Receive b) (some-same a c f)
     operand _ a f = cc
 
@@ -28,7 +29,9 @@ channel-is e c h = at (out-Expr e) refl h
     at _ is f = cc
 
 -- simple statements that are no communications
-pub no-comm : (k : SimpleKind) → ((e : Expr) → k ≡ s.Expression e → ⊥) → ((c v : Expr) → k ≡ s.Send c v → ⊥) → ((n : List ℕ) (e : Expr) → k ≡ s.Define n e → ⊥) → ((n m : List ℕ) (c : Expr) → k ≡ s.DefineReceived n m c → ⊥) → comm_of k ≡ None
+pub no-comm : (k : SimpleKind) → ((e : Expr) → k ≡ s.Expression e → ⊥) → ((c v : Expr) → k ≡ s.Send c v → ⊥)
+    → ((n : List ℕ) (e : Expr) → k ≡ s.Define n e → ⊥) → ((n m : List ℕ) (c : Expr) → k ≡ s.DefineReceived n m c → ⊥)
+    → comm_of k ≡ None
 no-comm (s.Expression e) p q d r = absurd (p e refl)
 no-comm (s.Send c v) p q d r = absurd (q c v refl)
 no-comm (s.Define n e) p q d r = absurd (d n e refl)

@@ -6,7 +6,8 @@ use Rattle.golf_lex_tokens.specs.declared.token.Token.{Token}
 use Rattle.golf_lex_tokens.specs.declared.token.Punctuation.TheVariants as punctuations
 use Rattle.golf_syntax_expressions.proofs.Fronts.{nothing, punctuation-then}
 use Rattle.golf_syntax_statements.specs.VarReading.{var_at}
-use Rattle.golf_syntax_statements.specs.Laws.{EndsStatement, VarsFound, VarsRead, TestsFound, TestsRead, HeadersFound, HeadersRead, CommsFound, CommsRead, StatementsFound, StatementsRead}
+use Rattle.golf_syntax_statements.specs.Laws.{EndsStatement, VarsFound, VarsRead, TestsFound, TestsRead, HeadersFound}
+use Rattle.golf_syntax_statements.specs.Laws.{HeadersRead, CommsFound, CommsRead, StatementsFound, StatementsRead}
 use Rattle.golf_syntax_statements.proofs.Nothing.{semicolon, close_brace, colon, Stops, stops}
 use Rattle.golf_syntax_statements.proofs.VarLaws.{var-sound, var-complete}
 use Rattle.golf_syntax_statements.proofs.HeaderLaws.{test-sound, header-sound}
@@ -21,7 +22,8 @@ ends ts (us, inr e) = record { punctuation = punctuations.CloseBrace; stop = clo
 
 stopped : (ts : List Token) → EndsStatement ts → Stops ts
 stopped ts (us, inl e) = stops punctuations.Semicolon semicolon (punctuation-then punctuations.Semicolon ts e nothing)
-stopped ts (us, inr e) = stops punctuations.CloseBrace close_brace (punctuation-then punctuations.CloseBrace ts e nothing)
+stopped ts (us, inr e) = stops punctuations.CloseBrace close_brace
+    (punctuation-then punctuations.CloseBrace ts e nothing)
 
 pub vars-found : VarsFound
 vars-found word ts x is e = let k = var-sound word ts x is e in record { var = is; words = k.words.are; good = k.good }
@@ -34,19 +36,22 @@ pub tests-found : TestsFound
 tests-found ts x e = let k = test-sound ts x e in record { words = k.words.are; first = k.first; good = k.good }
 
 pub tests-read : TestsRead
-tests-read ts x k b = test-complete x.0 ts x.1 b.0 [] k.first k.good (record { are = k.words }) (punctuation-then punctuations.OpenBrace x.1 b.1 nothing)
+tests-read ts x k b = test-complete x.0 ts x.1 b.0 [] k.first k.good (record { are = k.words })
+    (punctuation-then punctuations.OpenBrace x.1 b.1 nothing)
 
 pub headers-found : HeadersFound
 headers-found ts x e = let k = header-sound ts x e in record { words = k.words.are; good = k.good }
 
 pub headers-read : HeadersRead
-headers-read ts x k b = header-complete x.1 b.0 [] (punctuation-then punctuations.OpenBrace x.1 b.1 nothing) x.0 ts k.good (record { are = k.words })
+headers-read ts x k b = header-complete x.1 b.0 []
+    (punctuation-then punctuations.OpenBrace x.1 b.1 nothing) x.0 ts k.good (record { are = k.words })
 
 pub comms-found : CommsFound
 comms-found ts x e = let k = comm-sound ts x e in record { words = k.words.are; good = k.good }
 
 pub comms-read : CommsRead
-comms-read ts us x k c = comm-complete x.0 ts x.1 k.good (record { are = k.words }) (stops punctuations.Colon colon (punctuation-then punctuations.Colon x.1 c nothing))
+comms-read ts us x k c = comm-complete x.0 ts x.1 k.good (record { are = k.words })
+    (stops punctuations.Colon colon (punctuation-then punctuations.Colon x.1 c nothing))
 
 pub statements-found : StatementsFound
 statements-found ts x e = let k = stmt-sound ts x e in record { words = k.words.are; good = k.good }

@@ -32,7 +32,8 @@ abbrev pub assigned_at : List Token → Option (List ℕ × List Token)
 assigned_at ts = name_at ts >>= λ n. after punctuations.Assign n.1 >>= λ us. Some (n.0, us)
 
 abbrev pub comm_by : List Token → Option (List ℕ × List Token) → Option (Communication × List Token)
-comm_by ts (Some n) = after punctuations.Arrow n.1 >>= λ us. expr_at (Prefixed false) us >>= λ c. Some (comm.Assign n.0 c.0, c.1)
+comm_by ts (Some n) = after punctuations.Arrow n.1 >>= λ us. expr_at (Prefixed false) us >>= λ c. Some
+    (comm.Assign n.0 c.0, c.1)
 comm_by ts None = simple_at false ts >>= λ x. comm_of x.0.kind >>= λ c. Some (c, x.1)
 
 -- the communication at the front, and what follows it

@@ -36,7 +36,8 @@ test_at ts = simple_at true ts >>= λ x. test_by x.0 x.1 (after punctuations.Sem
 
 -- the names before a `range`, after the first one
 abbrev pub two_names : List ℕ → List Token → Option (RangeNames × List Token)
-two_names n ts = name_at ts >>= λ m. after punctuations.Define m.1 >>= λ us. after_keyword keywords.Range us >>= λ vs. Some (names.Two n m.0, vs)
+two_names n ts = name_at ts >>= λ m. after punctuations.Define m.1 >>= λ us. after_keyword keywords.Range us >>=
+    λ vs. Some (names.Two n m.0, vs)
 
 abbrev pub names_behind : List ℕ → Option (List Token) → Option (List Token) → Option (RangeNames × List Token)
 names_behind n (Some us) comma = after_keyword keywords.Range us >>= λ vs. Some (names.One n, vs)
@@ -57,7 +58,8 @@ Found = Option (Header × List Token)
 -- A post statement has no `:=`.
 abbrev pub post_by : Option Simple → Option Expr → List Token → Option (Simple × List Token) → Found
 post_by first test ts None = Some (headers.Steps first test None, ts)
-post_by first test ts (Some x) = cond (simple_form x.0.kind).defines None (Some (headers.Steps first test (Some x.0), x.1))
+post_by first test ts (Some x) = cond (simple_form x.0.kind).defines None
+    (Some (headers.Steps first test (Some x.0), x.1))
 
 unfoldable pub post_at : Option Simple → Option Expr → List Token → Found
 post_at first test ts = after punctuations.Semicolon ts >>= λ us. post_by first test us (simple_at true us)

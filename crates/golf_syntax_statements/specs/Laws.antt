@@ -1,4 +1,5 @@
--- What is read at the front of tokens is what is printed there: variables, headers, communications and statements (this repository).
+-- What is read at the front of tokens is what is printed there: variables, headers, communications and statements (this
+-- repository).
 use Rattle.std.specs.Prelude.{◌≡◌, ◌⊎◌, true, List, [], ◌∷◌, ◌++◌, Some}
 use Rattle.golf_lex_tokens.specs.declared.token.Token.{Token}
 use Rattle.golf_lex_tokens.specs.declared.token.TokenKind.TheVariants as kinds
@@ -10,7 +11,8 @@ use Rattle.golf_syntax_trees.specs.declared.statements.Communication.{Communicat
 use Rattle.golf_syntax_trees.specs.declared.statements.Stmt.{Stmt}
 use Rattle.golf_syntax_trees.specs.Words.{punctuation, Spells}
 use Rattle.golf_syntax_trees.specs.Expressions.{print_expr}
-use Rattle.golf_syntax_trees.specs.Simple.{print_var, content_good, optional, all_of, print_simple, print_header, header_simple, header_expr, header_good, print_comm, comm_good}
+use Rattle.golf_syntax_trees.specs.Simple.{print_var, content_good, optional, all_of, print_simple, print_header}
+use Rattle.golf_syntax_trees.specs.Simple.{header_simple, header_expr, header_good, print_comm, comm_good}
 use Rattle.golf_syntax_trees.specs.Statements.{print_stmt, stmt_form}
 use Rattle.golf_syntax_expressions.specs.Front.{after}
 use Rattle.golf_syntax_statements.specs.VarReading.{var_at}
@@ -20,7 +22,8 @@ use Rattle.golf_syntax_statements.specs.StmtReading.{OfStmt, stmt_at}
 
 -- a semicolon or a closing brace stands here
 abbrev pub EndsStatement : List Token → Type 0
-EndsStatement ts = (us : List Token) × ((after punctuations.Semicolon ts ≡ Some us) ⊎ (after punctuations.CloseBrace ts ≡ Some us))
+EndsStatement ts = (us : List Token) × ((after punctuations.Semicolon ts ≡ Some us)
+    ⊎ (after punctuations.CloseBrace ts ≡ Some us))
 
 -- the body of an `if` or a `for` begins here
 abbrev pub BeginsBody : List Token → Type 0
@@ -33,7 +36,8 @@ pub record IsVarIn (word : Token) (ts : List Token) (x : Var × List Token) : Ty
   pub good : content_good x.0.content ≡ true
 
 pub record IsTestIn (ts : List Token) (x : Test × List Token) : Type 0 where
-  pub words : Spells (optional (λ y. print_simple y ++ punctuation punctuations.Semicolon ∷ []) x.0.0 ++ print_expr x.0.1) ts x.1
+  pub words : Spells (optional (λ y. print_simple y ++ punctuation punctuations.Semicolon ∷ []) x.0.0
+      ++ print_expr x.0.1) ts x.1
   pub first : all_of header_simple x.0.0 ≡ true
   pub good : header_expr x.0.1 ≡ true
 
@@ -50,10 +54,12 @@ pub record IsStmtIn (ts : List Token) (x : Stmt × List Token) : Type 0 where
   pub good : (stmt_form x.0).good ≡ true
 
 abbrev pub VarsFound : Type 0
-VarsFound = (word : Token) (ts : List Token) (x : Var × List Token) → word.kind ≡ kinds.Keyword keywords.Var → var_at word.line ts ≡ Some x → IsVarIn word ts x
+VarsFound = (word : Token) (ts : List Token) (x : Var × List Token) → word.kind ≡ kinds.Keyword keywords.Var
+    → var_at word.line ts ≡ Some x → IsVarIn word ts x
 
 abbrev pub VarsRead : Type 0
-VarsRead = (word : Token) (ts : List Token) (x : Var × List Token) → IsVarIn word ts x → EndsStatement x.1 → var_at word.line ts ≡ Some x
+VarsRead = (word : Token) (ts : List Token) (x : Var × List Token) → IsVarIn word ts x → EndsStatement x.1
+    → var_at word.line ts ≡ Some x
 
 abbrev pub TestsFound : Type 0
 TestsFound = (ts : List Token) (x : Test × List Token) → test_at ts ≡ Some x → IsTestIn ts x
@@ -71,10 +77,12 @@ abbrev pub CommsFound : Type 0
 CommsFound = (ts : List Token) (x : Communication × List Token) → comm_at ts ≡ Some x → IsCommIn ts x
 
 abbrev pub CommsRead : Type 0
-CommsRead = (ts us : List Token) (x : Communication × List Token) → IsCommIn ts x → after punctuations.Colon x.1 ≡ Some us → comm_at ts ≡ Some x
+CommsRead = (ts us : List Token) (x : Communication × List Token) → IsCommIn ts x
+    → after punctuations.Colon x.1 ≡ Some us → comm_at ts ≡ Some x
 
 abbrev pub StatementsFound : Type 0
 StatementsFound = (ts : List Token) (x : Stmt × List Token) → stmt_at OfStmt ts ≡ Some x → IsStmtIn ts x
 
 abbrev pub StatementsRead : Type 0
-StatementsRead = (ts : List Token) (x : Stmt × List Token) → IsStmtIn ts x → EndsStatement x.1 → stmt_at OfStmt ts ≡ Some x
+StatementsRead = (ts : List Token) (x : Stmt × List Token) → IsStmtIn ts x → EndsStatement x.1
+    → stmt_at OfStmt ts ≡ Some x

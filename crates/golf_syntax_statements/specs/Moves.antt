@@ -55,7 +55,12 @@ defaults has_default None = true
 
 -- a `select` with one clause more
 abbrev pub grown : Select → Head → List Stmt → Select
-grown s h b = record { line = s.line; has_default = defaults s.has_default h.communication; clauses = s.clauses ++ clause_of h.line h.communication b ∷ [] }
+grown s h b = record {
+  line = s.line;
+  has_default = defaults s.has_default h.communication;
+  clauses = s.clauses
+      ++ clause_of h.line h.communication b ∷ [];
+}
 
 -- the clauses of a `select` from here on
 unfoldable pub selected : Select → List Token → Found
@@ -84,8 +89,10 @@ colon_at s h ts = after punctuations.Colon ts >>= headed_at s h
 
 -- The clauses of a `select` by their first token; a `select` has at most one `default`.
 abbrev pub selected_by : Select → ℕ → TokenKind → List Token → Found
-selected_by s l (kinds.Keyword keywords.Case) ts = comm_at ts >>= λ c. colon_at s (record { line = l; communication = Some c.0 }) c.1
-selected_by s l (kinds.Keyword keywords.Default) ts = cond s.has_default None (colon_at s (record { line = l; communication = None }) ts)
+selected_by s l (kinds.Keyword keywords.Case) ts =
+    comm_at ts >>= λ c. colon_at s (record { line = l; communication = Some c.0 }) c.1
+selected_by s l (kinds.Keyword keywords.Default) ts =
+    cond s.has_default None (colon_at s (record { line = l; communication = None }) ts)
 selected_by s l (kinds.Punctuation punctuations.CloseBrace) ts = Some (st.Select s.line s.clauses, ts)
 selected_by s l _ ts = None
 

@@ -1,5 +1,6 @@
 -- How statements are read (Go specification, "Statements", "Blocks").
-use Rattle.std.specs.Prelude.{ℕ, suc, ◌+◌, ◌*◌, Bool, true, false, cond, List, [], ◌∷◌, ◌++◌, length, Option, Some, None}
+use Rattle.std.specs.Prelude.{ℕ, suc, ◌+◌, ◌*◌, Bool, true, false, cond, List, [], ◌∷◌, ◌++◌, length, Option, Some}
+use Rattle.std.specs.Prelude.{None}
 use Rattle.golf_lex_tokens.specs.declared.token.Token.{Token}
 use Rattle.golf_lex_tokens.specs.declared.token.TokenKind.{TokenKind}
 use Rattle.golf_lex_tokens.specs.declared.token.TokenKind.TheVariants as kinds
@@ -23,8 +24,8 @@ use Rattle.golf_syntax_statements.specs.HeaderReading.{Test, test_at, header_at}
 use Rattle.golf_syntax_statements.specs.CommReading.{comm_at}
 pub use Rattle.golf_syntax_trees.specs.Parts.{call_in, call_of}
 
--- What is read: a statement; statements with semicolons between, up to the brace that closes them; the clauses of a `select`, up to
--- its brace, after a `default` or not; the statements of a clause. The lists hold what was read before.
+-- What is read: a statement; statements with semicolons between, up to the brace that closes them; the clauses of a
+-- `select`, up to its brace, after a `default` or not; the statements of a clause. The lists hold what was read before.
 pub data Mode : Type 0 where
   OfStmt : Mode
   Body : List Stmt → Mode
@@ -77,7 +78,8 @@ is_branch (t ∷ ts) = is_branch_kind t.kind
 
 abbrev pub else_plan : ℕ → Test → List Stmt → List Token → Option (List Token) → StmtPlan Stmt
 else_plan l x done ts None = just (st.If l x.0 x.1 done) ts
-else_plan l x done ts (Some us) = cond (is_branch us) (Ask OfStmt us (λ s. just (st.IfElse l x.0 x.1 done s.0) s.1)) (Done None)
+else_plan l x done ts (Some us) = cond (is_branch us) (Ask OfStmt us (λ s. just (st.IfElse l x.0 x.1 done s.0) s.1))
+    (Done None)
 
 abbrev pub if_plan : ℕ → List Token → StmtPlan Stmt
 if_plan l ts = given (test_at ts) (λ x. block x.1 (λ b. else_plan l x.0 b.0 b.1 (after_keyword keywords.Else b.1)))
@@ -86,7 +88,8 @@ abbrev pub for_plan : ℕ → List Token → StmtPlan Stmt
 for_plan l ts = given (header_at ts) (λ h. block h.1 (λ b. just (st.For l h.0 b.0) b.1))
 
 abbrev pub select_plan : ℕ → List Token → StmtPlan Stmt
-select_plan l ts = given (after punctuations.OpenBrace ts) (λ us. Ask (Clauses false []) us (λ c. just (st.Select l c.0) c.1))
+select_plan l ts = given (after punctuations.OpenBrace ts)
+    (λ us. Ask (Clauses false []) us (λ c. just (st.Select l c.0) c.1))
 
 abbrev pub simple_plan : List Token → StmtPlan Stmt
 simple_plan ts = Done (simple_at false ts >>= λ x. Some (st.Simple x.0, x.1))
@@ -106,7 +109,8 @@ keyword_plan l _ ts all = simple_plan all
 
 abbrev pub kind_plan : ℕ → TokenKind → List Token → List Token → StmtPlan Stmt
 kind_plan l (kinds.Keyword k) ts all = keyword_plan l k ts all
-kind_plan l (kinds.Punctuation punctuations.OpenBrace) ts all = body ts (after punctuations.CloseBrace ts) (λ b. just (st.Block l b.0) b.1)
+kind_plan l (kinds.Punctuation punctuations.OpenBrace) ts all =
+    body ts (after punctuations.CloseBrace ts) (λ b. just (st.Block l b.0) b.1)
 kind_plan l _ ts all = simple_plan all
 
 abbrev pub one_plan : List Token → StmtPlan Stmt
@@ -134,20 +138,25 @@ begins_clause [] = false
 begins_clause (t ∷ ts) = begins_kind t.kind
 
 abbrev pub case_plan : List Stmt → List Token → StmtPlan (List Stmt)
-case_plan done ts = cond (begins_clause ts) (just done ts) (Ask OfStmt ts (λ s. case_behind (done ++ s.0 ∷ []) s.1 (after punctuations.Semicolon s.1)))
+case_plan done ts = cond (begins_clause ts) (just done ts)
+    (Ask OfStmt ts (λ s. case_behind (done ++ s.0 ∷ []) s.1 (after punctuations.Semicolon s.1)))
 
 -- the statements of a clause, after its colon, and the clauses after them
-abbrev pub clause_body : Bool → List Clause → (List Stmt → Clause) → List Token → Option (List Token) → StmtPlan (List Clause)
+abbrev pub clause_body : Bool → List Clause → (List Stmt → Clause) → List Token → Option (List Token)
+    → StmtPlan (List Clause)
 clause_body seen done wrap ts (Some us) = Ask (Clauses seen (done ++ wrap [] ∷ [])) ts found
 clause_body seen done wrap ts None = Ask (CaseBody []) ts (λ b. Ask (Clauses seen (done ++ wrap b.0 ∷ [])) b.1 found)
 
 abbrev pub clause_plan : Bool → List Clause → (List Stmt → Clause) → List Token → StmtPlan (List Clause)
-clause_plan seen done wrap ts = given (after punctuations.Colon ts) (λ us. clause_body seen done wrap us (after punctuations.CloseBrace us))
+clause_plan seen done wrap ts = given (after punctuations.Colon ts)
+    (λ us. clause_body seen done wrap us (after punctuations.CloseBrace us))
 
 -- A `select` has at most one `default`.
 abbrev pub clauses_from : Bool → List Clause → ℕ → TokenKind → List Token → StmtPlan (List Clause)
-clauses_from seen done l (kinds.Keyword keywords.Case) ts = given (comm_at ts) (λ c. clause_plan seen done (cl.Case l c.0) c.1)
-clauses_from seen done l (kinds.Keyword keywords.Default) ts = cond seen (Done None) (clause_plan true done (cl.Default l) ts)
+clauses_from seen done l (kinds.Keyword keywords.Case) ts =
+    given (comm_at ts) (λ c. clause_plan seen done (cl.Case l c.0) c.1)
+clauses_from seen done l (kinds.Keyword keywords.Default) ts =
+    cond seen (Done None) (clause_plan true done (cl.Default l) ts)
 clauses_from seen done l (kinds.Punctuation punctuations.CloseBrace) ts = just done ts
 clauses_from seen done l _ ts = Done None
 

@@ -7,7 +7,7 @@ ghost use Rattle.golf_syntax_statements.specs.CommReading.{assigned_seen, comm_b
 
 use golf_base::Memory;
 use golf_lex_tokens::{Punctuation, Token};
-use golf_syntax_expressions::{Place, after, copied, name_at, operand_at, simple_at};
+use golf_syntax_expressions::{Context, after, copied, name_at, operand_at, simple_at};
 use golf_syntax_trees::{
     Communication, Name, OwnedCommunication, OwnedExpr, OwnedSimpleKind, SimpleKind,
 };
@@ -125,7 +125,7 @@ pub fn comm_at(
     if let Some((name, behind)) = assigned_at(tokens) {
         return received(alloc, copied(alloc, name)?, behind);
     }
-    match simple_at(alloc, Place::Elsewhere, tokens)? {
+    match simple_at(alloc, Context::Elsewhere, tokens)? {
         None => Ok(None),
         Some((simple, rest)) => match comm_of(simple.into_inner().kind) {
             None => Ok(None),

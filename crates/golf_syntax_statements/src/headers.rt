@@ -10,7 +10,7 @@ ghost use Rattle.golf_syntax_statements.specs.HeaderReading.{test_by, first_by};
 use golf_base::Memory;
 use golf_lex_tokens::{Keyword, Punctuation, Token};
 use golf_syntax_expressions::{
-    Place, after, after_keyword, copied, expression_at, name_at, simple_at,
+    Context, after, after_keyword, copied, expression_at, name_at, simple_at,
 };
 use golf_syntax_trees::{
     Header, Name, OwnedExpr, OwnedHeader, OwnedSimple, OwnedSimpleKind, RangeNames, SimpleKind,
@@ -68,7 +68,7 @@ fn test_behind(
             Some(test) => Ok(Some(((None, test), tokens))),
         };
     };
-    match expression_at(alloc, Place::Header, behind)? {
+    match expression_at(alloc, Context::Header, behind)? {
         None => Ok(None),
         Some((test, rest)) => Ok(Some(((Some(first), test), rest))),
     }
@@ -80,7 +80,7 @@ pub fn test_at(alloc: Global, tokens: &[Token]) -> Result<Option<(Test, &[Token]
     ensures value { IfOk result (λ o. seen o ≡ header_spec.test_at tokens.now) }
     ensures shorter { IfOk result (λ o. IfSome o (λ x. length x.1.now < length tokens.now)) }
 {
-    match simple_at(alloc, Place::Header, tokens)? {
+    match simple_at(alloc, Context::Header, tokens)? {
         None => Ok(None),
         Some((first, behind)) => test_behind(alloc, first, behind),
     }
@@ -145,7 +145,7 @@ fn post_at(
     let Some(behind) = after(tokens, Punctuation::Semicolon) else {
         return Ok(None)
     };
-    match simple_at(alloc, Place::Header, behind)? {
+    match simple_at(alloc, Context::Header, behind)? {
         None => Ok(Some((OwnedHeader::new(Header::Steps(first, test, None)), behind))),
         Some((post, rest)) => {
             if defines(post.get().kind.get()) {
@@ -169,7 +169,7 @@ fn steps_at(
     ensures value { IfOk result (λ o. seen o ≡ header_spec.steps_at first tokens.now) }
     ensures shorter { IfOk result (λ o. IfSome o (λ x. length x.1.now < length tokens.now)) }
 {
-    match expression_at(alloc, Place::Header, tokens)? {
+    match expression_at(alloc, Context::Header, tokens)? {
         None => post_at(alloc, first, None, tokens),
         Some((test, behind)) => post_at(alloc, first, Some(test), behind),
     }
@@ -202,7 +202,7 @@ fn without_range_at(
     ensures value { IfOk result (λ o. seen o ≡ header_spec.without_range_at tokens.now) }
     ensures shorter { IfOk result (λ o. IfSome o (λ x. length x.1.now ≤ length tokens.now)) }
 {
-    if let Some((first, behind)) = simple_at(alloc, Place::Header, tokens)? {
+    if let Some((first, behind)) = simple_at(alloc, Context::Header, tokens)? {
         return first_behind(alloc, first, behind);
     }
     match after(tokens, Punctuation::Semicolon) {
@@ -220,7 +220,7 @@ pub fn header_at(alloc: Global, tokens: &[Token]) -> Result<Option<(OwnedHeader,
     let Some((names, behind)) = names_at(alloc, tokens)? else {
         return without_range_at(alloc, tokens)
     };
-    match expression_at(alloc, Place::Header, behind)? {
+    match expression_at(alloc, Context::Header, behind)? {
         None => Ok(None),
         Some((over, rest)) => Ok(Some((OwnedHeader::new(Header::Range(names, over)), rest))),
     }

@@ -1,6 +1,7 @@
 //! Laws: what is read is what is printed.
 
-ghost use Rattle.golf_syntax_statements.specs.Laws.{CommsFound, CommsRead, HeadersFound, HeadersRead, StatementsFound, StatementsRead, TestsFound, TestsRead, VarsFound, VarsRead};
+ghost use Rattle.golf_syntax_statements.specs.Laws.{CommsFound, CommsRead, HeadersFound, HeadersRead, StatementsFound};
+ghost use Rattle.golf_syntax_statements.specs.Laws.{StatementsRead, TestsFound, TestsRead, VarsFound, VarsRead};
 
 /// A variable that is found is well formed, and printed there on the line of its word.
 pub fn variables_found()

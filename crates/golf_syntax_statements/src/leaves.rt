@@ -12,7 +12,7 @@ use crate::pending::OwnedMove;
 use crate::variables::var_at;
 use golf_base::Memory;
 use golf_lex_tokens::{Keyword, Token};
-use golf_syntax_expressions::{Place, expression_at, operand_at, simple_at};
+use golf_syntax_expressions::{Context, expression_at, operand_at, simple_at};
 use golf_syntax_trees::{OwnedExpr, OwnedExprs, OwnedStmt, Stmt};
 use std::alloc::Global;
 
@@ -122,7 +122,7 @@ pub fn return_at(
     ensures value { IfOk result (λ o. moves_spec.moved o ≡ run stmt_spec.stmt_at (keyword_plan line Keyword.Return tokens.now tokens.now)) }
     ensures less { IfOk result (λ o. IfSome o (λ x. weight x.0 + 8 * length x.1.now ≤ 8 * length tokens.now)) }
 {
-    match expression_at(alloc, Place::Elsewhere, tokens)? {
+    match expression_at(alloc, Context::Elsewhere, tokens)? {
         None => Ok(Some((
             OwnedMove::found(alloc, OwnedStmt::new(alloc, Stmt::Return(line, None))?)?,
             tokens,
@@ -145,7 +145,7 @@ pub fn simple_statement_at(
     ensures value { IfOk result (λ o. moves_spec.moved o ≡ run stmt_spec.stmt_at (simple_plan tokens.now)) }
     ensures less { IfOk result (λ o. IfSome o (λ x. weight x.0 + 8 * length x.1.now < 8 * length tokens.now)) }
 {
-    match simple_at(alloc, Place::Elsewhere, tokens)? {
+    match simple_at(alloc, Context::Elsewhere, tokens)? {
         None => Ok(None),
         Some((simple, rest)) => Ok(Some((
             OwnedMove::found(alloc, OwnedStmt::new(alloc, Stmt::Simple(simple))?)?,

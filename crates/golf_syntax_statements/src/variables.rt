@@ -8,7 +8,7 @@ ghost use Rattle.golf_syntax_statements.specs.VarReading.{typed_by};
 
 use golf_base::Memory;
 use golf_lex_tokens::{Punctuation, Token};
-use golf_syntax_expressions::{Place, after, copied, expression_at, name_at, type_at};
+use golf_syntax_expressions::{Context, after, copied, expression_at, name_at, type_at};
 use golf_syntax_trees::{OwnedType, OwnedVar, OwnedVarContent, Var, VarContent};
 use std::alloc::Global;
 
@@ -24,7 +24,7 @@ fn typed(
     let Some(valued) = after(tokens, Punctuation::Assign) else {
         return Ok(Some((OwnedVarContent::new(VarContent::Zero(of_type)), tokens)))
     };
-    match expression_at(alloc, Place::Elsewhere, valued)? {
+    match expression_at(alloc, Context::Elsewhere, valued)? {
         None => Ok(None),
         Some((value, rest)) => Ok(Some((
             OwnedVarContent::new(VarContent::Typed(of_type, value)),
@@ -41,7 +41,7 @@ fn untyped(alloc: Global, tokens: &[Token]) -> Result<Option<(OwnedVarContent, &
     let Some(valued) = after(tokens, Punctuation::Assign) else {
         return Ok(None)
     };
-    match expression_at(alloc, Place::Elsewhere, valued)? {
+    match expression_at(alloc, Context::Elsewhere, valued)? {
         None => Ok(None),
         Some((value, rest)) => Ok(Some((OwnedVarContent::new(VarContent::Untyped(value)), rest))),
     }

@@ -10,7 +10,8 @@ use Rattle.golf_syntax_trees.specs.declared.expressions.Expr.TheOpen as F
 use Rattle.golf_syntax_trees.specs.declared.statements.Stmt.{Stmt, out-roll-Stmt}
 use Rattle.golf_syntax_trees.specs.declared.statements.Stmt.TheVariants as st
 use Rattle.golf_syntax_trees.specs.declared.statements.Clause.TheOpen as G
-use Rattle.golf_syntax_trees.specs.Parts.{call_in, call_of, operand_of, channel_in, channel_of, statements_in, statements_of}
+use Rattle.golf_syntax_trees.specs.Parts.{call_in, call_of, operand_of, channel_in, channel_of, statements_in}
+use Rattle.golf_syntax_trees.specs.Parts.{statements_of}
 
 pub call_parts : (f : Expr) (xs : List Expr) → call_of (ex.Call f xs) ≡ Some (f, xs)
 call_parts f xs = ap call_of (sym (ex.rolls-Call f xs)) ∙ ap call_in (out-roll-Expr (F.Call f xs))

@@ -33,7 +33,8 @@ text bytes = word (kinds.Text bytes) ∷ []
 -- the words of an import
 abbrev pub print_import : Import → List Word
 print_import (imports.One l path) = on_line l (keyword keywords.Import ∷ text path)
-print_import (imports.Group l paths) = on_line l (keyword keywords.Import ∷ parens (separated punctuations.Semicolon (map text paths)) [])
+print_import (imports.Group l paths) = on_line l
+    (keyword keywords.Import ∷ parens (separated punctuations.Semicolon (map text paths)) [])
 
 abbrev pub print_field : Field → List Word
 print_field f = name f.first ∷ (behind punctuations.Comma (map (λ n. name n ∷ []) f.more) ++ print_type f.of_type)
@@ -43,21 +44,26 @@ print_receiver r = parens (name r.name ∷ punctuation punctuations.Star ∷ nam
 
 abbrev pub print_func : Func → List Word
 print_func f =
-    on_line f.line (keyword keywords.Func ∷ (optional print_receiver f.receiver ++ name f.name ∷ parens (separated punctuations.Comma (map print_field f.parameters)) (optional print_type f.result ++ print_block (map print_stmt f.body))))
+    on_line f.line (keyword keywords.Func ∷ (optional print_receiver f.receiver ++ name f.name
+    ∷ parens (separated punctuations.Comma (map print_field f.parameters))
+    (optional print_type f.result ++ print_block (map print_stmt f.body))))
 
 -- the words of a declaration
 abbrev pub print_decl : Decl → List Word
-print_decl (d.Const l n value) = on_line l (keyword keywords.Const ∷ name n ∷ punctuation punctuations.Assign ∷ print_const value)
+print_decl (d.Const l n value) = on_line l
+    (keyword keywords.Const ∷ name n ∷ punctuation punctuations.Assign ∷ print_const value)
 print_decl (d.Var v) = print_var v
 print_decl (d.Struct l n fields) =
-    on_line l (keyword keywords.Type ∷ name n ∷ keyword keywords.Struct ∷ braces (separated punctuations.Semicolon (map print_field fields)) [])
+    on_line l (keyword keywords.Type ∷ name n ∷ keyword keywords.Struct
+    ∷ braces (separated punctuations.Semicolon (map print_field fields)) [])
 print_decl (d.Func f) = print_func f
 
 abbrev pub field_good : Field → Bool
 field_good f = (type_form f.of_type).good
 
 abbrev pub func_good : Func → Bool
-func_good f = list_all field_good f.parameters && (all_of (λ t. (type_form t).good) f.result && stmts_good (map stmt_form f.body))
+func_good f = list_all field_good f.parameters
+    && (all_of (λ t. (type_form t).good) f.result && stmts_good (map stmt_form f.body))
 
 abbrev pub decl_good : Decl → Bool
 decl_good (d.Const l n value) = true

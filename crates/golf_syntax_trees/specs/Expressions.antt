@@ -12,7 +12,10 @@ use Rattle.golf_syntax_trees.specs.declared.expressions.BinaryOperator.{BinaryOp
 use Rattle.golf_syntax_trees.specs.declared.expressions.BinaryOperator.TheVariants as binary
 use Rattle.golf_syntax_trees.specs.declared.expressions.Expr.{Expr}
 use Rattle.golf_syntax_trees.specs.declared.expressions.Element.{Element}
-use Rattle.golf_syntax_trees.specs.declared.expressions.Expr.TheOpen.{Expr-F, Element-F, Integer, Text, Name, Parens, StructLiteral, SyncLiteral, SliceLiteral, EmptyLiteral, Make, MakeSized, New, NewSync, Selector, Index, Call, Unary, Binary}
+use Rattle.golf_syntax_trees.specs.declared.expressions.Expr.TheOpen.{Expr-F, Element-F, Integer, Text, Name, Parens}
+use Rattle.golf_syntax_trees.specs.declared.expressions.Expr.TheOpen.{StructLiteral, SyncLiteral, SliceLiteral}
+use Rattle.golf_syntax_trees.specs.declared.expressions.Expr.TheOpen.{EmptyLiteral, Make, MakeSized, New, NewSync}
+use Rattle.golf_syntax_trees.specs.declared.expressions.Expr.TheOpen.{Selector, Index, Call, Unary, Binary}
 use Rattle.golf_syntax_trees.specs.declared.expressions.Expr.TheFolds.{fold-Expr, fold-Element}
 use Rattle.golf_syntax_trees.specs.Words.{Word, word, punctuation, keyword, name, separated}
 use Rattle.golf_syntax_trees.specs.Types.{sync, print_type, type_form}
@@ -72,9 +75,12 @@ print_step (Integer digits) = word (kinds.Integer digits) ∷ []
 print_step (Text bytes) = word (kinds.Text bytes) ∷ []
 print_step (Name n) = name n ∷ []
 print_step (Parens e) = parens e []
-print_step (StructLiteral n elements) = punctuation punctuations.Ampersand ∷ name n ∷ braces (separated punctuations.Comma elements) []
-print_step (SyncLiteral n) = punctuation punctuations.Ampersand ∷ name sync ∷ punctuation punctuations.Dot ∷ name n ∷ braces [] []
-print_step (SliceLiteral t items) = punctuation punctuations.OpenBracket ∷ punctuation punctuations.CloseBracket ∷ (print_type t ++ braces (separated punctuations.Comma items) [])
+print_step (StructLiteral n elements) = punctuation punctuations.Ampersand ∷ name n
+    ∷ braces (separated punctuations.Comma elements) []
+print_step (SyncLiteral n) = punctuation punctuations.Ampersand ∷ name sync ∷ punctuation punctuations.Dot ∷ name n
+    ∷ braces [] []
+print_step (SliceLiteral t items) = punctuation punctuations.OpenBracket ∷ punctuation punctuations.CloseBracket
+    ∷ (print_type t ++ braces (separated punctuations.Comma items) [])
 print_step EmptyLiteral = keyword keywords.Struct ∷ braces [] (braces [] [])
 print_step (Make t) = name make ∷ parens (print_type t) []
 print_step (MakeSized t e) = name make ∷ parens (print_type t ++ punctuation punctuations.Comma ∷ e) []
@@ -133,7 +139,12 @@ form_step (New n) = operand true
 form_step (NewSync n) = operand true
 form_step (Selector e n) = record { top = 7; ampersand = e.ampersand; good = e.good && nat_le 7 e.top }
 form_step (Index e i) = record { top = 7; ampersand = e.ampersand; good = (e.good && i.good) && nat_le 7 e.top }
-form_step (Call f arguments) = record { top = 7; ampersand = f.ampersand; good = (f.good && all_good arguments) && nat_le 7 f.top }
+form_step (Call f arguments) = record {
+  top = 7;
+  ampersand = f.ampersand;
+  good = (f.good && all_good arguments)
+      && nat_le 7 f.top;
+}
 form_step (Unary o e) = record { top = 6; ampersand = e.ampersand; good = e.good && nat_le 6 e.top }
 form_step (Binary o a b) = record {
   top = binds o;

@@ -8,3 +8,4 @@ pub mod Segments
 pub mod Reads
 pub mod Parts
 pub mod Spines
+pub mod Elses

@@ -26,9 +26,11 @@ is_affordable counts (k ∷ ks) = cond (nat_lt most (sum (counted k counts))) fa
 -- the line of the first token that costs more
 abbrev pub first_too_complex : List ℕ → List Token → Option ℕ
 first_too_complex counts [] = None
-first_too_complex counts (t ∷ ts) = cond (nat_lt most (sum (counted t.kind counts))) (Some t.line) (first_too_complex (counted t.kind counts) ts)
+first_too_complex counts (t ∷ ts) = cond (nat_lt most (sum (counted t.kind counts))) (Some t.line)
+    (first_too_complex (counted t.kind counts) ts)
 
--- the tree prints the tokens; each statement, declaration and clause has the line of the token at which its print begins
+-- the tree prints the tokens; each statement, declaration and clause has the line of the token at which its print
+-- begins
 abbrev pub Prints : File → List Token → Type 0
 Prints p tokens = Spells (print_file p) tokens []
 

@@ -67,7 +67,8 @@ IsWhole declared p = (IsImport p × (declared ≡ false)) ⊎ IsDecl p
 abbrev pub BreaksOn : Bool → List (List Token) → ℕ → Type 0
 BreaksOn declared [] line = ⊥
 BreaksOn declared (p ∷ ps) line =
-    ((IsWhole declared p → ⊥) × BeginsOn line p) ⊎ (((IsImport p × (declared ≡ false)) × BreaksOn declared ps line) ⊎ (IsDecl p × BreaksOn true ps line))
+    ((IsWhole declared p → ⊥) × BeginsOn line p)
+    ⊎ (((IsImport p × (declared ≡ false)) × BreaksOn declared ps line) ⊎ (IsDecl p × BreaksOn true ps line))
 
 -- the first segment of a file names its package
 abbrev pub FileBreaksOn : List (List Token) → ℕ → Type 0

@@ -37,8 +37,10 @@ print_simple_kind (s.Decrement e) = print_expr e ++ punctuation punctuations.Dec
 print_simple_kind (s.Assign p v) = print_expr p ++ punctuation punctuations.Assign ∷ print_expr v
 print_simple_kind (s.Update p o v) = print_expr p ++ punctuation (update_punctuation o) ∷ print_expr v
 print_simple_kind (s.Define n v) = name n ∷ punctuation punctuations.Define ∷ print_expr v
-print_simple_kind (s.DefineReceived n ok c) = name n ∷ punctuation punctuations.Comma ∷ name ok ∷ punctuation punctuations.Define ∷ punctuation punctuations.Arrow ∷ print_expr c
-print_simple_kind (s.AssignReceived n ok c) = name n ∷ punctuation punctuations.Comma ∷ name ok ∷ punctuation punctuations.Assign ∷ punctuation punctuations.Arrow ∷ print_expr c
+print_simple_kind (s.DefineReceived n ok c) = name n ∷ punctuation punctuations.Comma ∷ name ok
+    ∷ punctuation punctuations.Define ∷ punctuation punctuations.Arrow ∷ print_expr c
+print_simple_kind (s.AssignReceived n ok c) = name n ∷ punctuation punctuations.Comma ∷ name ok
+    ∷ punctuation punctuations.Assign ∷ punctuation punctuations.Arrow ∷ print_expr c
 
 -- the words of a simple statement
 abbrev pub print_simple : Simple → List Word
@@ -54,7 +56,12 @@ abbrev pub one : Bool → Expr → SimpleForm
 one d e = record { ampersand = (form e).ampersand; defines = d; good = (form e).good }
 
 abbrev pub two : Expr → Expr → SimpleForm
-two a b = record { ampersand = (form a).ampersand || (form b).ampersand; defines = false; good = (form a).good && (form b).good }
+two a b = record {
+  ampersand = (form a).ampersand || (form b).ampersand;
+  defines = false;
+  good = (form a).good
+      && (form b).good;
+}
 
 -- a receive takes a unary expression
 abbrev pub received : Bool → Expr → SimpleForm
@@ -93,13 +100,15 @@ optional print (Some x) = print x
 abbrev pub print_range_names : RangeNames → List Word
 print_range_names names.Neither = []
 print_range_names (names.One n) = name n ∷ punctuation punctuations.Define ∷ []
-print_range_names (names.Two n m) = name n ∷ punctuation punctuations.Comma ∷ name m ∷ punctuation punctuations.Define ∷ []
+print_range_names (names.Two n m) = name n ∷ punctuation punctuations.Comma ∷ name m ∷ punctuation punctuations.Define
+    ∷ []
 
 abbrev pub print_header : Header → List Word
 print_header headers.Forever = []
 print_header (headers.While e) = print_expr e
 print_header (headers.Steps first test post) =
-    optional print_simple first ++ punctuation punctuations.Semicolon ∷ (optional print_expr test ++ punctuation punctuations.Semicolon ∷ optional print_simple post)
+    optional print_simple first ++ punctuation punctuations.Semicolon
+    ∷ (optional print_expr test ++ punctuation punctuations.Semicolon ∷ optional print_simple post)
 print_header (headers.Range n e) = print_range_names n ++ keyword keywords.Range ∷ print_expr e
 
 -- In a header no operand outside brackets begins with `&`.
@@ -120,7 +129,8 @@ all_of good (Some x) = good x
 abbrev pub header_good : Header → Bool
 header_good headers.Forever = true
 header_good (headers.While e) = header_expr e
-header_good (headers.Steps first test post) = all_of header_simple first && (all_of header_expr test && all_of post_simple post)
+header_good (headers.Steps first test post) = all_of header_simple first
+    && (all_of header_expr test && all_of post_simple post)
 header_good (headers.Range n e) = header_expr e
 
 abbrev pub print_comm : Communication → List Word
@@ -128,7 +138,8 @@ print_comm (comm.Send c v) = print_expr c ++ punctuation punctuations.Arrow ∷ 
 print_comm (comm.Receive c) = punctuation punctuations.Arrow ∷ print_expr c
 print_comm (comm.Define n c) = name n ∷ punctuation punctuations.Define ∷ punctuation punctuations.Arrow ∷ print_expr c
 print_comm (comm.Assign n c) = name n ∷ punctuation punctuations.Assign ∷ punctuation punctuations.Arrow ∷ print_expr c
-print_comm (comm.DefineReceived n ok c) = name n ∷ punctuation punctuations.Comma ∷ name ok ∷ punctuation punctuations.Define ∷ punctuation punctuations.Arrow ∷ print_expr c
+print_comm (comm.DefineReceived n ok c) = name n ∷ punctuation punctuations.Comma ∷ name ok
+    ∷ punctuation punctuations.Define ∷ punctuation punctuations.Arrow ∷ print_expr c
 
 abbrev pub comm_good : Communication → Bool
 comm_good (comm.Send c v) = (form c).good && (form v).good

@@ -20,7 +20,8 @@ left_of e = left_step (out-Expr e)
 abbrev pub shown : {T : Type 0} → List (Bor T) → List T
 shown ws = map (λ w. w.now) ws
 
--- These trees begin with the first one, and each has the next one below it. The last one has the innermost one below it.
+-- These trees begin with the first one, and each has the next one below it. The last one has the innermost one below
+-- it.
 abbrev pub IsSpine : {T : Type 0} → (T → Option T) → T → List T → T → Type 0
 IsSpine below e [] inner = e ≡ inner
 IsSpine below e (x ∷ xs) inner = (e ≡ x) × ((next : _) × ((below x ≡ Some next) × IsSpine below next xs inner))

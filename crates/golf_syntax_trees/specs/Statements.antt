@@ -6,11 +6,14 @@ use Rattle.golf_lex_tokens.specs.declared.token.Keyword.TheVariants as keywords
 use Rattle.golf_syntax_trees.specs.declared.expressions.Expr.{Expr}
 use Rattle.golf_syntax_trees.specs.declared.statements.Stmt.{Stmt}
 use Rattle.golf_syntax_trees.specs.declared.statements.Clause.{Clause}
-use Rattle.golf_syntax_trees.specs.declared.statements.Clause.TheOpen.{Stmt-F, Clause-F, Var, Simple, Go, Defer, Return, Break, Continue, Block, If, IfElse, For, Select, Case, Default}
+use Rattle.golf_syntax_trees.specs.declared.statements.Clause.TheOpen.{Stmt-F, Clause-F, Var, Simple, Go, Defer, Return}
+use Rattle.golf_syntax_trees.specs.declared.statements.Clause.TheOpen.{Break, Continue, Block, If, IfElse, For, Select}
+use Rattle.golf_syntax_trees.specs.declared.statements.Clause.TheOpen.{Case, Default}
 use Rattle.golf_syntax_trees.specs.declared.statements.Clause.TheFolds.{fold-Stmt, fold-Clause}
 use Rattle.golf_syntax_trees.specs.Words.{Word, punctuation, keyword, on_line, separated, closed}
 use Rattle.golf_syntax_trees.specs.Expressions.{parens, braces, print_expr, form, all_good}
-use Rattle.golf_syntax_trees.specs.Simple.{print_simple, simple_form, print_var, content_good, optional, all_of, print_header, header_expr, header_simple, header_good, print_comm, comm_good}
+use Rattle.golf_syntax_trees.specs.Simple.{print_simple, simple_form, print_var, content_good, optional, all_of}
+use Rattle.golf_syntax_trees.specs.Simple.{print_header, header_expr, header_simple, header_good, print_comm, comm_good}
 
 -- a call, as `go` and `defer` take it
 abbrev pub print_call : Expr → List Expr → List Word
@@ -43,15 +46,25 @@ print_stmt_step (Break l) = on_line l (keyword keywords.Break ∷ [])
 print_stmt_step (Continue l) = on_line l (keyword keywords.Continue ∷ [])
 print_stmt_step (Block l body) = on_line l (print_block body)
 print_stmt_step (If l first test body) =
-    on_line l (keyword keywords.If ∷ (optional (λ x. print_simple x ++ punctuation punctuations.Semicolon ∷ []) first ++ (print_expr test ++ print_block body)))
+    on_line l (keyword keywords.If ∷ (optional (λ x. print_simple x ++ punctuation punctuations.Semicolon ∷ []) first
+    ++ (print_expr test ++ print_block body)))
 print_stmt_step (IfElse l first test body otherwise) =
-    on_line l (keyword keywords.If ∷ (optional (λ x. print_simple x ++ punctuation punctuations.Semicolon ∷ []) first ++ (print_expr test ++ (print_block body ++ keyword keywords.Else ∷ otherwise))))
+    on_line l (keyword keywords.If ∷ (optional (λ x. print_simple x ++ punctuation punctuations.Semicolon ∷ []) first
+    ++ (print_expr test ++ (print_block body ++ keyword keywords.Else ∷ otherwise))))
 print_stmt_step (For l header body) = on_line l (keyword keywords.For ∷ (print_header header ++ print_block body))
 print_stmt_step (Select l cs) = on_line l (keyword keywords.Select ∷ braces (clauses cs) [])
 
 abbrev pub print_clause_step : Clause-F ClauseWords (List Word) → ClauseWords
-print_clause_step (Case l c body) = record { opening = on_line l (keyword keywords.Case ∷ (print_comm c ++ punctuation punctuations.Colon ∷ [])); body = body }
-print_clause_step (Default l body) = record { opening = on_line l (keyword keywords.Default ∷ punctuation punctuations.Colon ∷ []); body = body }
+print_clause_step (Case l c body) = record {
+  opening = on_line l
+      (keyword keywords.Case ∷ (print_comm c ++ punctuation punctuations.Colon ∷ []));
+  body = body;
+}
+print_clause_step (Default l body) = record {
+  opening = on_line l
+      (keyword keywords.Default ∷ punctuation punctuations.Colon ∷ []);
+  body = body;
+}
 
 -- the words of a statement
 abbrev pub print_stmt : Stmt → List Word
@@ -94,7 +107,8 @@ stmt_form_step (Continue l) = no_branch true
 stmt_form_step (Block l body) = branch (stmts_good body)
 stmt_form_step (If l first test body) = branch (all_of header_simple first && (header_expr test && stmts_good body))
 stmt_form_step (IfElse l first test body otherwise) =
-    branch (all_of header_simple first && (header_expr test && (stmts_good body && (otherwise.good && otherwise.branch))))
+    branch (all_of header_simple first && (header_expr test
+    && (stmts_good body && (otherwise.good && otherwise.branch))))
 stmt_form_step (For l header body) = no_branch (header_good header && stmts_good body)
 stmt_form_step (Select l cs) = no_branch (list_all (λ c. c.good) cs && nat_le (defaults cs) 1)
 

@@ -3,7 +3,8 @@ use Rattle.std.specs.Prelude.{ℕ, Bool, true, false, not, ◌&&◌, List, [], �
 use Rattle.golf_lex_tokens.specs.declared.token.Punctuation.TheVariants as punctuations
 use Rattle.golf_lex_tokens.specs.declared.token.Keyword.TheVariants as keywords
 use Rattle.golf_syntax_trees.specs.declared.types.TypeExpr.{TypeExpr}
-use Rattle.golf_syntax_trees.specs.declared.types.TypeExpr.TheOpen.{TypeExpr-F, Named, Pointer, SyncPointer, Slice, Chan, SendChan, ReceiveChan, EmptyStruct}
+use Rattle.golf_syntax_trees.specs.declared.types.TypeExpr.TheOpen.{TypeExpr-F, Named, Pointer, SyncPointer, Slice}
+use Rattle.golf_syntax_trees.specs.declared.types.TypeExpr.TheOpen.{Chan, SendChan, ReceiveChan, EmptyStruct}
 use Rattle.golf_syntax_trees.specs.declared.types.TypeExpr.TheFolds.{fold-TypeExpr}
 use Rattle.golf_syntax_trees.specs.Words.{Word, punctuation, keyword, name}
 
@@ -19,7 +20,8 @@ print_type_step (Slice t) = punctuation punctuations.OpenBracket ∷ punctuation
 print_type_step (Chan t) = keyword keywords.Chan ∷ t
 print_type_step (SendChan t) = keyword keywords.Chan ∷ punctuation punctuations.Arrow ∷ t
 print_type_step (ReceiveChan t) = punctuation punctuations.Arrow ∷ keyword keywords.Chan ∷ t
-print_type_step EmptyStruct = keyword keywords.Struct ∷ punctuation punctuations.OpenBrace ∷ punctuation punctuations.CloseBrace ∷ []
+print_type_step EmptyStruct = keyword keywords.Struct ∷ punctuation punctuations.OpenBrace
+    ∷ punctuation punctuations.CloseBrace ∷ []
 
 -- the words of a type
 abbrev pub print_type : TypeExpr → List Word

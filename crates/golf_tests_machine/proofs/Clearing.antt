@@ -24,7 +24,10 @@ leaving_in s = option_map (λ r. map (λ f. (f.leaving, f.operands)) r.frames) (
 abbrev masked : ℕ → Code
 masked mask =
     code_with []
-    (record (function 0 2 1 (push 7 ∷ Instr.Store 0 ∷ push 8 ∷ Instr.Store 1 ∷ Instr.Return ∷ [])) { live = 3 ∷ 3 ∷ 3 ∷ 3 ∷ mask ∷ [] }
+    (record (function 0 2 1 (push 7 ∷ Instr.Store 0 ∷ push 8 ∷ Instr.Store 1 ∷ Instr.Return ∷ [])) {
+      live = 3 ∷ 3 ∷ 3
+          ∷ 3 ∷ mask ∷ [];
+    }
     ∷ [])
 
 pub first_slot_stays : slots_in (after (masked 1) (lowest 4)) ≡ Some ((number 7 ∷ number 0 ∷ []) ∷ [])
@@ -41,7 +44,8 @@ no_slot_stays = refl
 
 -- ---- in a frame that leaves
 
--- slot 0 has a value and one operand stands, and then the frame leaves by these instructions, with a deferred call to come
+-- slot 0 has a value and one operand stands, and then the frame leaves by these instructions, with a deferred call to
+-- come
 abbrev leaving_by : List Instr → Code
 leaving_by is =
     code_with []
@@ -56,7 +60,8 @@ abbrev unwound : State
 unwound = after (leaving_by (push 5 ∷ Instr.Nil ∷ Instr.Field 0 ∷ [])) (lowest 6)
 
 -- before the turn the slot has its value
-pub slot_before_return : slots_in (after (leaving_by (push 5 ∷ Instr.ReturnValue ∷ [])) (lowest 4)) ≡ Some ((number 7 ∷ []) ∷ [])
+pub slot_before_return : slots_in (after (leaving_by (push 5 ∷ Instr.ReturnValue ∷ [])) (lowest 4)) ≡ Some
+    ((number 7 ∷ []) ∷ [])
 slot_before_return = refl
 
 pub is_returning : leaving_in returned ≡ Some ((Leaving.Returning (Some (number 5)), []) ∷ [])
@@ -65,10 +70,12 @@ is_returning = refl
 pub returning_holds_nothing : slots_in returned ≡ Some ((number 0 ∷ []) ∷ [])
 returning_holds_nothing = refl
 
-pub slot_before_panic : slots_in (after (leaving_by (push 5 ∷ Instr.Nil ∷ Instr.Field 0 ∷ [])) (lowest 5)) ≡ Some ((number 7 ∷ []) ∷ [])
+pub slot_before_panic : slots_in (after (leaving_by (push 5 ∷ Instr.Nil ∷ Instr.Field 0 ∷ [])) (lowest 5)) ≡ Some
+    ((number 7 ∷ []) ∷ [])
 slot_before_panic = refl
 
-pub is_unwinding : leaving_in unwound ≡ Some ((Leaving.Unwinding (record { kind = PanicKind.NilPointer; line = 6 }), []) ∷ [])
+pub is_unwinding : leaving_in unwound ≡ Some
+    ((Leaving.Unwinding (record { kind = PanicKind.NilPointer; line = 6 }), []) ∷ [])
 is_unwinding = refl
 
 pub unwinding_holds_nothing : slots_in unwound ≡ Some ((number 0 ∷ []) ∷ [])

@@ -1,4 +1,4 @@
-ghost use Rattle.std.specs.Prelude.{◌≡◌, ◌<◌, IfOk, length};
+ghost use Rattle.std.specs.Prelude.{◌^◌, ◌≡◌, ◌<◌, IfOk, length};
 
 use crate::examples::{TWO_NODES, TWO_PARENTS, graph_of};
 use golf_base::{List, Memory, OpenGate};
@@ -18,7 +18,7 @@ fn certificate(alloc: Global, links: &[Link]) -> Result<Certificate, Memory>
 
 // The verdict on these links of the graph of two nodes is this one.
 fn is_judged(rt: &impl Abort, alloc: Global, links: &[Link], wanted: Verdict) -> Result<(), Fail>
-    requires { length links.now < 4294967296 }
+    requires { length links.now < 2 ^ 32 }
 {
     let graph = graph_of(alloc, TWO_NODES)?;
     let made = certificate(alloc, links)?;

@@ -4,7 +4,7 @@
 use crate::words::tokens_of;
 use golf_base::Memory;
 use golf_lex_tokens::Token;
-use golf_syntax_expressions::{Place, expression_at, operand_at, simple_at, type_at};
+use golf_syntax_expressions::{Context, expression_at, operand_at, simple_at, type_at};
 use golf_syntax_trees::{BinaryOperator, Expr, SimpleKind, TypeExpr, UnaryOperator};
 use std::alloc::Global;
 use std::test::Fail;
@@ -37,7 +37,7 @@ fn heads(e: &Expr) -> (&'static str, &'static str, &'static str) {
 // The heads of the expression that is read first at a place, and how many tokens are left.
 fn expression(
     alloc: Global,
-    place: Place,
+    place: Context,
     tokens: &[Token],
 ) -> Result<Option<((&'static str, &'static str, &'static str), usize)>, Memory> {
     match expression_at(alloc, place, tokens)? {
@@ -52,7 +52,7 @@ fn groups_so(
     tokens: &[Token],
     expected: (&str, &str, &str),
 ) -> Result<bool, Memory> {
-    match expression(alloc, Place::Elsewhere, tokens)? {
+    match expression(alloc, Context::Elsewhere, tokens)? {
         None => Ok(false),
         Some(((first, left, right), rest)) => {
             let (wanted, wanted_left, wanted_right) = expected;
@@ -88,14 +88,14 @@ fn operators_group_as_they_bind(rt: HostRuntime) -> Result<(), Fail> {
 }
 
 // Whether an expression is read at a place.
-fn is_read(alloc: Global, place: Place, tokens: &[Token]) -> Result<bool, Memory> {
+fn is_read(alloc: Global, place: Context, tokens: &[Token]) -> Result<bool, Memory> {
     Ok(expression(alloc, place, tokens)?.is_some())
 }
 
-const PLACES: [(&str, Place, bool); 3] = [
-    ("& T { }", Place::Header, false),
-    ("& T { }", Place::Elsewhere, true),
-    ("( & T { } )", Place::Header, true),
+const PLACES: [(&str, Context, bool); 3] = [
+    ("& T { }", Context::Header, false),
+    ("& T { }", Context::Elsewhere, true),
+    ("( & T { } )", Context::Header, true),
 ];
 
 #[test]
@@ -160,7 +160,7 @@ fn kind_name(kind: &SimpleKind) -> &'static str {
 
 // The kind and the line of the simple statement that is read first, and how many tokens are left.
 fn simple(alloc: Global, tokens: &[Token]) -> Result<Option<(&'static str, u32, usize)>, Memory> {
-    match simple_at(alloc, Place::Elsewhere, tokens)? {
+    match simple_at(alloc, Context::Elsewhere, tokens)? {
         None => Ok(None),
         Some((simple, rest)) => {
             let found = simple.get();

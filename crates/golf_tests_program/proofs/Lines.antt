@@ -24,7 +24,8 @@ use Rattle.golf_command_words.specs.declared.line.CommandLine.{CommandLine}
 use Rattle.golf_run_texts.specs.declared.status.Status.TheVariants as s
 use Rattle.golf_run_texts.specs.Fixed.{usage_text}
 use Rattle.golf_run_texts.specs.Texts.{history_line}
-use Rattle.golf_run_texts.specs.Output.{events_of, last_of, out_of, reports_of, end_of, real_stops_of, err_of, status_of}
+use Rattle.golf_run_texts.specs.Output.{events_of, last_of, out_of, reports_of, end_of, real_stops_of, err_of}
+use Rattle.golf_run_texts.specs.Output.{status_of}
 use Rattle.golf_command.specs.Generating.{generated_options, generated_summary}
 use Rattle.golf_command.specs.Ways.{Way, AreTurns, IsTurnAt, after_turns, history_options}
 use Rattle.golf_command.specs.Promises.{Accepts, RefusedBy, WordsMean}
@@ -35,7 +36,11 @@ abbrev small : List ℕ
 small = codes "package main\n\nfunc main() {\n}\n"
 
 abbrev tree : File
-tree = record { imports = []; declarations = d.Func (record { line = 3; receiver = None; name = codes "main"; parameters = []; result = None; body = [] }) ∷ [] }
+tree = record {
+  imports = [];
+  declarations = d.Func
+      (record { line = 3; receiver = None; name = codes "main"; parameters = []; result = None; body = [] }) ∷ [];
+}
 
 reads : Reads small tree
 unfolding most
@@ -43,7 +48,16 @@ reads = record {
   tokens = _;
   lexes = scans-lexes small _ refl;
   reads = record {
-    prints = ((refl, tt), ((refl, tt), ((refl, tt), ((refl, refl), ((refl, tt), ((refl, tt), ((refl, tt), ((refl, tt), ((refl, tt), ((refl, tt), refl))))))))));
+    prints = (
+      (refl, tt),
+      (
+        (refl, tt),
+        (
+          (refl, tt),
+          ((refl, refl), ((refl, tt), ((refl, tt), ((refl, tt), ((refl, tt), ((refl, tt), ((refl, tt), refl))))))),
+        ),
+      ),
+    );
     form = record { good = refl; cost = refl };
   };
 }
@@ -65,13 +79,20 @@ no_line = WordsMean.Misused refl
 
 -- the program returns after three turns
 pub run_line : WordsMean (codes "run" ∷ codes "--turns" ∷ codes "3" ∷ []) (Some small) s.Clean [] []
-unfolding uses_after events_of last_of out_of reports_of end_of real_stops_of err_of status_of CodeOf texts_of depth is_main live needed
-run_line = WordsMean.Goes (CommandLine.Run (record { schedule = Schedule.Rotate; turns = 3; every = None; markers = 1; recover = false; why = false })) small tree (Way.ByOptions _) refl refl accepts refl
+unfolding uses_after events_of last_of out_of reports_of end_of real_stops_of err_of status_of CodeOf texts_of depth
+    is_main live needed
+run_line = WordsMean.Goes (CommandLine.Run
+    (record { schedule = Schedule.Rotate; turns = 3; every = None; markers = 1; recover = false; why = false })) small
+    tree (Way.ByOptions _) refl refl accepts refl
 
 -- it has not ended after two
-pub spent_line : WordsMean (codes "run" ∷ codes "--turns" ∷ codes "2" ∷ []) (Some small) s.Spent [] (codes "stopped after 2 turns\n")
-unfolding uses_after events_of last_of out_of reports_of end_of real_stops_of err_of status_of CodeOf texts_of depth is_main live needed digits
-spent_line = WordsMean.Goes (CommandLine.Run (record { schedule = Schedule.Rotate; turns = 2; every = None; markers = 1; recover = false; why = false })) small tree (Way.ByOptions _) refl refl accepts refl
+pub spent_line : WordsMean (codes "run" ∷ codes "--turns" ∷ codes "2" ∷ []) (Some small) s.Spent []
+    (codes "stopped after 2 turns\n")
+unfolding uses_after events_of last_of out_of reports_of end_of real_stops_of err_of status_of CodeOf texts_of depth
+    is_main live needed digits
+spent_line = WordsMean.Goes (CommandLine.Run
+    (record { schedule = Schedule.Rotate; turns = 2; every = None; markers = 1; recover = false; why = false })) small
+    tree (Way.ByOptions _) refl refl accepts refl
 
 -- ---- a refused file
 
@@ -105,9 +126,12 @@ all_turns : AreTurns (CodeOf tree) 2 numbers
 unfolding after_turns events_of history_options CodeOf texts_of depth is_main live needed
 all_turns = record { each = turn_at; few = lit< tt; whole = λ e. cc; events = refl }
 
-pub threads_line : WordsMean (codes "run" ∷ codes "--threads" ∷ codes "2" ∷ []) (Some small) s.Clean [] (codes "history: 0,1,2\n")
-unfolding uses_after events_of last_of out_of reports_of end_of real_stops_of err_of status_of history_options history_line CodeOf texts_of depth is_main live needed digits
-threads_line = WordsMean.Goes (CommandLine.Threads 2) small tree (Way.ByThreads numbers) refl refl accepts (numbers, refl, all_turns)
+pub threads_line : WordsMean (codes "run" ∷ codes "--threads" ∷ codes "2" ∷ []) (Some small) s.Clean []
+    (codes "history: 0,1,2\n")
+unfolding uses_after events_of last_of out_of reports_of end_of real_stops_of err_of status_of history_options
+    history_line CodeOf texts_of depth is_main live needed digits
+threads_line = WordsMean.Goes (CommandLine.Threads 2) small tree (Way.ByThreads numbers) refl refl accepts
+    (numbers, refl, all_turns)
 
 -- ---- a meaning line
 
@@ -118,14 +142,19 @@ meaning_line = WordsMean.Goes CommandLine.Meaning small tree (Way.Compared 1) re
 -- ---- a generate line
 
 generated_accepted : Accepts (generated_file 1) (generated_tree 1)
-generated_accepted = record { within = short 1 (lit< tt); typed = record { tree = tree-reads 1 (lit< tt) (lit< tt); keeps = tree-typed 1 (lit< tt) } }
+generated_accepted = record {
+  within = short 1 (lit< tt);
+  typed = record { tree = tree-reads 1 (lit< tt) (lit< tt); keeps = tree-typed 1 (lit< tt) };
+}
 
--- the file of one part runs by the options of a generated file, whatever the source has; what its run comes to is not worked out
+-- the file of one part runs by the options of a generated file, whatever the source has; what its run comes to is not
+-- worked out
 pub generate_line : WordsMean (codes "generate" ∷ codes "1" ∷ []) None
     (status_of (CodeOf (generated_tree 1)) generated_options)
     (generated_summary 1 (CodeOf (generated_tree 1)))
     (end_of (CodeOf (generated_tree 1)) generated_options)
-generate_line = WordsMean.Goes (CommandLine.Generate 1) (generated_file 1) (generated_tree 1) (Way.Generated 1) refl refl generated_accepted refl
+generate_line = WordsMean.Goes (CommandLine.Generate 1) (generated_file 1) (generated_tree 1)
+    (Way.Generated 1) refl refl generated_accepted refl
 
 -- no part is too few
 pub no_parts : WordsMean (codes "generate" ∷ codes "0" ∷ []) None s.Usage [] usage_text

@@ -9,7 +9,8 @@ use Rattle.golf_data.specs.Places.{IsShort, HasPlaces}
 use Rattle.golf_tests_support.specs.Ready.{IsReady}
 
 -- what is so of each item, and of none, is so of what stands at a place
-everywhere : {X : Type 0} (P : X → Type 0) (Q : Option X → Type 0) → Q None → ((x : X) → P x → Q (Some x)) → (xs : List X) → All P xs → (k : ℕ) → Q (slice_get xs k)
+everywhere : {X : Type 0} (P : X → Type 0) (Q : Option X → Type 0) → Q None → ((x : X) → P x → Q (Some x))
+    → (xs : List X) → All P xs → (k : ℕ) → Q (slice_get xs k)
 everywhere P Q none some [] h k = none
 everywhere P Q none some (x ∷ xs) h zero = some x (All-head P x xs h)
 everywhere P Q none some (x ∷ xs) h (suc k) = everywhere P Q none some xs (All-tail P x xs h) k

@@ -1,5 +1,5 @@
 -- Graphs under construction (this repository).
-use Rattle.std.specs.Prelude.{◌≡◌, ◌<◌, ℕ, List, [], ◌∷◌, ◌++◌, false, length}
+use Rattle.std.specs.Prelude.{◌^◌, ◌≡◌, ◌<◌, ℕ, List, [], ◌∷◌, ◌++◌, false, length}
 use Rattle.golf_theory.specs.Membership.{Every}
 use Rattle.golf_model.specs.declared.graph.GraphParts.{GraphParts}
 use Rattle.golf_model.specs.Graph.{NumbersRise}
@@ -9,7 +9,7 @@ AreBelow n ps = Every (λ p. p < n) ps
 
 -- its nodes so far are numbered in order, and each place that it names is below the count
 pub record IsInMaking (count : ℕ) (g : GraphParts) : Type 0 where
-  pub small : count < 4294967296
+  pub small : count < 2 ^ 32
   pub numbered : length g.numbers ≡ length g.children
   pub flagged : length g.finalised ≡ length g.children
   pub rising : NumbersRise 0 g.numbers
@@ -25,12 +25,33 @@ no_parts = record { numbers = []; children = []; finalised = []; roots = []; sle
 
 -- one more node, with these children
 abbrev pub with_node : GraphParts → List ℕ → GraphParts
-with_node g row = record { numbers = g.numbers ++ record { 0 = length g.children } ∷ []; children = g.children ++ row ∷ []; finalised = g.finalised ++ false ∷ []; roots = g.roots; sleepers = g.sleepers }
+with_node g row = record {
+  numbers = g.numbers ++ record { 0 = length g.children } ∷ [];
+  children = g.children ++ row
+      ∷ [];
+  finalised = g.finalised ++ false ∷ [];
+  roots = g.roots;
+  sleepers = g.sleepers;
+}
 
 -- one more root
 abbrev pub with_root : GraphParts → ℕ → GraphParts
-with_root g node = record { numbers = g.numbers; children = g.children; finalised = g.finalised; roots = g.roots ++ node ∷ []; sleepers = g.sleepers }
+with_root g node = record {
+  numbers = g.numbers;
+  children = g.children;
+  finalised = g.finalised;
+  roots = g.roots ++ node
+      ∷ [];
+  sleepers = g.sleepers;
+}
 
 -- one more sleeper, whose goroutine is told as 0
 abbrev pub with_sleeper : GraphParts → List ℕ → List ℕ → GraphParts
-with_sleeper g waits references = record { numbers = g.numbers; children = g.children; finalised = g.finalised; roots = g.roots; sleepers = g.sleepers ++ record { goroutine = record { 0 = 0 }; waits = waits; references = references } ∷ [] }
+with_sleeper g waits references = record {
+  numbers = g.numbers;
+  children = g.children;
+  finalised = g.finalised;
+  roots = g.roots;
+  sleepers = g.sleepers
+      ++ record { goroutine = record { 0 = 0 }; waits = waits; references = references } ∷ [];
+}

@@ -1,7 +1,9 @@
 -- Members of lists, and what each member has.
 -- For: `In` and `Every`, specs/Membership.antt
 -- By: induction over the list
-use Rattle.std.proofs.Common.{◌≡◌, ℕ, zero, suc, ◌<◌, Bool, true, false, cond, List, [], ◌∷◌, ◌++◌, map, length, get_or, Some, ◌⊎◌, inl, inr, refl, sym, ap, ◌∙◌, subst, arith, slice_set, slice_get, filter, Contains}
+use Rattle.std.proofs.Common.{◌≡◌, ℕ, zero, suc, ◌<◌, Bool, true, false, cond, List, [], ◌∷◌, ◌++◌, map, length, get_or}
+use Rattle.std.proofs.Common.{Some, ◌⊎◌, inl, inr, refl, sym, ap, ◌∙◌, subst, arith, slice_set, slice_get, filter}
+use Rattle.std.proofs.Common.{Contains}
 use Rattle.golf_theory.specs.Membership.{In, Every}
 
 pub In-left : {X : Type 0} (x : X) (xs ys : List X) → In x xs → In x (xs ++ ys)
@@ -47,13 +49,6 @@ In-filter_old p x (y ∷ ys) t h =
       | true ↦ λ u. elim h [ inl e ↦ inl e | inr a ↦ inr (In-filter_old p x ys t a) ]
       | false ↦ λ u. elim h [ inl e ↦ cc (sym (ap p e)) | inr a ↦ In-filter_old p x ys t a ]
     ] refl
-
-pub In-slice_set : {X : Type 0} (xs : List X) (i : ℕ) (v x : X) → In x (slice_set xs i v) → (x ≡ v) ⊎ In x xs
-In-slice_set [] i v x h = absurd h
-In-slice_set (y ∷ ys) zero v x (inl e) = inl e
-In-slice_set (y ∷ ys) zero v x (inr h) = inr (inr h)
-In-slice_set (y ∷ ys) (suc i) v x (inl e) = inr (inl e)
-In-slice_set (y ∷ ys) (suc i) v x (inr h) = elim (In-slice_set ys i v x h) [ inl a ↦ inl a | inr a ↦ inr (inr a) ]
 
 pub In-slice_get : {X : Type 0} (xs : List X) (i : ℕ) (x : X) → slice_get xs i ≡ Some x → In x xs
 In-slice_get [] i x h = cc
@@ -122,29 +117,25 @@ pub Every-map : {X Y : Type 0} (P : Y → Type 0) (f : X → Y) (xs : List X) �
 Every-map P f [] a = tt
 Every-map P f (x ∷ xs) a = (a.0, Every-map P f xs a.1)
 
-pub Every-map_back : {X Y : Type 0} (P : Y → Type 0) (f : X → Y) (xs : List X) → Every P (map f xs) → Every (λ x. P (f x)) xs
-Every-map_back P f [] a = tt
-Every-map_back P f (x ∷ xs) a = (a.0, Every-map_back P f xs a.1)
-
 -- a filter that all members pass leaves the list, and one that none passes leaves nothing
 pub filter-all : {X : Type 0} (p : X → Bool) (xs : List X) → Every (λ x. p x ≡ true) xs → filter p xs ≡ xs
 filter-all p [] a = refl
-filter-all p (x ∷ xs) a = ap (λ b. cond b (x ∷ filter p xs) (filter p xs)) a.0 ∙ ap (λ (r : List _). x ∷ r) (filter-all p xs a.1)
-
-pub filter-none : {X : Type 0} (p : X → Bool) (xs : List X) → Every (λ x. p x ≡ false) xs → filter p xs ≡ []
-filter-none p [] a = refl
-filter-none p (x ∷ xs) a = ap (λ b. cond b (x ∷ filter p xs) (filter p xs)) a.0 ∙ filter-none p xs a.1
+filter-all p (x ∷ xs) a = ap (λ b. cond b (x ∷ filter p xs) (filter p xs)) a.0
+    ∙ ap (λ (r : List _). x ∷ r) (filter-all p xs a.1)
 
 pub filter-same : {X : Type 0} (p q : X → Bool) (xs : List X) → Every (λ x. p x ≡ q x) xs → filter p xs ≡ filter q xs
 filter-same p q [] a = refl
-filter-same p q (x ∷ xs) a = ap (λ b. cond b (x ∷ filter p xs) (filter p xs)) a.0 ∙ ap (λ r. cond (q x) (x ∷ r) r) (filter-same p q xs a.1)
+filter-same p q (x ∷ xs) a = ap (λ b. cond b (x ∷ filter p xs) (filter p xs)) a.0
+    ∙ ap (λ r. cond (q x) (x ∷ r) r) (filter-same p q xs a.1)
 
 -- a filter after one that lets all of its own through
-pub filter-within : {X : Type 0} (p q : X → Bool) (xs : List X) → ((x : X) → p x ≡ true → q x ≡ true) → filter p (filter q xs) ≡ filter p xs
+pub filter-within : {X : Type 0} (p q : X → Bool) (xs : List X) → ((x : X) → p x ≡ true → q x ≡ true)
+    → filter p (filter q xs) ≡ filter p xs
 filter-within p q [] h = refl
 filter-within p q (x ∷ xs) h =
     let rest = filter-within p q xs h in
-    elim (q x) as (λ b. q x ≡ b → filter p (cond b (x ∷ filter q xs) (filter q xs)) ≡ cond (p x) (x ∷ filter p xs) (filter p xs)) [
+    elim (q x) as (λ b. q x ≡ b → filter p (cond b (x ∷ filter q xs) (filter q xs)) ≡ cond (p x) (x ∷ filter p xs)
+    (filter p xs)) [
       | true ↦ λ t. ap (λ (r : List _). cond (p x) (x ∷ r) r) rest
       | false ↦ λ t. rest ∙ elim (p x) as (λ b. p x ≡ b → filter p xs ≡ cond b (x ∷ filter p xs) (filter p xs)) [
         | true ↦ λ u. cc (h x u)
@@ -156,13 +147,17 @@ pub filter-swap : {X : Type 0} (p q : X → Bool) (xs : List X) → filter p (fi
 filter-swap p q [] = refl
 filter-swap p q (x ∷ xs) =
     let rest = filter-swap p q xs in
-    elim (q x) as (λ b. q x ≡ b → filter p (cond b (x ∷ filter q xs) (filter q xs)) ≡ filter q (cond (p x) (x ∷ filter p xs) (filter p xs))) [
-      | true ↦ λ t. elim (p x) as (λ c. cond c (x ∷ filter p (filter q xs)) (filter p (filter q xs)) ≡ filter q (cond c (x ∷ filter p xs) (filter p xs))) [
-        | true ↦ ap (λ (r : List _). x ∷ r) rest ∙ ap (λ b. cond b (x ∷ filter q (filter p xs)) (filter q (filter p xs))) (sym t)
-        | false ↦ rest
-      ]
-      | false ↦ λ t. rest ∙ elim (p x) as (λ c. filter q (filter p xs) ≡ filter q (cond c (x ∷ filter p xs) (filter p xs))) [
-        | true ↦ ap (λ b. cond b (x ∷ filter q (filter p xs)) (filter q (filter p xs))) (sym t)
-        | false ↦ refl
-      ]
+    elim (q x) as (λ b. q x ≡ b → filter p (cond b (x ∷ filter q xs) (filter q xs)) ≡ filter q
+    (cond (p x) (x ∷ filter p xs) (filter p xs))) [
+      | true ↦ λ t. elim (p x) as (λ c. cond c (x ∷ filter p (filter q xs)) (filter p (filter q xs)) ≡ filter q
+          (cond c (x ∷ filter p xs) (filter p xs))) [
+            | true ↦ ap (λ (r : List _). x ∷ r) rest
+                ∙ ap (λ b. cond b (x ∷ filter q (filter p xs)) (filter q (filter p xs))) (sym t)
+            | false ↦ rest
+          ]
+      | false ↦ λ t. rest ∙ elim (p x) as (λ c. filter q (filter p xs) ≡ filter q
+          (cond c (x ∷ filter p xs) (filter p xs))) [
+            | true ↦ ap (λ b. cond b (x ∷ filter q (filter p xs)) (filter q (filter p xs))) (sym t)
+            | false ↦ refl
+          ]
     ] refl

@@ -3,11 +3,13 @@
 -- By: putting the lemmas together; no induction
 use Rattle.std.proofs.Common.{◌≡◌, true, arith}
 use Rattle.golf_theory.specs.Membership.{In}
-use Rattle.golf_theory.specs.Laws.{FindPut, FindAdd, FindOnly, OnlyGoes, KeysPass, EntriesFound, KeysRise, ReachedLeast, LeastDerived, Counted, MembersCount}
+use Rattle.golf_theory.specs.Laws.{FindPut, FindAdd, FindOnly, OnlyGoes, KeysPass, EntriesFound, KeysRise, ReachedLeast}
+use Rattle.golf_theory.specs.Laws.{LeastDerived, Counted, MembersCount}
 use Rattle.golf_theory.proofs.Lists.{Every-at}
 use Rattle.golf_theory.proofs.Tests.{is_in-from, In-from}
 use Rattle.golf_theory.proofs.MapEntries.{Entry-find, In-keys_where, Entry-keys_where}
-use Rattle.golf_theory.proofs.MapFinds.{find-put, find-put_other, put-none, find-add, find-add_other, find-only, find-only_out, find-Entry, find_above}
+use Rattle.golf_theory.proofs.MapFinds.{find-put, find-put_other, put-none, find-add, find-add_other, find-only}
+use Rattle.golf_theory.proofs.MapFinds.{find-only_out, find-Entry, find_above}
 use Rattle.golf_theory.proofs.MapCuts.{only-put, only-add, only-map_values}
 use Rattle.golf_theory.proofs.MapOrder.{Rises-put, Rises-only, Rises-add}
 use Rattle.golf_theory.proofs.Derivations.{Reached-root, Reached-step, Reached-least}
@@ -39,11 +41,16 @@ module _ (X : Type 0) where
   pub reached_least : ReachedLeast X
   reached_least leads roots =
       let Root : X → Type 0 = λ y. In y roots in
-      let Leads : X → X → Type 0 = λ q y. leads q y ≡ true in
-      (λ x h. Reached-root Root Leads x h, λ q x h l. Reached-step Root Leads q x h l, λ test a closed x h. Reached-least Root Leads (λ y. test y ≡ true) (λ y i. Every-at (λ z. test z ≡ true) roots y a i) (λ q y t l. closed q y t l) x h)
+      let Leads : X → X → Type 0 = λ q y. leads q y ≡ true in (
+        λ x h. Reached-root Root Leads x h,
+        λ q x h l. Reached-step Root Leads q x h l,
+        λ test a closed x h. Reached-least Root Leads (λ y. test y ≡ true)
+            (λ y i. Every-at (λ z. test z ≡ true) roots y a i) (λ q y t l. closed q y t l) x h,
+      )
 
   pub least_derived : LeastDerived X
-  least_derived rule candidates more covers x = (λ i. Derived-least rule candidates x i, λ d. least-Derived rule candidates more covers x d)
+  least_derived rule candidates more covers x =
+      (λ i. Derived-least rule candidates x i, λ d. least-Derived rule candidates more covers x d)
 
 pub counted : Counted
 counted xs words h = length-counted xs words h

@@ -1,8 +1,8 @@
 -- The order of keys is kept by each operation.
 -- For: `Rises` and `AllBelow`, specs/Maps.antt; `order_laws`, src/lib.rt
 -- By: induction over the list of entries
-use Rattle.std.proofs.Common.{ℕ, suc, ◌<◌, ◌≤◌, Bool, true, false, cond, List, [], ◌∷◌, inl, inr, refl, arith}
-use Rattle.golf_theory.specs.Maps.{Entry, put, add, only, map_values, Rises, AllBelow}
+use Rattle.std.proofs.Common.{ℕ, suc, ◌<◌, ◌≤◌, Bool, true, false, cond, List, [], ◌∷◌, arith}
+use Rattle.golf_theory.specs.Maps.{put, add, only, map_values, Rises, AllBelow}
 
 module _ {X : Type 0} where
   pub Rises-less : (j k : ℕ) (es : List (ℕ × X)) → j ≤ k → Rises k es → Rises j es
@@ -42,10 +42,6 @@ module _ {X : Type 0} where
     | true ↦ (a.0, AllBelow-only n p es a.1)
     | false ↦ AllBelow-only n p es a.1
   ]
-
-  pub AllBelow-from : (n : ℕ) (es : List (ℕ × X)) → ((k : ℕ) (x : X) → Entry es k x → k < n) → AllBelow n es
-  AllBelow-from n [] h = tt
-  AllBelow-from n (e ∷ es) h = (h e.0 e.1 (inl (refl, refl)), AllBelow-from n es (λ k x i. h k x (inr i)))
 
 module _ {X Y : Type 0} (f : ℕ → X → Y) where
   pub Rises-map_values : (j : ℕ) (es : List (ℕ × X)) → Rises j es → Rises j (map_values f es)

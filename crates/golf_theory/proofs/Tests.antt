@@ -1,9 +1,11 @@
 -- Tests of lists, and the facts that they decide.
 -- For: `is_in`, `any_of` and `all_of`, specs/Membership.antt
 -- By: induction over the list that is tested
-use Rattle.std.proofs.Common.{◌≡◌, ℕ, Bool, true, false, List, [], ◌∷◌, ◌++◌, ◌==◌, ◌⊎◌, ◌||◌, ◌&&◌, inl, inr, refl, sym, ap, ◌∙◌}
-use Rattle.std.proofs.lemmas.Bool.{eqb-true, eq-eqb, or_cases, or_left, or_right, and_parts, and_from, false_from_ne_true, both_ways, cases_Bool}
-use Rattle.golf_theory.specs.Membership.{In, Every, is_in, any_of, all_of}
+use Rattle.std.proofs.Common.{◌≡◌, ℕ, Bool, true, false, List, [], ◌∷◌, ◌++◌, ◌==◌, ◌⊎◌, ◌||◌, inl, inr, refl, sym, ap}
+use Rattle.std.proofs.Common.{◌∙◌}
+use Rattle.std.proofs.lemmas.Bool.{eqb-true, eq-eqb, or_cases, or_left, or_right, false_from_ne_true, both_ways}
+use Rattle.std.proofs.lemmas.Bool.{cases_Bool}
+use Rattle.golf_theory.specs.Membership.{In, is_in, any_of}
 use Rattle.golf_theory.proofs.Lists.{In-cases, In-left, In-right}
 
 pub is_in-from : (x : ℕ) (xs : List ℕ) → In x xs → is_in x xs ≡ true
@@ -13,7 +15,11 @@ is_in-from x (y ∷ ys) (inr h) = or_right (x == y) (is_in x ys) (is_in-from x y
 
 pub In-from : (x : ℕ) (xs : List ℕ) → is_in x xs ≡ true → In x xs
 In-from x [] h = cc
-In-from x (y ∷ ys) h = elim (or_cases (x == y) (is_in x ys) h) [ inl e ↦ inl (eqb-true x y e) | inr a ↦ inr (In-from x ys a) ]
+In-from x (y ∷ ys) h = elim (or_cases (x == y) (is_in x ys) h) [
+  | inl e ↦ inl (eqb-true x y e)
+  | inr a ↦ inr
+      (In-from x ys a)
+]
 
 pub is_in-out : (x : ℕ) (xs : List ℕ) → (In x xs → ⊥) → is_in x xs ≡ false
 is_in-out x xs n = false_from_ne_true (is_in x xs) (λ t. n (In-from x xs t))
@@ -33,12 +39,21 @@ same_test false true f g = g refl
 same_test false false f g = refl
 
 pub is_in-same : (x : ℕ) (xs ys : List ℕ) → (In x xs → In x ys) → (In x ys → In x xs) → is_in x xs ≡ is_in x ys
-is_in-same x xs ys f g = same_test (is_in x xs) (is_in x ys) (λ t. is_in-from x ys (f (In-from x xs t))) (λ t. is_in-from x xs (g (In-from x ys t)))
+is_in-same x xs ys f g = same_test (is_in x xs) (is_in x ys) (λ t. is_in-from x ys (f (In-from x xs t)))
+    (λ t. is_in-from x xs (g (In-from x ys t)))
 
 pub is_in-append : (x : ℕ) (xs ys : List ℕ) → is_in x (xs ++ ys) ≡ (is_in x xs || is_in x ys)
 is_in-append x xs ys = same_test (is_in x (xs ++ ys)) (is_in x xs || is_in x ys)
-    (λ t. elim (In-cases x xs ys (In-from x (xs ++ ys) t)) [ inl a ↦ or_left (is_in x xs) _ (is_in-from x xs a) | inr a ↦ or_right (is_in x xs) _ (is_in-from x ys a) ])
-    (λ t. is_in-from x (xs ++ ys) (elim (or_cases (is_in x xs) (is_in x ys) t) [ inl a ↦ In-left x xs ys (In-from x xs a) | inr a ↦ In-right x xs ys (In-from x ys a) ]))
+    (λ t. elim (In-cases x xs ys (In-from x (xs ++ ys) t)) [
+      | inl a ↦ or_left (is_in x xs) _
+          (is_in-from x xs a)
+      | inr a ↦ or_right (is_in x xs) _ (is_in-from x ys a)
+    ])
+    (λ t. is_in-from x (xs ++ ys) (elim (or_cases (is_in x xs) (is_in x ys) t) [
+      | inl a ↦ In-left x xs ys
+          (In-from x xs a)
+      | inr a ↦ In-right x xs ys (In-from x ys a)
+    ]))
 
 module _ {X : Type 0} (test : X → Bool) where
   pub any_of-from : (xs : List X) (x : X) → In x xs → test x ≡ true → any_of test xs ≡ true
@@ -52,23 +67,3 @@ module _ {X : Type 0} (test : X → Bool) where
     | inl t ↦ (y, inl refl, t)
     | inr a ↦ let r = from_any_of ys a in (r.0, inr r.1, r.2)
   ]
-
-  pub all_of-from : (xs : List X) → Every (λ x. test x ≡ true) xs → all_of test xs ≡ true
-  all_of-from [] a = refl
-  all_of-from (x ∷ xs) a = and_from (test x) (all_of test xs) a.0 (all_of-from xs a.1)
-
-  pub from_all_of : (xs : List X) → all_of test xs ≡ true → Every (λ x. test x ≡ true) xs
-  from_all_of [] h = tt
-  from_all_of (x ∷ xs) h = let r = and_parts (test x) (all_of test xs) h in (r.0, from_all_of xs r.1)
-
-  pub none_of-from : (xs : List X) → Every (λ x. test x ≡ false) xs → any_of test xs ≡ false
-  none_of-from [] a = refl
-  none_of-from (x ∷ xs) a = ap (λ b. b || any_of test xs) a.0 ∙ none_of-from xs a.1
-
-pub any_of-same : {X : Type 0} (p q : X → Bool) (xs : List X) → Every (λ x. p x ≡ q x) xs → any_of p xs ≡ any_of q xs
-any_of-same p q [] a = refl
-any_of-same p q (x ∷ xs) a = ap (λ b. b || any_of p xs) a.0 ∙ ap (λ r. q x || r) (any_of-same p q xs a.1)
-
-pub all_of-same : {X : Type 0} (p q : X → Bool) (xs : List X) → Every (λ x. p x ≡ q x) xs → all_of p xs ≡ all_of q xs
-all_of-same p q [] a = refl
-all_of-same p q (x ∷ xs) a = ap (λ b. b && all_of p xs) a.0 ∙ ap (λ r. q x && r) (all_of-same p q xs a.1)

@@ -1,7 +1,8 @@
 -- How often a number stands in a list, and that no list is longer than the sum of such counts.
 -- For: `times`, specs/Counting.antt; `counting_laws`, src/lib.rt
 -- By: induction over the list, and over the list of counts
-use Rattle.std.proofs.Common.{◌≡◌, ℕ, zero, suc, ◌+◌, ◌-◌, ◌<◌, ◌≤◌, List, [], ◌∷◌, ◌++◌, length, get_or, set, Bool, cond, eqb, eq-eqb, ne_eqb, refl, sym, ap, subst, arith, inl, inr}
+use Rattle.std.proofs.Common.{◌≡◌, ℕ, zero, suc, ◌+◌, ◌-◌, ◌<◌, ◌≤◌, List, [], ◌∷◌, ◌++◌, length, get_or, set, Bool}
+use Rattle.std.proofs.Common.{cond, eqb, eq-eqb, ne_eqb, refl, sym, ap, subst, arith, inl, inr}
 use Rattle.std.specs.Prelude.{sum}
 use Rattle.std.proofs.lemmas.Bool.{cases_lt, cases_eq}
 use Rattle.std.proofs.lemmas.List.{get_or-set_same, get_or-set_other, get_or_past}
@@ -45,7 +46,11 @@ In-times x (y ∷ ys) h = elim (cases_eq y x) [
 ]
 
 pub times-none : (x : ℕ) (xs : List ℕ) → (In x xs → ⊥) → times x xs ≡ 0
-times-none x xs n = elim (cases_lt 0 (times x xs)) [ inl l ↦ absurd (n (In-times x xs (omega arith))) | inr l ↦ omega arith ]
+times-none x xs n = elim (cases_lt 0 (times x xs)) [
+  | inl l ↦ absurd (n (In-times x xs (omega arith)))
+  | inr l ↦
+      omega arith
+]
 
 pub none-times : (x : ℕ) (xs : List ℕ) → times x xs ≡ 0 → In x xs → ⊥
 none-times x xs z h = omega (arith, times-In x xs h)
@@ -64,11 +69,21 @@ length-counted (x ∷ xs) words h =
     let here : times x (x ∷ xs) ≡ 1 + times x xs = times-cons_same x xs in
     let n : ℕ = get_or words x 0 in
     let some_one : 1 ≤ n = omega (arith, h x, here) in
-    let low : x < length words = elim (cases_lt x (length words)) [ inl l ↦ l | inr past ↦ absurd (omega (arith, get_or_past words x 0 past)) ] in
+    let low : x < length words = elim (cases_lt x (length words)) [
+      | inl l ↦ l
+      | inr past ↦ absurd
+          (omega (arith, get_or_past words x 0 past))
+    ] in
     let less = sum_by-set (λ (y : ℕ). y) words x (n - 1) 0 low in
     let rest = length-counted xs (set words x (n - 1)) (λ y. elim (cases_eq y x) [
-      | inl same ↦ subst (λ (z : ℕ). times z xs ≤ get_or (set words x (n - 1)) z 0) (sym same) (omega (arith, get_or-set_same words x (n - 1) 0 low, h x, here))
-      | inr apart ↦ omega (arith, get_or-set_other words x y (n - 1) 0 apart, h y, times-cons_other y x xs (λ e. apart (sym e)))
+      | inl same ↦ subst (λ (z : ℕ). times z xs ≤ get_or (set words x (n - 1)) z 0) (sym same)
+          (omega (arith, get_or-set_same words x (n - 1) 0 low, h x, here))
+      | inr apart ↦ omega (
+        arith,
+        get_or-set_other words x y (n - 1) 0 apart,
+        h y,
+        times-cons_other y x xs (λ e. apart (sym e)),
+      )
     ]) in
     omega (arith, rest, less)
 

@@ -9,23 +9,29 @@ use Rattle.golf_theory.specs.Counting.{times}
 
 -- what is found at a key after a change there, and at every other key
 abbrev pub FindPut : Type 0 → Type 0
-FindPut X = (k : ℕ) (v : X) (es : List (ℕ × X)) → ((old : X) → find k es ≡ Some old → find k (put k v es) ≡ Some v) × (find k es ≡ None → put k v es ≡ es) × ((j : ℕ) → (j ≡ k → ⊥) → find j (put k v es) ≡ find j es)
+FindPut X = (k : ℕ) (v : X) (es : List (ℕ × X)) → ((old : X) → find k es ≡ Some old → find k (put k v es) ≡ Some v)
+    × (find k es ≡ None → put k v es ≡ es) × ((j : ℕ) → (j ≡ k → ⊥) → find j (put k v es) ≡ find j es)
 
 -- what is found at a new key after an addition, and at every other key
 abbrev pub FindAdd : Type 0 → Type 0
-FindAdd X = (k : ℕ) (v : X) (es : List (ℕ × X)) → (AllBelow k es → find k (add k v es) ≡ Some v) × ((j : ℕ) → (j ≡ k → ⊥) → find j (add k v es) ≡ find j es)
+FindAdd X = (k : ℕ) (v : X) (es : List (ℕ × X)) → (AllBelow k es → find k (add k v es) ≡ Some v)
+    × ((j : ℕ) → (j ≡ k → ⊥) → find j (add k v es) ≡ find j es)
 
 -- what is found after a cut
 abbrev pub FindOnly : Type 0 → Type 0
-FindOnly X = (p : ℕ → Bool) (k : ℕ) (es : List (ℕ × X)) → (p k ≡ true → find k (only p es) ≡ find k es) × (p k ≡ false → find k (only p es) ≡ None)
+FindOnly X = (p : ℕ → Bool) (k : ℕ) (es : List (ℕ × X)) → (p k ≡ true → find k (only p es) ≡ find k es)
+    × (p k ≡ false → find k (only p es) ≡ None)
 
 -- a cut goes with each change
 abbrev pub OnlyGoes : Type 0 → Type 0
-OnlyGoes X = (p : ℕ → Bool) (k : ℕ) (v : X) (es : List (ℕ × X)) → (only p (put k v es) ≡ put k v (only p es)) × (p k ≡ true → only p (add k v es) ≡ add k v (only p es)) × ((f : ℕ → X → X) → only p (map_values f es) ≡ map_values f (only p es))
+OnlyGoes X = (p : ℕ → Bool) (k : ℕ) (v : X) (es : List (ℕ × X)) → (only p (put k v es) ≡ put k v (only p es))
+    × (p k ≡ true → only p (add k v es) ≡ add k v (only p es))
+    × ((f : ℕ → X → X) → only p (map_values f es) ≡ map_values f (only p es))
 
 -- the keys that pass a test are those of the entries that do
 abbrev pub KeysPass : Type 0 → Type 0
-KeysPass X = (p : ℕ → X → Bool) (k : ℕ) (es : List (ℕ × X)) → In k (keys_where p es) ↔ ((x : X) × Entry es k x × (p k x ≡ true))
+KeysPass X = (p : ℕ → X → Bool) (k : ℕ) (es : List (ℕ × X)) → In k (keys_where p es)
+    ↔ ((x : X) × Entry es k x × (p k x ≡ true))
 
 -- in a map whose keys rise, the entries are what is found
 abbrev pub EntriesFound : Type 0 → Type 0
@@ -33,14 +39,18 @@ EntriesFound X = (k : ℕ) (x : X) (es : List (ℕ × X)) → IsRising es → En
 
 -- keys that rise go on rising
 abbrev pub KeysRise : Type 0 → Type 0
-KeysRise X = (p : ℕ → Bool) (k : ℕ) (v : X) (es : List (ℕ × X)) → IsRising es → IsRising (put k v es) × IsRising (only p es) × (AllBelow k es → IsRising (add k v es))
+KeysRise X = (p : ℕ → Bool) (k : ℕ) (v : X) (es : List (ℕ × X)) → IsRising es → IsRising (put k v es)
+    × IsRising (only p es) × (AllBelow k es → IsRising (add k v es))
 
 -- of two sets that have the roots and are closed under the steps, what is reached is the least
 abbrev pub ReachedLeast : Type 0 → Type 0
 ReachedLeast X = (leads : X → X → Bool) (roots : List X) →
     ((x : X) → In x roots → Reached (λ y. In y roots) (λ q y. leads q y ≡ true) x)
-    × ((q x : X) → Reached (λ y. In y roots) (λ p y. leads p y ≡ true) q → leads q x ≡ true → Reached (λ y. In y roots) (λ p y. leads p y ≡ true) x)
-    × ((test : X → Bool) → Every (λ y. test y ≡ true) roots → ((q x : X) → test q ≡ true → leads q x ≡ true → test x ≡ true) → (x : X) → Reached (λ y. In y roots) (λ q y. leads q y ≡ true) x → test x ≡ true)
+    × ((q x : X) → Reached (λ y. In y roots) (λ p y. leads p y ≡ true) q → leads q x ≡ true
+    → Reached (λ y. In y roots) (λ p y. leads p y ≡ true) x)
+    × ((test : X → Bool) → Every (λ y. test y ≡ true) roots
+    → ((q x : X) → test q ≡ true → leads q x ≡ true → test x ≡ true) → (x : X)
+    → Reached (λ y. In y roots) (λ q y. leads q y ≡ true) x → test x ≡ true)
 
 -- the computed least set of a rule that grows and gives candidates alone is what the rule derives
 abbrev pub LeastDerived : Type 0 → Type 0

@@ -1,5 +1,6 @@
 -- Finite maps from numbers, as lists of entries (key, value) in rising order of key.
-use Rattle.std.specs.Prelude.{nat_lt, ◌≡◌, ℕ, suc, ◌<◌, ◌≤◌, Bool, cond, List, [], ◌∷◌, ◌++◌, map, Option, Some, None, ◌==◌, ◌⊎◌}
+use Rattle.std.specs.Prelude.{nat_lt, ◌≡◌, ℕ, suc, ◌<◌, ◌≤◌, Bool, cond, List, [], ◌∷◌, ◌++◌, map, Option, Some, None}
+use Rattle.std.specs.Prelude.{◌==◌, ◌⊎◌}
 
 -- the map has this entry
 abbrev pub Entry : {X : Type 0} → List (ℕ × X) → ℕ → X → Type 0

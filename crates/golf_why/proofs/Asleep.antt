@@ -16,12 +16,16 @@ entry_at s g = slice_get (entry_of g.0 (find g.0 s.goroutines)) 0
 abbrev pub asleep_among : State → List Sleeper → List (Option Entry)
 asleep_among s xs = map (λ x. entry_at s x.goroutine) xs
 
-more : (s : State) (xs : List Sleeper) (k : ℕ) (g : GoroutineId) → option_map (λ x. x.goroutine) (slice_get xs k) ≡ Some g → asleep_among s (take (suc k) xs) ≡ asleep_among s (take k xs) ++ entry_at s g ∷ []
+more : (s : State) (xs : List Sleeper) (k : ℕ) (g : GoroutineId)
+    → option_map (λ x. x.goroutine) (slice_get xs k) ≡ Some g
+    → asleep_among s (take (suc k) xs) ≡ asleep_among s (take k xs) ++ entry_at s g ∷ []
 more s [] k g e = cc
 more s (x ∷ xs) zero g e = let is : x.goroutine ≡ g = cc in ap (λ h. entry_at s h ∷ []) is
 more s (x ∷ xs) (suc k) g e = ap (λ os. entry_at s x.goroutine ∷ os) (more s xs k g e)
 
-pub asleep-more : (s : State) (xs : List Sleeper) (k : ℕ) (g : GoroutineId) (old new : List (Option Entry)) → option_map (λ x. x.goroutine) (slice_get xs k) ≡ Some g → old ≡ asleep_among s (take k xs) → new ≡ old ++ entry_at s g ∷ [] → new ≡ asleep_among s (take (k + 1) xs)
+pub asleep-more : (s : State) (xs : List Sleeper) (k : ℕ) (g : GoroutineId) (old new : List (Option Entry))
+    → option_map (λ x. x.goroutine) (slice_get xs k) ≡ Some g → old ≡ asleep_among s (take k xs) → new ≡ old
+    ++ entry_at s g ∷ [] → new ≡ asleep_among s (take (k + 1) xs)
 asleep-more s xs k g old new e so is =
     let next : suc k ≡ k + 1 = omega arith in
     is ∙ ap (λ os. os ++ entry_at s g ∷ []) so ∙ sym (more s xs k g e) ∙ ap (λ n. asleep_among s (take n xs)) next

@@ -1,7 +1,8 @@
 -- The sleepers of which something is told are the live ones.
 -- For: `live_are_told`, src/laws.rt
 -- By: cases of the mode of a goroutine; induction over the list of goroutines
-use Rattle.std.proofs.Common.{◌≡◌, ℕ, zero, suc, ◌+◌, Bool, true, not, ◌||◌, ◌==◌, List, [], ◌∷◌, map, length, Some, None, inl, inr, refl, sym, ap, subst, ◌∙◌}
+use Rattle.std.proofs.Common.{◌≡◌, ℕ, zero, suc, ◌+◌, Bool, true, not, ◌||◌, ◌==◌, List, [], ◌∷◌, map, length, Some}
+use Rattle.std.proofs.Common.{None, inl, inr, refl, sym, ap, subst, ◌∙◌}
 use Rattle.std.specs.Prelude.{slice_get, unwrap_or}
 use Rattle.std.proofs.lemmas.List.{length-map}
 use Rattle.golf_theory.specs.Maps.{Entry, find}
@@ -27,7 +28,8 @@ use Rattle.golf_why.specs.Explaining.{asleep_in}
 use Rattle.golf_why.specs.Laws.{LiveAreTold}
 use Rattle.golf_why.proofs.Saying.{none-told, one-told}
 
-get-map : {A B : Type 0} (f : A → B) (xs : List A) (k : ℕ) (x : A) → slice_get xs k ≡ Some x → slice_get (map f xs) k ≡ Some (f x)
+get-map : {A B : Type 0} (f : A → B) (xs : List A) (k : ℕ) (x : A) → slice_get xs k ≡ Some x
+    → slice_get (map f xs) k ≡ Some (f x)
 get-map f [] k x e = cc
 get-map f (y ∷ ys) zero x e = cc
 get-map f (y ∷ ys) (suc k) x e = get-map f ys k x e
@@ -38,11 +40,14 @@ In-Entry (e ∷ es) g r (inl same) = inl (ap (λ x. x.0) same, ap (λ x. x.1) sa
 In-Entry (e ∷ es) g r (inr h) = inr (In-Entry es g r h)
 
 -- who is not awake is blocked
-blocked : (g started : ℕ) (mode : Mode) (b : Bool) → not (is_running mode || b) ≡ true → (e : Told) × (entry_by g started mode ≡ e ∷ [])
+blocked : (g started : ℕ) (mode : Mode) (b : Bool) → not (is_running mode || b) ≡ true → (e : Told)
+    × (entry_by g started mode ≡ e ∷ [])
 blocked g started Mode.Running b h = cc
-blocked g started (Mode.Blocked kind line waits ticket) b h = (record { goroutine = goroutine_id g; wait = kind; line = line; started = started }, refl)
+blocked g started (Mode.Blocked kind line waits ticket) b h =
+    (record { goroutine = goroutine_id g; wait = kind; line = line; started = started }, refl)
 
-module _ (s : State) (n : Numbered s) (w : IsWhole s) (fit : IsInRange (live_parts s)) (k g : ℕ) (sleeper : IsSleeper s k g) where
+module _ (s : State) (n : Numbered s) (w : IsWhole s) (fit : IsInRange (live_parts s)) (k g : ℕ)
+    (sleeper : IsSleeper s k g) where
   abbrev graph : GraphParts
   graph = live_parts s
 
@@ -59,7 +64,8 @@ module _ (s : State) (n : Numbered s) (w : IsWhole s) (fit : IsInRange (live_par
   lives l = ((live-graph s n w).goroutines k g sleeper).0 (subst (Least graph) (sym place-is) l)
 
   there : In (g, sleeper.0) s.goroutines × (not (is_awake g sleeper.0) ≡ true)
-  there = In-filter (λ e. not (is_awake e.0 e.1)) (g, sleeper.0) s.goroutines (In-slice_get (sleeping s) k (g, sleeper.0) sleeper.1)
+  there = In-filter (λ e. not (is_awake e.0 e.1)) (g, sleeper.0) s.goroutines
+      (In-slice_get (sleeping s) k (g, sleeper.0) sleeper.1)
 
   found : find g s.goroutines ≡ Some sleeper.0
   found = find-Entry s.goroutines g sleeper.0 n.goroutines_rise (In-Entry s.goroutines g sleeper.0 there.0)
@@ -71,7 +77,9 @@ module _ (s : State) (n : Numbered s) (w : IsWhole s) (fit : IsInRange (live_par
 
   here : unwrap_or (slice_get (asleep_in s graph) k) None ≡ Some entry.0
   here =
-      ap (λ o. unwrap_or o None) (get-map (λ x. slice_get (entry_of x.goroutine.0 (find x.goroutine.0 s.goroutines)) 0) graph.sleepers k (sleeper_of s.objects (g, sleeper.0)) (get-map (sleeper_of s.objects) (sleeping s) k (g, sleeper.0) sleeper.1))
+      ap (λ o. unwrap_or o None) (get-map (λ x. slice_get (entry_of x.goroutine.0 (find x.goroutine.0 s.goroutines)) 0)
+      graph.sleepers k (sleeper_of s.objects (g, sleeper.0))
+      (get-map (sleeper_of s.objects) (sleeping s) k (g, sleeper.0) sleeper.1))
       ∙ ap (λ es. slice_get es 0) entry.1
 
 pub live_told : LiveAreTold
@@ -86,7 +94,9 @@ live_told s n w fit k g sleeper =
             blocked = e.1;
             places = reason_in graph k;
             reason = reason;
-            is_told = sym (one-told graph k place (asleep_in s graph) e.0 (reason_in graph k) (here s n w fit k g sleeper) reason refl);
+            is_told = sym (one-told graph k place (asleep_in s graph) e.0 (reason_in graph k)
+                (here s n w fit k g sleeper) reason refl);
           };
-      dead = λ d. sym (none-told graph k (unwrap_or (slice_get (asleep_in s graph) k) None) (computed.1 (λ l. d (lives s n w fit k g sleeper l))));
+      dead = λ d. sym (none-told graph k (unwrap_or (slice_get (asleep_in s graph) k) None)
+          (computed.1 (λ l. d (lives s n w fit k g sleeper l))));
     }

@@ -15,13 +15,21 @@ pub none-told : (g : GraphParts) (k : ℕ) (o : Option Entry) → reason_in g k 
 none-told g k None h = refl
 none-told g k (Some e) h = ap (reached_by g e) (sym h)
 
-told-by : (g : GraphParts) (e : Entry) (places before : List ℕ) (p : ℕ) → places ≡ before ++ p ∷ [] → reached_by g e places ≡ record { goroutine = e.goroutine; wait = e.wait; line = e.line; by = members_before g places } ∷ []
+told-by : (g : GraphParts) (e : Entry) (places before : List ℕ) (p : ℕ) → places ≡ before ++ p ∷ []
+    → reached_by g e places ≡ record {
+      goroutine = e.goroutine;
+      wait = e.wait;
+      line = e.line;
+      by = members_before g places;
+    } ∷ []
 told-by g e [] [] p h = cc
 told-by g e [] (b ∷ bs) p h = cc
 told-by g e (q ∷ qs) before p h = refl
 
-pub one-told : (g : GraphParts) (k place : ℕ) (entries : List (Option Entry)) (e : Entry) (places : List ℕ) → unwrap_or (slice_get entries k) None ≡ Some e → IsReason g place places → places ≡ reason_in g k
-    → record { goroutine = e.goroutine; wait = e.wait; line = e.line; by = members_before g places } ∷ [] ≡ reached_at g k (unwrap_or (slice_get entries k) None)
+pub one-told : (g : GraphParts) (k place : ℕ) (entries : List (Option Entry)) (e : Entry) (places : List ℕ)
+    → unwrap_or (slice_get entries k) None ≡ Some e → IsReason g place places → places ≡ reason_in g k
+    → record { goroutine = e.goroutine; wait = e.wait; line = e.line; by = members_before g places }
+    ∷ [] ≡ reached_at g k (unwrap_or (slice_get entries k) None)
 one-told g k place entries e places here r is =
     sym (told-by g e places r.ends.0 place r.ends.1) ∙ ap (reached_by g e) is ∙ ap (reached_at g k) (sym here)
 

@@ -21,10 +21,16 @@ certificate_size s = length (least_in_order (live_parts s))
 abbrev pub asleep_in : State → GraphParts → List (Option Entry)
 asleep_in s g = map (λ x. slice_get (entry_of x.goroutine.0 (find x.goroutine.0 s.goroutines)) 0) g.sleepers
 
--- what is told of a sleeper that is blocked so, by the places of its reason; nothing if it has none, since it is dead then
+-- what is told of a sleeper that is blocked so, by the places of its reason; nothing if it has none, since it is dead
+-- then
 abbrev pub reached_by : GraphParts → Entry → List ℕ → List Reached
 reached_by g e [] = []
-reached_by g e (p ∷ ps) = record { goroutine = e.goroutine; wait = e.wait; line = e.line; by = members_before g (p ∷ ps) } ∷ []
+reached_by g e (p ∷ ps) = record {
+  goroutine = e.goroutine;
+  wait = e.wait;
+  line = e.line;
+  by = members_before g (p ∷ ps);
+} ∷ []
 
 -- what is told of the sleeper of this number
 abbrev pub reached_at : GraphParts → ℕ → Option Entry → List Reached

@@ -25,7 +25,12 @@ pub record IsToldOf (s : State) (k g : ℕ) : Type 0 where
   pub blocked : entry_of g (find g s.goroutines) ≡ entry ∷ []
   pub places : List ℕ
   pub reason : IsReason (live_parts s) (sleeper_place (live_parts s) k) places
-  pub is_told : told s k ≡ record { goroutine = entry.goroutine; wait = entry.wait; line = entry.line; by = members_before (live_parts s) places } ∷ []
+  pub is_told : told s k ≡ record {
+    goroutine = entry.goroutine;
+    wait = entry.wait;
+    line = entry.line;
+    by = members_before (live_parts s) places;
+  } ∷ []
 
 -- of a goroutine that is live, and of no other
 pub record TellsLive (s : State) (k g : ℕ) : Type 0 where
@@ -34,4 +39,5 @@ pub record TellsLive (s : State) (k g : ℕ) : Type 0 where
 
 -- the sleepers of which something is told are the live ones
 abbrev pub LiveAreTold : Type 0
-LiveAreTold = (s : State) → Numbered s → IsWhole s → IsInRange (live_parts s) → (k g : ℕ) → IsSleeper s k g → TellsLive s k g
+LiveAreTold = (s : State) → Numbered s → IsWhole s → IsInRange (live_parts s) → (k g : ℕ) → IsSleeper s k g
+    → TellsLive s k g

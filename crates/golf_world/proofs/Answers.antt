@@ -1,5 +1,6 @@
 -- When each answer of a step comes.
-use Rattle.std.proofs.Common.{◌≡◌, ℕ, List, [], ◌∷◌, ◌++◌, length, Result, Some, None, Ok, Err, refl, sym, ap, ◌∙◌, arith, length-append}
+use Rattle.std.proofs.Common.{◌≡◌, ℕ, List, [], ◌∷◌, ◌++◌, length, Result, Some, None, Ok, Err, refl, sym, ap, ◌∙◌}
+use Rattle.std.proofs.Common.{arith, length-append}
 use Rattle.std.specs.Prelude.{IfOk, OnErr}
 use Rattle.golf_base.specs.declared.Memory.{Memory}
 use Rattle.golf_base.specs.declared.ids.GoroutineId.{GoroutineId}
@@ -19,11 +20,13 @@ last-is [] x y e = cc
 last-is (z ∷ xs) x y e = let f : xs ++ x ∷ [] ≡ xs ++ y ∷ [] = cc in last-is xs x y f
 
 module _ (code : Code) (old new : Pass) where
-  turned : (at : ℕ) (g : GoroutineId) (number : ℕ) → HasTurned code old new at g number → ComesExactly code (Ok (Stepped.Turned at g number)) old new
+  turned : (at : ℕ) (g : GoroutineId) (number : ℕ) → HasTurned code old new at g number
+      → ComesExactly code (Ok (Stepped.Turned at g number)) old new
   turned at g number h = record {
     turned = λ k n. (
       (λ i. h.mine ∙ ap (λ (y : ℕ × ℕ). old.mine ++ y ∷ []) (λ j. (i.0 j, i.1 j))),
-      (λ e. let s = last-is old.mine (at, number) (k, n) (sym h.mine ∙ e) in (ap (λ (y : ℕ × ℕ). y.0) s, ap (λ (y : ℕ × ℕ). y.1) s)),
+      (λ e. let s = last-is old.mine (at, number) (k, n)
+          (sym h.mine ∙ e) in (ap (λ (y : ℕ × ℕ). y.0) s, ap (λ (y : ℕ × ℕ). y.1) s)),
     );
     ended = λ e. ((λ i. cc), (λ i. absurd (longer old.mine (at, number) (sym i.0 ∙ h.mine))));
     spent = ((λ i. cc), (λ i. absurd (longer old.mine (at, number) (sym i.0 ∙ h.mine))));
@@ -32,7 +35,11 @@ module _ (code : Code) (old new : Pass) where
   ended : (e : Ending) → HasEnded code old new e → ComesExactly code (Ok (Stepped.Ended e)) old new
   ended e h = record {
     turned = λ k n. ((λ i. absurd i), (λ i. absurd (longer old.mine (k, n) (sym h.mine ∙ i))));
-    ended = λ f. ((λ i. let s : e ≡ f = cc in (h.mine, h.ends ∙ ap (λ (y : Ending). Some y) s)), (λ i. let s : e ≡ f = let t : Some e ≡ Some f = sym h.ends ∙ i.1 in cc in ap (λ (y : Ending). Ok (Stepped.Ended y)) s));
+    ended = λ f. (
+      (λ i. let s : e ≡ f = cc in (h.mine, h.ends ∙ ap (λ (y : Ending). Some y) s)),
+      (λ i. let s : e ≡ f = let t : Some e ≡ Some f = sym h.ends
+          ∙ i.1 in cc in ap (λ (y : Ending). Ok (Stepped.Ended y)) s),
+    );
     spent = ((λ i. cc), (λ i. let t : Some e ≡ None = sym h.ends ∙ i.1 in cc));
   }
 
@@ -56,6 +63,7 @@ module _ (code : Code) (old new : Pass) where
   by-step Stepped.Spent h = spent h
 
   -- the causes of the answers exclude one another
-  pub exactly : (r : Result Stepped Memory) → IfOk r (λ s. HasStepped code s old new) → OnErr r (HasFailed code old new) → ComesExactly code r old new
+  pub exactly : (r : Result Stepped Memory) → IfOk r (λ s. HasStepped code s old new) → OnErr r (HasFailed code old new)
+      → ComesExactly code r old new
   exactly (Ok s) h f = by-step s h
   exactly (Err m) h f = failed m f

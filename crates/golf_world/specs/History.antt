@@ -1,5 +1,6 @@
 -- A history: whose turns they were, and their numbers.
-use Rattle.std.specs.Prelude.{◌≡◌, ℕ, ◌+◌, ◌*◌, ◌%◌, ◌<◌, ◌≤◌, ◌==◌, if◌then◌else◌, false, List, [], ◌∷◌, map, take, length, Some, None, slice_get}
+use Rattle.std.specs.Prelude.{◌≡◌, ℕ, ◌+◌, ◌*◌, ◌%◌, ◌<◌, ◌≤◌, ◌==◌, if◌then◌else◌, false, List, [], ◌∷◌, map, take}
+use Rattle.std.specs.Prelude.{length, Some, None, slice_get}
 use Rattle.golf_data.specs.declared.code.Code.{Code}
 use Rattle.golf_data.specs.Places.{HasPlaces}
 use Rattle.golf_data.specs.declared.report.Book.{Book}
@@ -61,7 +62,8 @@ abbrev pub IsHistory : Code → ℕ → List HistoryEntry → Type 0
 IsHistory code passes es = (t : ℕ) (e : HistoryEntry) → slice_get es t ≡ Some e → IsEntry code passes (take t es) e
 
 -- what is guarded of a program: state, book and reports are those of the run of the entries
-pub record IsExecution (code : Code) (passes : ℕ) (s : State) (b : Book) (es : List HistoryEntry) (rs : List Report) : Type 0 where
+pub record IsExecution (code : Code) (passes : ℕ) (s : State) (b : Book) (es : List HistoryEntry)
+    (rs : List Report) : Type 0 where
   pub state : s ≡ after code es
   pub reports : rs ≡ reports_after code es
   pub book : b ≡ booked code es

@@ -1,5 +1,6 @@
 -- The rule of a world's table: what holds between any two steps of any threads, and what a step tells its seat.
-use Rattle.std.specs.Prelude.{◌≡◌, ◌⊎◌, ℕ, zero, suc, ◌+◌, ◌<◌, ◌==◌, Bool, true, false, not, List, [], ◌∷◌, ◌++◌, length, filter}
+use Rattle.std.specs.Prelude.{◌≡◌, ◌⊎◌, ℕ, zero, suc, ◌+◌, ◌<◌, ◌==◌, Bool, true, false, not, List, [], ◌∷◌, ◌++◌}
+use Rattle.std.specs.Prelude.{length, filter}
 use mathlib.Core.Option.{some}
 use mathlib.Core.List.{IsPrefix}
 use lib.ListN.{get_elem?}
@@ -23,7 +24,8 @@ abbrev pub pass_entries : ℕ → List (ℕ × ℕ) → PassEntries
 pass_entries p mine = record { pass = p; mine = mine }
 
 abbrev pub view_of : ℕ → Bool → List PassEntries → List HistoryEntry → List (List HistoryEntry) → View
-view_of passes keeps held seen earlier = record { passes = passes; keeps = keeps; held = held; seen = seen; earlier = earlier }
+view_of passes keeps held seen earlier =
+    record { passes = passes; keeps = keeps; held = held; seen = seen; earlier = earlier }
 
 -- the keeper's view while no pass is joined to it, and the view of one pass
 abbrev pub keeper_view : ℕ → List HistoryEntry → View
@@ -45,7 +47,9 @@ idle_passes p (suc n) = pass_entries p [] ∷ idle_passes (p + 1) n
 abbrev pub first_view : ℕ → View
 first_view passes = view_of passes true (idle_passes 0 passes) [] []
 
--- a view that is not spent names the number of passes; the keeper's has seen the whole history; a pass in it is one of the world's and stands here, with just its entries; what it has seen is a prefix of the history, and what others had seen is a prefix of that
+-- a view that is not spent names the number of passes; the keeper's has seen the whole history; a pass in it is one of
+-- the world's and stands here, with just its entries; what it has seen is a prefix of the history, and what others had
+-- seen is a prefix of that
 pub record Fits (passes keeper : ℕ) (owner : ℕ → ℕ) (history : List HistoryEntry) (seat : ℕ) (v : View) : Type 0 where
   pub named : (v ≡ spent_view) ⊎ (v.passes ≡ passes)
   pub keeps : v.keeps ≡ true → (seat ≡ keeper) × (v.seen ≡ history)
@@ -80,14 +84,16 @@ pub record Holds (passes : ℕ) (s : State (Unit {0}) View) : Type 0 where
 abbrev pub appended_by : Code → ℕ → Bool → List PassEntries → List HistoryEntry → List (List HistoryEntry) → View
 appended_by code passes keeps [] seen earlier = view_of passes keeps [] seen earlier
 appended_by code passes keeps (h ∷ hs) seen earlier =
-    view_of passes keeps (pass_entries h.pass (h.mine ++ (length seen, next_number code h.pass seen) ∷ []) ∷ hs) (seen ++ entry h.pass (next_number code h.pass seen) ∷ []) earlier
+    view_of passes keeps (pass_entries h.pass (h.mine ++ (length seen, next_number code h.pass seen) ∷ []) ∷ hs)
+    (seen ++ entry h.pass (next_number code h.pass seen) ∷ []) earlier
 
 abbrev pub appended : Code → View → View
 appended code v = appended_by code v.passes v.keeps v.held v.seen v.earlier
 
 -- what an append tells: it found the length of what had been seen, and what others had seen is a prefix of that
 abbrev pub AppendTells : Code → Step (Unit {0}) → Me (Unit {0}) View → ℕ → Me (Unit {0}) View → Type 0
-AppendTells code step me n now = (now ≡ (appended code me.0, me.1)) × (n ≡ length me.0.seen) × Every (λ o. IsPrefix o me.0.seen) me.0.earlier
+AppendTells code step me n now = (now ≡ (appended code me.0, me.1)) × (n ≡ length me.0.seen)
+    × Every (λ o. IsPrefix o me.0.seen) me.0.earlier
 
 abbrev pub LookTells : Step (Unit {0}) → Me (Unit {0}) View → ℕ → Me (Unit {0}) View → Type 0
 LookTells step me n now = (now ≡ me) × Every (λ o. IsPrefix o me.0.seen) me.0.earlier

@@ -25,4 +25,5 @@ mine_of (Some s) = mine_in s.me.0.held
 -- it is there, of this table, and stands for this pass alone
 abbrev pub IsSeatOfPass : TableId → ℕ → ℕ → Option SeatOf → Type 0
 IsSeatOfPass table passes p None = ⊥
-IsSeatOfPass table passes p (Some s) = (s.table_id ≡ table) × (s.me ≡ (pass_view passes p (mine_in s.me.0.held) s.me.0.seen, []))
+IsSeatOfPass table passes p (Some s) = (s.table_id ≡ table)
+    × (s.me ≡ (pass_view passes p (mine_in s.me.0.held) s.me.0.seen, []))

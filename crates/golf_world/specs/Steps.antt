@@ -1,5 +1,6 @@
 -- What clauses say of passes and of steps.
-use Rattle.std.specs.Prelude.{◌≡◌, ◌↔◌, ℕ, ◌<◌, true, false, Option, Result, List, [], ◌∷◌, ◌++◌, length, Some, None, Ok, Err}
+use Rattle.std.specs.Prelude.{◌≡◌, ◌↔◌, ℕ, ◌<◌, true, false, Option, Result, List, [], ◌∷◌, ◌++◌, length, Some, None}
+use Rattle.std.specs.Prelude.{Ok, Err}
 use mathlib.Core.List.{IsPrefix}
 use Rattle.golf_base.specs.declared.ids.GoroutineId.{GoroutineId}
 use Rattle.golf_base.specs.declared.Memory.{Memory}
@@ -24,7 +25,9 @@ place_in (f ∷ fs) = f.at
 abbrev pub HasAdvanced : Code → ℕ → Option Report → State → State → Book → Book → Type 0
 HasAdvanced code n None s t b c = (wants_collection code s n ≡ false) × (t ≡ step code s n) × (c ≡ b)
 HasAdvanced code n (Some r) s t b c =
-    (wants_collection code s n ≡ true) × (t ≡ real_collect (step code s n) false (sets_finalisers code)) × (r ≡ report false (sets_finalisers code) b (step code s n)) × (c ≡ book_after false (sets_finalisers code) b (step code s n))
+    (wants_collection code s n ≡ true) × (t ≡ real_collect (step code s n) false (sets_finalisers code))
+    × (r ≡ report false (sets_finalisers code) b (step code s n))
+    × (c ≡ book_after false (sets_finalisers code) b (step code s n))
 
 -- a pass: its number, the prefix of the history that it has seen, and the places and numbers of its own entries
 pub record Pass : Type 0 where
@@ -35,11 +38,14 @@ pub record Pass : Type 0 where
 -- the history, and what a turn of the pass makes of it
 abbrev pub Does : Code → ℕ → Stepped → List HistoryEntry → List HistoryEntry → Type 0
 Does code p (Stepped.Turned at g number) old new =
-    (at ≡ length old) × (length old < most_entries) × (ending (after code old) ≡ None) × (number ≡ next_number code p old) × (whose_turn (after code old) number ≡ Some g.0) × (new ≡ old ++ entry p number ∷ [])
+    (at ≡ length old) × (length old < most_entries) × (ending (after code old) ≡ None)
+    × (number ≡ next_number code p old) × (whose_turn (after code old) number ≡ Some g.0)
+    × (new ≡ old ++ entry p number ∷ [])
 Does code p (Stepped.Ended e) old new = (ending (after code old) ≡ Some e) × (new ≡ old)
 Does code p Stepped.Spent old new = (ending (after code old) ≡ None) × (length old ≡ most_entries) × (new ≡ old)
 
--- the pass took a turn: what it had seen is a prefix of what stood before, its entry stands last, and is one of its own; its goroutine is the one that the number picks
+-- the pass took a turn: what it had seen is a prefix of what stood before, its entry stands last, and is one of its
+-- own; its goroutine is the one that the number picks
 pub record HasTurned (code : Code) (old new : Pass) (at : ℕ) (g : GoroutineId) (number : ℕ) : Type 0 where
   pub before : List HistoryEntry
   pub later : IsPrefix old.seen before
@@ -76,11 +82,14 @@ IsTurn (Ok (Stepped.Ended e)) at number = ⊥
 IsTurn (Ok Stepped.Spent) at number = ⊥
 IsTurn (Err m) at number = ⊥
 
--- when each answer comes: a turn exactly if the pass has one entry more; else an ending exactly if the run of what it has seen has ended, and spent exactly if that has not ended and has as many entries as there may be
+-- when each answer comes: a turn exactly if the pass has one entry more; else an ending exactly if the run of what it
+-- has seen has ended, and spent exactly if that has not ended and has as many entries as there may be
 pub record ComesExactly (code : Code) (r : Result Stepped Memory) (old new : Pass) : Type 0 where
   pub turned : (at number : ℕ) → IsTurn r at number ↔ (new.mine ≡ old.mine ++ (at, number) ∷ [])
-  pub ended : (e : Ending) → (r ≡ Ok (Stepped.Ended e)) ↔ ((new.mine ≡ old.mine) × (ending (after code new.seen) ≡ Some e))
-  pub spent : (r ≡ Ok Stepped.Spent) ↔ ((new.mine ≡ old.mine) × (ending (after code new.seen) ≡ None) × (length new.seen ≡ most_entries))
+  pub ended : (e : Ending) → (r ≡ Ok (Stepped.Ended e))
+      ↔ ((new.mine ≡ old.mine) × (ending (after code new.seen) ≡ Some e))
+  pub spent : (r ≡ Ok Stepped.Spent) ↔ ((new.mine ≡ old.mine) × (ending (after code new.seen) ≡ None)
+      × (length new.seen ≡ most_entries))
 
 -- without memory nothing was done: the run of what the pass has seen has not ended and could go on
 pub record HasFailed (code : Code) (old new : Pass) : Type 0 where

@@ -25,20 +25,56 @@ unfolding text_number
 number_of_a_text = refl
 
 -- go close(c), on line 3: the channel is the one slot
-pub made_for_close : made_function [] (record { operation = built_in.Close; parameters = layered layer.Chan base.Int ∷ []; line = 3 }) ≡
-    record { params = 1; slots = 1; depth = 1; line = 3; body = line 3 (Instr.Load 0 ∷ Instr.Close ∷ Instr.Return ∷ []) []; live = 1 ∷ 0 ∷ 0 ∷ [] }
+pub made_for_close : made_function [] (record {
+  operation = built_in.Close;
+  parameters = layered layer.Chan base.Int
+      ∷ [];
+  line = 3;
+}) ≡
+    record {
+      params = 1;
+      slots = 1;
+      depth = 1;
+      line = 3;
+      body = line 3 (Instr.Load 0 ∷ Instr.Close ∷ Instr.Return ∷ []) [];
+      live = 1 ∷ 0 ∷ 0 ∷ [];
+    }
 unfolding depth live needed
 made_for_close = refl
 
 -- defer wg.Done(): -1 is pushed inside
-pub made_for_done : made_function [] (record { operation = built_in.Done; parameters = plain base.Group ∷ []; line = 4 }) ≡
-    record { params = 1; slots = 1; depth = 2; line = 4; body = line 4 (Instr.Load 0 ∷ Instr.Int (negsuc 0) ∷ Instr.GroupAdd ∷ Instr.Return ∷ []) []; live = 1 ∷ 0 ∷ 0 ∷ 0 ∷ [] }
+pub made_for_done : made_function [] (record {
+  operation = built_in.Done;
+  parameters = plain base.Group ∷ [];
+  line = 4;
+}) ≡
+    record {
+      params = 1;
+      slots = 1;
+      depth = 2;
+      line = 4;
+      body = line 4 (Instr.Load 0 ∷ Instr.Int (negsuc 0) ∷ Instr.GroupAdd ∷ Instr.Return ∷ []) [];
+      live = 1 ∷ 0 ∷ 0
+          ∷ 0 ∷ [];
+    }
 unfolding depth live needed
 made_for_done = refl
 
 -- go wg.Add(2): receiver and argument are the slots
-pub made_for_add : made_function [] (record { operation = built_in.Add; parameters = plain base.Group ∷ plain base.Int ∷ []; line = 5 }) ≡
-    record { params = 2; slots = 2; depth = 2; line = 5; body = line 5 (Instr.Load 0 ∷ Instr.Load 1 ∷ Instr.GroupAdd ∷ Instr.Return ∷ []) []; live = 3 ∷ 2 ∷ 0 ∷ 0 ∷ [] }
+pub made_for_add : made_function [] (record {
+  operation = built_in.Add;
+  parameters = plain base.Group ∷ plain base.Int
+      ∷ [];
+  line = 5;
+}) ≡
+    record {
+      params = 2;
+      slots = 2;
+      depth = 2;
+      line = 5;
+      body = line 5 (Instr.Load 0 ∷ Instr.Load 1 ∷ Instr.GroupAdd ∷ Instr.Return ∷ []) [];
+      live = 3 ∷ 2 ∷ 0 ∷ 0 ∷ [];
+    }
 unfolding depth live needed
 made_for_add = refl
 
@@ -49,7 +85,8 @@ ends_without_result = refl
 pub ends_with_a_text : placed (last_return 7 (plain base.Text)) 0 [] ≡ line 7 (Instr.Text 0 ∷ Instr.ReturnValue ∷ []) []
 ends_with_a_text = refl
 
-pub ends_with_nil : placed (last_return 7 (layered layer.Slice base.Int)) 0 [] ≡ line 7 (Instr.Nil ∷ Instr.ReturnValue ∷ []) []
+pub ends_with_nil : placed (last_return 7 (layered layer.Slice base.Int)) 0 [] ≡ line 7
+    (Instr.Nil ∷ Instr.ReturnValue ∷ []) []
 ends_with_nil = refl
 
 -- package main
@@ -71,7 +108,14 @@ empty = record {
 -- function 0 calls `main`, which is function 2
 pub empty-code : CodeOf empty ≡ record {
   functions =
-      record { params = 0; slots = 0; depth = 0; line = 5; body = line 5 (Instr.Call 2 0 ∷ Instr.Return ∷ []) []; live = 0 ∷ 0 ∷ [] }
+      record {
+        params = 0;
+        slots = 0;
+        depth = 0;
+        line = 5;
+        body = line 5 (Instr.Call 2 0 ∷ Instr.Return ∷ []) [];
+        live = 0 ∷ 0 ∷ [];
+      }
       ∷ record { params = 0; slots = 0; depth = 0; line = 4; body = line 4 (Instr.Return ∷ []) []; live = 0 ∷ [] }
       ∷ record { params = 0; slots = 0; depth = 0; line = 5; body = line 5 (Instr.Return ∷ []) []; live = 0 ∷ [] }
       ∷ [];

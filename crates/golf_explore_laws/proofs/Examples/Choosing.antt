@@ -16,7 +16,9 @@ use Rattle.golf_explore_laws.proofs.Examples.Tables.{ranked-by}
 abbrev choosing : Code
 choosing =
     code_with []
-    (function 0 0 1 (new_channel 0 ++ (Instr.Dup ∷ Instr.Close ∷ Instr.Dup ∷ Instr.Select (case CaseKind.Take 6 ∷ case CaseKind.Take 7 ∷ []) None ∷ Instr.Return ∷ Instr.Return ∷ [])) ∷ [])
+    (function 0 0 1 (new_channel 0 ++ (Instr.Dup ∷ Instr.Close ∷ Instr.Dup
+    ∷ Instr.Select (case CaseKind.Take 6 ∷ case CaseKind.Take 7 ∷ []) None ∷ Instr.Return ∷ Instr.Return ∷ []))
+    ∷ [])
 
 abbrev next : State → ℕ → State
 next s choice = after_turn choosing s 0 choice
@@ -34,7 +36,8 @@ selecting = next closed 0
 abbrev ranked : List (State × ℕ)
 ranked =
     (start choosing, 7) ∷ (next (start choosing) 0, 6) ∷ (made, 5) ∷ (next made 0, 4) ∷ (closed, 3) ∷ (selecting, 2)
-    ∷ (next selecting 0, 1) ∷ (next selecting 1, 1) ∷ (next (next selecting 0) 0, 0) ∷ (next (next selecting 1) 0, 0) ∷ []
+    ∷ (next selecting 0, 1) ∷ (next selecting 1, 1) ∷ (next (next selecting 0) 0, 0) ∷ (next (next selecting 1) 0, 0)
+    ∷ []
 
 is-ranked : IsRanked choosing ranked 7
 is-ranked =
@@ -49,7 +52,14 @@ is-ranked =
             (
               inr (refl, (5 ∷ []) ∷ [], (((2, omega arith, refl), omega arith), omega arith)),
               (
-                inr (refl, (6 ∷ 7 ∷ []) ∷ [], (((1, omega arith, refl), ((1, omega arith, refl), omega arith)), omega arith)),
+                inr (
+                  refl,
+                  (6 ∷ 7 ∷ []) ∷ [],
+                  (
+                    ((1, omega arith, refl), ((1, omega arith, refl), omega arith)),
+                    omega arith,
+                  ),
+                ),
                 (
                   inr (refl, (8 ∷ []) ∷ [], (((0, omega arith, refl), omega arith), omega arith)),
                   (

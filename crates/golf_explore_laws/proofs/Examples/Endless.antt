@@ -9,8 +9,11 @@ use Rattle.golf_model.specs.State.{State, start, ending}
 use Rattle.golf_model.specs.Living.{dead, live_list}
 use Rattle.golf_model.proofs.Examples.Writing.{straight}
 use Rattle.golf_explore_laws.specs.Closed.{IsClosed, NoneDead, NoneEnds}
-use Rattle.golf_explore_laws.specs.Laws.{is_panic, is_asleep, NeverLeaks, NeverReports, ReportsNobody, NeverPanics, NeverAllAsleep}
-use Rattle.golf_explore_laws.proofs.MainLaws.{closed_lists_never_leak, closed_lists_never_report, closed_lists_report_nobody, closed_lists_never_panic, closed_lists_never_sleep}
+use Rattle.golf_explore_laws.specs.Laws.{is_panic, is_asleep, NeverLeaks, NeverReports, ReportsNobody, NeverPanics}
+use Rattle.golf_explore_laws.specs.Laws.{NeverAllAsleep}
+use Rattle.golf_explore_laws.proofs.MainLaws.{closed_lists_never_leak, closed_lists_never_report}
+use Rattle.golf_explore_laws.proofs.MainLaws.{closed_lists_report_nobody, closed_lists_never_panic}
+use Rattle.golf_explore_laws.proofs.MainLaws.{closed_lists_never_sleep}
 use Rattle.golf_explore_laws.proofs.Examples.Tables.{closed-by}
 
 abbrev endless : Code

@@ -36,4 +36,5 @@ none-dead [] never h = cc
 none-dead (p ∷ ps) never h = let e = never p (inl refl) in let f : dead p ≡ 2 ∷ [] = cc in let g = sym f ∙ e in cc
 
 pub leaking_is_reported : NeverReports leaking → ⊥
-leaking_is_reported never = none-dead (stops leaking (turns (lowest 3 ++ (second 2 ++ lowest 1)))) (never (turns (lowest 3 ++ (second 2 ++ lowest 1)))) found_dead
+leaking_is_reported never = none-dead (stops leaking (turns (lowest 3 ++ (second 2 ++ lowest 1))))
+    (never (turns (lowest 3 ++ (second 2 ++ lowest 1)))) found_dead

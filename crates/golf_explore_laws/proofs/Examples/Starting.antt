@@ -24,14 +24,22 @@ alone = after_turn starting started 1 0
 
 abbrev ranked : List (State × ℕ)
 ranked =
-    (start starting, 3) ∷ (started, 2) ∷ (alone, 1) ∷ (after_turn starting started 0 0, 0) ∷ (after_turn starting alone 0 0, 0) ∷ []
+    (start starting, 3) ∷ (started, 2) ∷ (alone, 1) ∷ (after_turn starting started 0 0, 0)
+    ∷ (after_turn starting alone 0 0, 0) ∷ []
 
 is-ranked : IsRanked starting ranked 3
 is-ranked =
     ranked-by starting ranked 3 (inl refl) (
       inr (refl, (1 ∷ []) ∷ [], (((2, omega arith, refl), omega arith), omega arith)),
       (
-        inr (refl, (3 ∷ []) ∷ (2 ∷ []) ∷ [], (((0, omega arith, refl), omega arith), (((1, omega arith, refl), omega arith), omega arith))),
+        inr (
+          refl,
+          (3 ∷ []) ∷ (2 ∷ []) ∷ [],
+          (
+            ((0, omega arith, refl), omega arith),
+            (((1, omega arith, refl), omega arith), omega arith),
+          ),
+        ),
         (
           inr (refl, (4 ∷ []) ∷ [], (((0, omega arith, refl), omega arith), omega arith)),
           (

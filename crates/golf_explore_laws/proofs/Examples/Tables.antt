@@ -1,7 +1,8 @@
 -- A table of where the turns of listed states lead shows that the list is closed, or that its ranks fall.
 -- For: the examples; `IsClosed` and `IsRanked`, specs/Closed.antt
 -- By: induction over a row of the table, and over its rows
-use Rattle.std.proofs.Common.{◌≡◌, ℕ, suc, zero, ◌+◌, ◌<◌, ◌≤◌, true, List, [], ◌∷◌, length, Some, None, is_some, slice_get, ◌⊎◌, inl, inr, sym, ◌∙◌, ap, subst, arith}
+use Rattle.std.proofs.Common.{◌≡◌, ℕ, suc, zero, ◌+◌, ◌<◌, ◌≤◌, true, List, [], ◌∷◌, length, Some, None, is_some}
+use Rattle.std.proofs.Common.{slice_get, ◌⊎◌, inl, inr, sym, ◌∙◌, ap, subst, arith}
 use Rattle.golf_theory.specs.Membership.{In, Every}
 use Rattle.golf_theory.proofs.Lists.{In-slice_get, Every-at}
 use Rattle.golf_data.specs.declared.code.Code.{Code}
@@ -25,14 +26,17 @@ module _ (code : Code) (s : State) (StandsAt : ℕ → State → Type 0) where
   abbrev Stands : ℕ → ℕ → Type 0
   Stands place choice = (j : ℕ) × StandsAt j (after_turn code s place choice)
 
-  choices-lead : (place choice : ℕ) (js : List ℕ) → ChoicesLead place choice js → (more : ℕ) → choice + more ≤ turn_last_choice code s (slice_get (runnable s) place) → Stands place (choice + more)
+  choices-lead : (place choice : ℕ) (js : List ℕ) → ChoicesLead place choice js → (more : ℕ)
+      → choice + more ≤ turn_last_choice code s (slice_get (runnable s) place) → Stands place (choice + more)
   choices-lead place choice [] h more l = absurd (omega (arith, h, l))
-  choices-lead place choice (j ∷ js) h zero l = let e : choice ≡ choice + 0 = omega arith in (j, subst (λ k. StandsAt j (after_turn code s place k)) e h.0)
+  choices-lead place choice (j ∷ js) h zero l = let e : choice ≡ choice + 0 =
+      omega arith in (j, subst (λ k. StandsAt j (after_turn code s place k)) e h.0)
   choices-lead place choice (j ∷ js) h (suc more) l =
       let e : choice + 1 + more ≡ choice + suc more = omega arith in
       subst (Stands place) e (choices-lead place (choice + 1) js h.1 more (omega (arith, l)))
 
-  places-lead : (place : ℕ) (rows : List (List ℕ)) → PlacesLead place rows → (more choice : ℕ) → IsTurn code s (place + more) choice → Stands (place + more) choice
+  places-lead : (place : ℕ) (rows : List (List ℕ)) → PlacesLead place rows → (more choice : ℕ)
+      → IsTurn code s (place + more) choice → Stands (place + more) choice
   places-lead place [] h more choice l = let below = l.0 in absurd (omega (arith, h, below))
   places-lead place (js ∷ rows) h zero choice l =
       let e : place + 0 ≡ place = omega arith in
@@ -40,17 +44,20 @@ module _ (code : Code) (s : State) (StandsAt : ℕ → State → Type 0) where
       let up = t.1 in
       let back : place ≡ place + 0 = omega arith in
       let zero_on : 0 + choice ≡ choice = omega arith in
-      subst (λ k. Stands k choice) back (subst (Stands place) zero_on (choices-lead place 0 js h.0 choice (omega (arith, up))))
+      subst (λ k. Stands k choice) back (subst (Stands place) zero_on
+      (choices-lead place 0 js h.0 choice (omega (arith, up))))
   places-lead place (js ∷ rows) h (suc more) choice l =
       let e : place + suc more ≡ place + 1 + more = omega arith in
       let back : place + 1 + more ≡ place + suc more = omega arith in
-      subst (λ k. Stands k choice) back (places-lead (place + 1) rows h.1 more choice (subst (λ k. IsTurn code s k choice) e l))
+      subst (λ k. Stands k choice) back (places-lead (place + 1) rows h.1 more choice
+      (subst (λ k. IsTurn code s k choice) e l))
 
   -- the state has an ending, or it is plain and its turns lead to places of the list
   abbrev pub IsLed : Type 0
   IsLed = (is_some (ending s) ≡ true) ⊎ ((s.finalisers ≡ []) × (rows : List (List ℕ)) × PlacesLead 0 rows)
 
-  turns-lead : (rows : List (List ℕ)) → PlacesLead 0 rows → (place choice : ℕ) → IsTurn code s place choice → Stands place choice
+  turns-lead : (rows : List (List ℕ)) → PlacesLead 0 rows → (place choice : ℕ) → IsTurn code s place choice
+      → Stands place choice
   turns-lead rows h place choice l =
       let on : place ≡ 0 + place = omega arith in
       let back : 0 + place ≡ place = omega arith in
@@ -72,12 +79,14 @@ module _ (code : Code) (s : State) (StandsAt : ℕ → State → Type 0) where
 abbrev pub StandsIn : List State → ℕ → State → Type 0
 StandsIn visited j t = slice_get visited j ≡ Some t
 
-pub closed-by : (code : Code) (visited : List State) → In (start code) visited → Every (λ s. IsLed code s (StandsIn visited)) visited → IsClosed code visited
+pub closed-by : (code : Code) (visited : List State) → In (start code) visited
+    → Every (λ s. IsLed code s (StandsIn visited)) visited → IsClosed code visited
 closed-by code visited opening led = record {
   opening = opening;
   plain = λ s i. led-plain code s (StandsIn visited) (Every-at (λ s. IsLed code s (StandsIn visited)) visited s led i);
   turns = λ s i goes place choice t.
-      let r = led-turns code s (StandsIn visited) (Every-at (λ s. IsLed code s (StandsIn visited)) visited s led i) goes place choice t in
+      let r = led-turns code s (StandsIn visited)
+      (Every-at (λ s. IsLed code s (StandsIn visited)) visited s led i) goes place choice t in
       In-slice_get visited r.0 (after_turn code s place choice) r.1;
 }
 
@@ -85,11 +94,14 @@ closed-by code visited opening led = record {
 abbrev pub StandsBelow : List (State × ℕ) → ℕ → ℕ → State → Type 0
 StandsBelow ranked rank j t = (lower : ℕ) × (lower < rank) × (slice_get ranked j ≡ Some (t, lower))
 
-pub ranked-by : (code : Code) (ranked : List (State × ℕ)) (most : ℕ) → In (start code, most) ranked → Every (λ e. IsLed code e.0 (StandsBelow ranked e.1)) ranked → IsRanked code ranked most
+pub ranked-by : (code : Code) (ranked : List (State × ℕ)) (most : ℕ) → In (start code, most) ranked
+    → Every (λ e. IsLed code e.0 (StandsBelow ranked e.1)) ranked → IsRanked code ranked most
 ranked-by code ranked most opening led = record {
   opening = opening;
-  plain = λ s rank i. led-plain code s (StandsBelow ranked rank) (Every-at (λ e. IsLed code e.0 (StandsBelow ranked e.1)) ranked (s, rank) led i);
+  plain = λ s rank i. led-plain code s (StandsBelow ranked rank)
+      (Every-at (λ e. IsLed code e.0 (StandsBelow ranked e.1)) ranked (s, rank) led i);
   falls = λ s rank i goes place choice t.
-      let r = led-turns code s (StandsBelow ranked rank) (Every-at (λ e. IsLed code e.0 (StandsBelow ranked e.1)) ranked (s, rank) led i) goes place choice t in
+      let r = led-turns code s (StandsBelow ranked rank)
+      (Every-at (λ e. IsLed code e.0 (StandsBelow ranked e.1)) ranked (s, rank) led i) goes place choice t in
       (r.1.0, r.1.1, In-slice_get ranked r.0 (after_turn code s place choice, r.1.0) r.1.2);
 }

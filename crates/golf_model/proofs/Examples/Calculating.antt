@@ -99,18 +99,21 @@ pub negative_size : is_bad_size (negsuc 0) ≡ true
 negative_size = refl
 
 -- `3 - 5 < 0` and `0 <= 0`
-pub comparisons : (after (straight (push 3 ∷ push 5 ∷ Instr.Sub ∷ push 0 ∷ Instr.Less ∷ push 0 ∷ push 0 ∷ Instr.AtMost ∷ push 0 ∷ push 0 ∷ Instr.Less ∷ Instr.Not ∷ Instr.Print 3 ∷ [])) (lowest 13)).output
+pub comparisons : (after (straight (push 3 ∷ push 5 ∷ Instr.Sub ∷ push 0 ∷ Instr.Less ∷ push 0 ∷ push 0 ∷ Instr.AtMost
+    ∷ push 0 ∷ push 0 ∷ Instr.Less ∷ Instr.Not ∷ Instr.Print 3 ∷ [])) (lowest 13)).output
     ≡ 116 ∷ 114 ∷ 117 ∷ 101 ∷ 32 ∷ 116 ∷ 114 ∷ 117 ∷ 101 ∷ 32 ∷ 116 ∷ 114 ∷ 117 ∷ 101 ∷ 10 ∷ []
 comparisons = refl
 
 -- `2 + 3 * 4` and `-7`
-pub arithmetic : (after (straight (push 2 ∷ push 3 ∷ push 4 ∷ Instr.Mul ∷ Instr.Add ∷ push 7 ∷ Instr.Neg ∷ Instr.Print 2 ∷ [])) (lowest 8)).output ≡ 49 ∷ 52 ∷ 32 ∷ 45 ∷ 55 ∷ 10 ∷ []
+pub arithmetic : (after (straight (push 2 ∷ push 3 ∷ push 4 ∷ Instr.Mul ∷ Instr.Add ∷ push 7 ∷ Instr.Neg ∷ Instr.Print 2
+    ∷ [])) (lowest 8)).output ≡ 49 ∷ 52 ∷ 32 ∷ 45 ∷ 55 ∷ 10 ∷ []
 unfolding digits
 arithmetic = refl
 
 -- the table of the specification: 5 and 3 with either sign, divided
 abbrev divided : ℤ → ℤ → List ℕ
-divided x y = (after (straight (Instr.Int x ∷ Instr.Int y ∷ Instr.Div ∷ Instr.Int x ∷ Instr.Int y ∷ Instr.Rem ∷ Instr.Print 2 ∷ [])) (lowest 7)).output
+divided x y = (after (straight (Instr.Int x ∷ Instr.Int y ∷ Instr.Div ∷ Instr.Int x ∷ Instr.Int y ∷ Instr.Rem
+    ∷ Instr.Print 2 ∷ [])) (lowest 7)).output
 
 pub five_by_three : divided (pos 5) (pos 3) ≡ 49 ∷ 32 ∷ 50 ∷ 10 ∷ []
 unfolding digits
@@ -129,72 +132,92 @@ unfolding digits
 minus_five_by_minus_three = refl
 
 -- the least `int` negated is itself
-pub least_negated : (after (straight (Instr.Int least ∷ Instr.Neg ∷ Instr.Int least ∷ Instr.Eq ∷ Instr.Print 1 ∷ [])) (lowest 5)).output ≡ 116 ∷ 114 ∷ 117 ∷ 101 ∷ 10 ∷ []
+pub least_negated : (after (straight (Instr.Int least ∷ Instr.Neg ∷ Instr.Int least ∷ Instr.Eq ∷ Instr.Print 1 ∷ []))
+    (lowest 5)).output ≡ 116 ∷ 114 ∷ 117 ∷ 101 ∷ 10 ∷ []
 least_negated = refl
 
 -- `3 == 3`, `3 == 4`, `struct{}{} == struct{}{}` and a reference that is compared with nil
-pub equalities : (after (straight (push 3 ∷ push 3 ∷ Instr.Eq ∷ push 3 ∷ push 4 ∷ Instr.Eq ∷ Instr.Unit ∷ Instr.Unit ∷ Instr.Eq ∷ Instr.NewStruct 0 ∷ Instr.Nil ∷ Instr.Eq ∷ Instr.Print 4 ∷ [])) (lowest 13)).output
-    ≡ 116 ∷ 114 ∷ 117 ∷ 101 ∷ 32 ∷ 102 ∷ 97 ∷ 108 ∷ 115 ∷ 101 ∷ 32 ∷ 116 ∷ 114 ∷ 117 ∷ 101 ∷ 32 ∷ 102 ∷ 97 ∷ 108 ∷ 115 ∷ 101 ∷ 10 ∷ []
+pub equalities : (after (straight (push 3 ∷ push 3 ∷ Instr.Eq ∷ push 3 ∷ push 4 ∷ Instr.Eq ∷ Instr.Unit ∷ Instr.Unit
+    ∷ Instr.Eq ∷ Instr.NewStruct 0 ∷ Instr.Nil ∷ Instr.Eq ∷ Instr.Print 4 ∷ [])) (lowest 13)).output
+    ≡ 116 ∷ 114 ∷ 117 ∷ 101 ∷ 32 ∷ 102 ∷ 97 ∷ 108 ∷ 115 ∷ 101 ∷ 32 ∷ 116 ∷ 114 ∷ 117 ∷ 101 ∷ 32 ∷ 102 ∷ 97 ∷ 108 ∷ 115
+    ∷ 101 ∷ 10 ∷ []
 equalities = refl
 
 -- texts are printed as they are, and no operands make an empty line
 abbrev printing : List Instr → Code
 printing body = record (straight body) { texts = [] ∷ (104 ∷ 105 ∷ []) ∷ [] }
 
-pub texts : (after (printing (Instr.Text 1 ∷ Instr.Text 0 ∷ Instr.Int (negsuc 4) ∷ Instr.Bool false ∷ Instr.Print 4 ∷ Instr.Print 0 ∷ [])) (lowest 6)).output ≡ 104 ∷ 105 ∷ 32 ∷ 32 ∷ 45 ∷ 53 ∷ 32 ∷ 102 ∷ 97 ∷ 108 ∷ 115 ∷ 101 ∷ 10 ∷ 10 ∷ []
+pub texts : (after (printing (Instr.Text 1 ∷ Instr.Text 0 ∷ Instr.Int (negsuc 4) ∷ Instr.Bool false ∷ Instr.Print 4
+    ∷ Instr.Print 0 ∷ [])) (lowest 6)).output ≡ 104 ∷ 105 ∷ 32 ∷ 32 ∷ 45 ∷ 53 ∷ 32 ∷ 102 ∷ 97 ∷ 108 ∷ 115 ∷ 101 ∷ 10
+    ∷ 10 ∷ []
 unfolding digits
 texts = refl
 
 -- a jump is taken if the value is false
-pub jump_if_not : (after (straight (Instr.Bool true ∷ Instr.JumpIfNot 5 ∷ Instr.Bool false ∷ Instr.JumpIfNot 6 ∷ Instr.Return ∷ Instr.Return ∷ push 4 ∷ Instr.Print 1 ∷ [])) (lowest 6)).output ≡ 52 ∷ 10 ∷ []
+pub jump_if_not : (after (straight (Instr.Bool true ∷ Instr.JumpIfNot 5 ∷ Instr.Bool false ∷ Instr.JumpIfNot 6
+    ∷ Instr.Return ∷ Instr.Return ∷ push 4 ∷ Instr.Print 1 ∷ [])) (lowest 6)).output ≡ 52 ∷ 10 ∷ []
 unfolding digits
 jump_if_not = refl
 
 -- `Dup2` and the order of the operands
-pub doubles_two : (after (straight (push 1 ∷ push 2 ∷ Instr.Dup2 ∷ Instr.Print 4 ∷ [])) (lowest 4)).output ≡ 49 ∷ 32 ∷ 50 ∷ 32 ∷ 49 ∷ 32 ∷ 50 ∷ 10 ∷ []
+pub doubles_two : (after (straight (push 1 ∷ push 2 ∷ Instr.Dup2 ∷ Instr.Print 4 ∷ [])) (lowest 4)).output ≡ 49 ∷ 32
+    ∷ 50 ∷ 32 ∷ 49 ∷ 32 ∷ 50 ∷ 10 ∷ []
 unfolding digits
 doubles_two = refl
 
 -- a slice keeps its elements and its length
-pub slices : (after (straight (push 2 ∷ Instr.NewSlice (number 0) ∷ Instr.Store 0 ∷ Instr.Load 0 ∷ push 1 ∷ push 7 ∷ Instr.SetIndex ∷ Instr.Load 0 ∷ push 0 ∷ Instr.Index ∷ Instr.Load 0 ∷ push 1 ∷ Instr.Index ∷ Instr.Load 0 ∷ Instr.Len ∷ Instr.Print 3 ∷ [])) (lowest 16)).output
+pub slices : (after (straight (push 2 ∷ Instr.NewSlice (number 0) ∷ Instr.Store 0 ∷ Instr.Load 0 ∷ push 1 ∷ push 7
+    ∷ Instr.SetIndex ∷ Instr.Load 0 ∷ push 0 ∷ Instr.Index ∷ Instr.Load 0 ∷ push 1 ∷ Instr.Index ∷ Instr.Load 0
+    ∷ Instr.Len ∷ Instr.Print 3 ∷ [])) (lowest 16)).output
     ≡ 48 ∷ 32 ∷ 55 ∷ 32 ∷ 50 ∷ 10 ∷ []
 unfolding digits
 slices = refl
 
 -- a field of a shared struct; nil has length 0
-pub fields : (after (straight (Instr.NewStruct 0 ∷ Instr.Dup ∷ push 7 ∷ Instr.SetField 0 ∷ Instr.Field 0 ∷ Instr.Nil ∷ Instr.Len ∷ Instr.Print 2 ∷ [])) (lowest 8)).output ≡ 55 ∷ 32 ∷ 48 ∷ 10 ∷ []
+pub fields : (after (straight (Instr.NewStruct 0 ∷ Instr.Dup ∷ push 7 ∷ Instr.SetField 0 ∷ Instr.Field 0 ∷ Instr.Nil
+    ∷ Instr.Len ∷ Instr.Print 2 ∷ [])) (lowest 8)).output ≡ 55 ∷ 32 ∷ 48 ∷ 10 ∷ []
 unfolding digits
 fields = refl
 
 -- what is stored in a slot or a global is loaded
-pub variables : (after (straight (push 4 ∷ Instr.Store 1 ∷ push 6 ∷ Instr.StoreGlobal 0 ∷ Instr.Load 0 ∷ Instr.Load 1 ∷ Instr.LoadGlobal 0 ∷ Instr.Print 3 ∷ [])) (lowest 8)).output ≡ 48 ∷ 32 ∷ 52 ∷ 32 ∷ 54 ∷ 10 ∷ []
+pub variables : (after (straight (push 4 ∷ Instr.Store 1 ∷ push 6 ∷ Instr.StoreGlobal 0 ∷ Instr.Load 0 ∷ Instr.Load 1
+    ∷ Instr.LoadGlobal 0 ∷ Instr.Print 3 ∷ [])) (lowest 8)).output ≡ 48 ∷ 32 ∷ 52 ∷ 32 ∷ 54 ∷ 10 ∷ []
 unfolding digits
 variables = refl
 
 -- an element past the end, and one of nil, panic
-pub past_the_end : ending (after (straight (push 2 ∷ Instr.NewSlice (number 0) ∷ push 2 ∷ Instr.Index ∷ [])) (lowest 5)) ≡ Some (panicked (PanicKind.Index (pos 2) 2) 1 4)
+pub past_the_end : ending (after (straight (push 2 ∷ Instr.NewSlice (number 0) ∷ push 2 ∷ Instr.Index ∷ [])) (lowest 5))
+    ≡ Some (panicked (PanicKind.Index (pos 2) 2) 1 4)
 past_the_end = refl
 
-pub set_past_the_end : ending (after (straight (push 2 ∷ Instr.NewSlice (number 0) ∷ Instr.Int (negsuc 0) ∷ push 7 ∷ Instr.SetIndex ∷ [])) (lowest 6)) ≡ Some (panicked (PanicKind.Index (negsuc 0) 2) 1 5)
+pub set_past_the_end : ending (after (straight
+    (push 2 ∷ Instr.NewSlice (number 0) ∷ Instr.Int (negsuc 0) ∷ push 7 ∷ Instr.SetIndex ∷ [])) (lowest 6)) ≡ Some
+    (panicked (PanicKind.Index (negsuc 0) 2) 1 5)
 set_past_the_end = refl
 
-pub set_index_of_nil : ending (after (straight (Instr.Nil ∷ push 0 ∷ push 7 ∷ Instr.SetIndex ∷ [])) (lowest 5)) ≡ Some (panicked (PanicKind.Index (pos 0) 0) 1 4)
+pub set_index_of_nil : ending (after (straight (Instr.Nil ∷ push 0 ∷ push 7 ∷ Instr.SetIndex ∷ [])) (lowest 5)) ≡ Some
+    (panicked (PanicKind.Index (pos 0) 0) 1 4)
 set_index_of_nil = refl
 
-pub index_of_nil : ending (after (straight (Instr.Nil ∷ push 0 ∷ Instr.Index ∷ [])) (lowest 4)) ≡ Some (panicked (PanicKind.Index (pos 0) 0) 1 3)
+pub index_of_nil : ending (after (straight (Instr.Nil ∷ push 0 ∷ Instr.Index ∷ [])) (lowest 4)) ≡ Some
+    (panicked (PanicKind.Index (pos 0) 0) 1 3)
 index_of_nil = refl
 
 -- a size that is negative or too great panics, and so does a divisor of 0
-pub slice_size : ending (after (straight (Instr.Int (negsuc 0) ∷ Instr.NewSlice (number 0) ∷ [])) (lowest 3)) ≡ Some (panicked PanicKind.SliceSize 1 2)
+pub slice_size : ending (after (straight (Instr.Int (negsuc 0) ∷ Instr.NewSlice (number 0) ∷ [])) (lowest 3)) ≡ Some
+    (panicked PanicKind.SliceSize 1 2)
 slice_size = refl
 
-pub channel_size : ending (after (straight (push 65537 ∷ Instr.NewChan (number 0) ∷ [])) (lowest 3)) ≡ Some (panicked PanicKind.ChanSize 1 2)
+pub channel_size : ending (after (straight (push 65537 ∷ Instr.NewChan (number 0) ∷ [])) (lowest 3)) ≡ Some
+    (panicked PanicKind.ChanSize 1 2)
 channel_size = refl
 
-pub quotient_by_zero : ending (after (straight (push 1 ∷ push 0 ∷ Instr.Div ∷ [])) (lowest 4)) ≡ Some (panicked PanicKind.DivideByZero 1 3)
+pub quotient_by_zero : ending (after (straight (push 1 ∷ push 0 ∷ Instr.Div ∷ [])) (lowest 4)) ≡ Some
+    (panicked PanicKind.DivideByZero 1 3)
 quotient_by_zero = refl
 
-pub remainder_by_zero : ending (after (straight (push 1 ∷ push 0 ∷ Instr.Rem ∷ [])) (lowest 4)) ≡ Some (panicked PanicKind.DivideByZero 1 3)
+pub remainder_by_zero : ending (after (straight (push 1 ∷ push 0 ∷ Instr.Rem ∷ [])) (lowest 4)) ≡ Some
+    (panicked PanicKind.DivideByZero 1 3)
 remainder_by_zero = refl
 
 -- no zero value is a reference

@@ -13,7 +13,8 @@ use Rattle.golf_model.specs.State.{runnable, ending, start}
 use Rattle.golf_model.specs.Reaching.{reach}
 use Rattle.golf_model.specs.Living.{live_list, dead}
 use Rattle.golf_model.specs.Running.{finaliser_calls}
-use Rattle.golf_model.proofs.Examples.Writing.{second, function, push, code_with, straight, turns, lowest, after, panicked, mode_of, reports, quiet}
+use Rattle.golf_model.proofs.Examples.Writing.{second, function, push, code_with, straight, turns, lowest, after}
+use Rattle.golf_model.proofs.Examples.Writing.{panicked, mode_of, reports, quiet}
 
 -- function 0 makes a struct, gives it function 1 as its finaliser, drops it and collects
 abbrev dropping : List Instr → Code
@@ -45,7 +46,8 @@ unfolding reach
 goroutine_0_waits = refl
 
 -- the call is seen
-pub call_is_seen : finaliser_calls dropped (start dropped) (turns (lowest 9)) ≡ record { object = record { 0 = 1 }; function = 1 } ∷ []
+pub call_is_seen : finaliser_calls dropped (start dropped) (turns (lowest 9))
+    ≡ record { object = record { 0 = 1 }; function = 1 } ∷ []
 unfolding reach
 call_is_seen = refl
 
@@ -70,12 +72,14 @@ held_is_not_queued = refl
 abbrev two : Code
 two =
     code_with []
-    (function 0 0 1 (Instr.NewStruct 0 ∷ Instr.NewStruct 0 ∷ Instr.SetFinalizer 1 ∷ Instr.SetFinalizer 2 ∷ Instr.Collect ∷ Instr.Return ∷ [])
+    (function 0 0 1 (Instr.NewStruct 0 ∷ Instr.NewStruct 0 ∷ Instr.SetFinalizer 1 ∷ Instr.SetFinalizer 2 ∷ Instr.Collect
+    ∷ Instr.Return ∷ [])
     ∷ function 1 1 11 (Instr.Return ∷ [])
     ∷ function 1 1 21 (Instr.Return ∷ [])
     ∷ [])
 
-pub by_rising_number : (after two (lowest 5)).queue ≡ record { object = record { 0 = 1 }; function = 2 } ∷ record { object = record { 0 = 2 }; function = 1 } ∷ []
+pub by_rising_number : (after two (lowest 5)).queue ≡ record { object = record { 0 = 1 }; function = 2 }
+    ∷ record { object = record { 0 = 2 }; function = 1 } ∷ []
 unfolding reach
 by_rising_number = refl
 
@@ -88,37 +92,46 @@ unfolding reach
 cleared_is_not_queued = refl
 
 -- nil has none to clear, and cannot be given one
-pub nil_is_cleared : ending (after (code_with [] (function 0 0 1 (Instr.Nil ∷ Instr.ClearFinalizer ∷ Instr.Return ∷ []) ∷ [])) (lowest 3)) ≡ Some Ending.Returned
+pub nil_is_cleared : ending (after (code_with []
+    (function 0 0 1 (Instr.Nil ∷ Instr.ClearFinalizer ∷ Instr.Return ∷ []) ∷ [])) (lowest 3)) ≡ Some Ending.Returned
 nil_is_cleared = refl
 
-pub set_on_nil : ending (after (straight (Instr.Nil ∷ Instr.SetFinalizer 0 ∷ [])) (lowest 3)) ≡ Some (panicked PanicKind.NilPointer 1 2)
+pub set_on_nil : ending (after (straight (Instr.Nil ∷ Instr.SetFinalizer 0 ∷ [])) (lowest 3)) ≡ Some
+    (panicked PanicKind.NilPointer 1 2)
 set_on_nil = refl
 
 -- a second finaliser is a fatal error, but not if the first was cleared
 abbrev twice : List Instr → Code
 twice more = straight (Instr.NewStruct 0 ∷ Instr.Dup ∷ Instr.SetFinalizer 0 ∷ more)
 
-pub set_twice : ending (after (twice (Instr.Dup ∷ Instr.SetFinalizer 0 ∷ [])) (lowest 5)) ≡ Some (panicked PanicKind.FinalizerSet 1 5)
+pub set_twice : ending (after (twice (Instr.Dup ∷ Instr.SetFinalizer 0 ∷ [])) (lowest 5)) ≡ Some
+    (panicked PanicKind.FinalizerSet 1 5)
 set_twice = refl
 
-pub set_after_clearing : (after (twice (Instr.Dup ∷ Instr.ClearFinalizer ∷ Instr.Dup ∷ Instr.SetFinalizer 0 ∷ [])) (lowest 7)).finalisers ≡ (1, 0) ∷ []
+pub set_after_clearing : (after (twice (Instr.Dup ∷ Instr.ClearFinalizer ∷ Instr.Dup ∷ Instr.SetFinalizer 0 ∷ []))
+    (lowest 7)).finalisers ≡ (1, 0) ∷ []
 set_after_clearing = refl
 
--- a finaliser that panics ends the program, and one that blocks for ever holds the next one up; goroutine 0 is never dead
+-- a finaliser that panics ends the program, and one that blocks for ever holds the next one up; goroutine 0 is never
+-- dead
 abbrev doing : List Instr → Code
 doing finaliser =
     code_with []
-    (function 0 0 1 (Instr.NewStruct 0 ∷ Instr.SetFinalizer 1 ∷ Instr.NewStruct 0 ∷ Instr.SetFinalizer 1 ∷ Instr.Collect ∷ Instr.Return ∷ []) ∷ function 1 1 11 finaliser ∷ [])
+    (function 0 0 1 (Instr.NewStruct 0 ∷ Instr.SetFinalizer 1 ∷ Instr.NewStruct 0 ∷ Instr.SetFinalizer 1 ∷ Instr.Collect
+    ∷ Instr.Return ∷ []) ∷ function 1 1 11 finaliser ∷ [])
 
-pub finaliser_panics : ending (after (doing (Instr.Nil ∷ Instr.Lock ∷ [])) (lowest 9)) ≡ Some (panicked PanicKind.NilPointer 0 12)
+pub finaliser_panics : ending (after (doing (Instr.Nil ∷ Instr.Lock ∷ [])) (lowest 9)) ≡ Some
+    (panicked PanicKind.NilPointer 0 12)
 unfolding reach
 finaliser_panics = refl
 
-pub finaliser_blocks : mode_of 0 (after (doing (Instr.Nil ∷ Instr.Receive ∷ Instr.Return ∷ [])) (lowest 8)) ≡ Some (Mode.Blocked WaitKind.ReceiveNil 12 [] 0)
+pub finaliser_blocks : mode_of 0 (after (doing (Instr.Nil ∷ Instr.Receive ∷ Instr.Return ∷ [])) (lowest 8)) ≡ Some
+    (Mode.Blocked WaitKind.ReceiveNil 12 [] 0)
 unfolding reach
 finaliser_blocks = refl
 
-pub next_one_waits : (after (doing (Instr.Nil ∷ Instr.Receive ∷ Instr.Return ∷ [])) (lowest 8)).queue ≡ record { object = record { 0 = 2 }; function = 1 } ∷ []
+pub next_one_waits : (after (doing (Instr.Nil ∷ Instr.Receive ∷ Instr.Return ∷ [])) (lowest 8)).queue
+    ≡ record { object = record { 0 = 2 }; function = 1 } ∷ []
 unfolding reach
 next_one_waits = refl
 
@@ -130,7 +143,8 @@ goroutine_0_is_live = refl
 abbrev in_global : Code
 in_global =
     code_with (Value.Nil ∷ [])
-    (function 0 0 1 (Instr.NewStruct 0 ∷ Instr.Dup ∷ Instr.StoreGlobal 0 ∷ Instr.SetFinalizer 1 ∷ Instr.Collect ∷ Instr.Return ∷ [])
+    (function 0 0 1 (Instr.NewStruct 0 ∷ Instr.Dup ∷ Instr.StoreGlobal 0 ∷ Instr.SetFinalizer 1 ∷ Instr.Collect
+    ∷ Instr.Return ∷ [])
     ∷ function 1 1 11 (Instr.Return ∷ [])
     ∷ [])
 
@@ -142,7 +156,8 @@ in_global_stays = refl
 abbrev chained : Code
 chained =
     code_with []
-    (function 0 0 1 (Instr.NewStruct 0 ∷ Instr.Dup ∷ Instr.SetFinalizer 1 ∷ Instr.NewStruct 0 ∷ Instr.Dup ∷ Instr.SetFinalizer 1 ∷ Instr.SetField 0 ∷ Instr.Collect ∷ Instr.Collect ∷ Instr.Return ∷ [])
+    (function 0 0 1 (Instr.NewStruct 0 ∷ Instr.Dup ∷ Instr.SetFinalizer 1 ∷ Instr.NewStruct 0 ∷ Instr.Dup
+    ∷ Instr.SetFinalizer 1 ∷ Instr.SetField 0 ∷ Instr.Collect ∷ Instr.Collect ∷ Instr.Return ∷ [])
     ∷ function 1 1 11 (Instr.Return ∷ [])
     ∷ [])
 
@@ -151,7 +166,8 @@ unfolding reach
 first_of_the_chain = refl
 
 -- so while the first one is in the queue
-pub queued_holds_the_next : (after chained (lowest 8 ++ second 1)).queue ≡ record { object = record { 0 = 1 }; function = 1 } ∷ []
+pub queued_holds_the_next : (after chained (lowest 8 ++ second 1)).queue
+    ≡ record { object = record { 0 = 1 }; function = 1 } ∷ []
 unfolding reach
 queued_holds_the_next = refl
 
@@ -160,6 +176,7 @@ unfolding reach
 nothing_taken_yet = refl
 
 -- and then it is its turn
-pub next_of_the_chain : (after chained (lowest 10 ++ lowest 1)).queue ≡ record { object = record { 0 = 2 }; function = 1 } ∷ []
+pub next_of_the_chain : (after chained (lowest 10 ++ lowest 1)).queue
+    ≡ record { object = record { 0 = 2 }; function = 1 } ∷ []
 unfolding reach
 next_of_the_chain = refl

@@ -11,7 +11,13 @@ sleeper waits references = record { goroutine = record { 0 = 2 }; waits = waits;
 
 abbrev graph : List (List ℕ) → List ℕ → List Sleeper → GraphParts
 graph children roots sleepers =
-    record { numbers = map (λ n. record { 0 = n }) (places_from 1 children); children = children; finalised = map (λ row. false) children; roots = roots; sleepers = sleepers }
+    record {
+      numbers = map (λ n. record { 0 = n }) (places_from 1 children);
+      children = children;
+      finalised = map (λ row. false) children;
+      roots = roots;
+      sleepers = sleepers;
+    }
 
 -- the marked places, in rising order
 abbrev marked : GraphParts → List ℕ
@@ -23,12 +29,14 @@ unfolding least_places
 children_are_marked = refl
 
 -- a marked channel awakens its sleeper, whose references awaken the next: two rounds of root growth
-pub roots_grow_twice : marked (graph ([] ∷ [] ∷ [] ∷ []) (0 ∷ []) (sleeper (1 ∷ []) (1 ∷ 2 ∷ []) ∷ sleeper (0 ∷ []) (0 ∷ 1 ∷ []) ∷ [])) ≡ 0 ∷ 1 ∷ 2 ∷ 3 ∷ 4 ∷ []
+pub roots_grow_twice : marked (graph ([] ∷ [] ∷ [] ∷ []) (0 ∷ [])
+    (sleeper (1 ∷ []) (1 ∷ 2 ∷ []) ∷ sleeper (0 ∷ []) (0 ∷ 1 ∷ []) ∷ [])) ≡ 0 ∷ 1 ∷ 2 ∷ 3 ∷ 4 ∷ []
 unfolding least_places
 roots_grow_twice = refl
 
 -- a sleeper that waits on an unmarked node alone stays asleep, and so does one that waits on nothing
-pub asleep_for_ever : marked (graph ([] ∷ [] ∷ []) (0 ∷ []) (sleeper (1 ∷ []) (0 ∷ 1 ∷ []) ∷ sleeper [] (0 ∷ []) ∷ [])) ≡ 0 ∷ []
+pub asleep_for_ever : marked (graph ([] ∷ [] ∷ []) (0 ∷ []) (sleeper (1 ∷ []) (0 ∷ 1 ∷ []) ∷ sleeper [] (0 ∷ []) ∷ []))
+    ≡ 0 ∷ []
 unfolding least_places
 asleep_for_ever = refl
 
@@ -38,6 +46,7 @@ unfolding least_places
 one_of_many = refl
 
 -- sleepers that wait for each other stay asleep
-pub cycle_stays_asleep : marked (graph ([] ∷ [] ∷ []) [] (sleeper (0 ∷ []) (0 ∷ 1 ∷ []) ∷ sleeper (1 ∷ []) (0 ∷ 1 ∷ []) ∷ [])) ≡ []
+pub cycle_stays_asleep : marked (graph ([] ∷ [] ∷ []) []
+    (sleeper (0 ∷ []) (0 ∷ 1 ∷ []) ∷ sleeper (1 ∷ []) (0 ∷ 1 ∷ []) ∷ [])) ≡ []
 unfolding least_places
 cycle_stays_asleep = refl

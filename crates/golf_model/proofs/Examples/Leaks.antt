@@ -14,7 +14,8 @@ use Rattle.golf_data.specs.declared.report.Entry.{Entry}
 use Rattle.golf_model.specs.Reaching.{reach}
 use Rattle.golf_model.specs.Living.{live_list}
 use Rattle.golf_model.specs.Reporting.{real_run, real_reports}
-use Rattle.golf_model.proofs.Examples.Writing.{after, function, push, new_channel, code_with, turns, lowest, second, third, reports, quiet, case}
+use Rattle.golf_model.proofs.Examples.Writing.{after, function, push, new_channel, code_with, turns, lowest, second}
+use Rattle.golf_model.proofs.Examples.Writing.{third, reports, quiet, case}
 
 -- the goroutine is blocked as this, at this line, and was started at that one
 abbrev entry : ℕ → WaitKind → ℕ → ℕ → Entry
@@ -23,7 +24,8 @@ entry g kind line started = record { goroutine = record { 0 = g }; wait = kind; 
 -- function 1 receives from its channel
 abbrev receiving : List Instr → Code
 receiving main =
-    code_with [] (function 0 0 1 main ∷ function 1 1 11 (Instr.Load 0 ∷ Instr.Receive ∷ Instr.Drop ∷ Instr.Return ∷ []) ∷ [])
+    code_with [] (function 0 0 1 main ∷ function 1 1 11 (Instr.Load 0 ∷ Instr.Receive ∷ Instr.Drop ∷ Instr.Return ∷ [])
+    ∷ [])
 
 -- the classic leak: nobody else has the channel
 abbrev leak : Code
@@ -32,11 +34,27 @@ leak = receiving (new_channel 0 ++ (Instr.Go 1 1 ∷ Instr.Collect ∷ Instr.Ret
 abbrev leak_turns : List ℕ
 leak_turns = lowest 3 ++ (second 2 ++ lowest 1)
 
-pub leak_is_reported : reports leak leak_turns false ≡ record { number = 1; marked = 0; reported = entry 2 WaitKind.Receive 12 3 ∷ []; kept = 1; reclaimed = 0; objects = 1 } ∷ []
+pub leak_is_reported : reports leak leak_turns false
+    ≡ record {
+      number = 1;
+      marked = 0;
+      reported = entry 2 WaitKind.Receive 12 3 ∷ [];
+      kept = 1;
+      reclaimed = 0;
+      objects = 1;
+    } ∷ []
 unfolding reach live_list
 leak_is_reported = refl
 
-pub leak_is_taken_back : reports leak leak_turns true ≡ record { number = 1; marked = 0; reported = entry 2 WaitKind.Receive 12 3 ∷ []; kept = 0; reclaimed = 1; objects = 0 } ∷ []
+pub leak_is_taken_back : reports leak leak_turns true
+    ≡ record {
+      number = 1;
+      marked = 0;
+      reported = entry 2 WaitKind.Receive 12 3 ∷ [];
+      kept = 0;
+      reclaimed = 1;
+      objects = 0;
+    } ∷ []
 unfolding reach live_list
 leak_is_taken_back = refl
 
@@ -64,8 +82,10 @@ held_channel_is_live = refl
 abbrev growing : Code
 growing =
     code_with (Value.Nil ∷ [])
-    (function 0 0 1 (new_channel 0 ++ (Instr.StoreGlobal 0 ∷ (new_channel 0 ++ (Instr.Dup ∷ Instr.Go 1 1 ∷ Instr.Go 2 1 ∷ Instr.Collect ∷ Instr.Return ∷ []))))
-    ∷ function 1 1 11 (Instr.LoadGlobal 0 ∷ Instr.Receive ∷ Instr.Drop ∷ Instr.Load 0 ∷ push 1 ∷ Instr.Send ∷ Instr.Return ∷ [])
+    (function 0 0 1 (new_channel 0 ++ (Instr.StoreGlobal 0
+    ∷ (new_channel 0 ++ (Instr.Dup ∷ Instr.Go 1 1 ∷ Instr.Go 2 1 ∷ Instr.Collect ∷ Instr.Return ∷ []))))
+    ∷ function 1 1 11 (Instr.LoadGlobal 0 ∷ Instr.Receive ∷ Instr.Drop ∷ Instr.Load 0 ∷ push 1 ∷ Instr.Send
+    ∷ Instr.Return ∷ [])
     ∷ function 1 1 21 (Instr.Load 0 ∷ Instr.Receive ∷ Instr.Drop ∷ Instr.Return ∷ [])
     ∷ [])
 
@@ -81,21 +101,38 @@ abbrev cycle : Code
 cycle =
     code_with []
     (function 0 0 1 (Instr.Call 1 0 ∷ Instr.Collect ∷ Instr.Collect ∷ Instr.Return ∷ [])
-    ∷ function 0 2 11 (new_channel 0 ++ (Instr.Store 0 ∷ (new_channel 0 ++ (Instr.Store 1 ∷ Instr.Load 0 ∷ Instr.Load 1 ∷ Instr.Go 2 2 ∷ Instr.Load 1 ∷ Instr.Load 0 ∷ Instr.Go 2 2 ∷ Instr.Return ∷ []))))
-    ∷ function 2 2 31 (Instr.Load 0 ∷ Instr.Receive ∷ Instr.Drop ∷ Instr.Load 1 ∷ push 1 ∷ Instr.Send ∷ Instr.Return ∷ [])
+    ∷ function 0 2 11 (new_channel 0 ++ (Instr.Store 0
+    ∷ (new_channel 0 ++ (Instr.Store 1 ∷ Instr.Load 0 ∷ Instr.Load 1 ∷ Instr.Go 2 2 ∷ Instr.Load 1 ∷ Instr.Load 0
+    ∷ Instr.Go 2 2 ∷ Instr.Return ∷ []))))
+    ∷ function 2 2 31 (Instr.Load 0 ∷ Instr.Receive ∷ Instr.Drop ∷ Instr.Load 1 ∷ push 1 ∷ Instr.Send ∷ Instr.Return
+    ∷ [])
     ∷ [])
 
 abbrev cycle_turns : List ℕ
 cycle_turns = lowest 14 ++ (second 2 ++ (second 2 ++ lowest 2))
 
 pub cycle_is_reported_once : reports cycle cycle_turns false ≡
-    record { number = 1; marked = 0; reported = entry 2 WaitKind.Receive 32 19 ∷ entry 3 WaitKind.Receive 32 22 ∷ []; kept = 2; reclaimed = 0; objects = 2 }
+    record {
+      number = 1;
+      marked = 0;
+      reported = entry 2 WaitKind.Receive 32 19 ∷ entry 3 WaitKind.Receive 32 22 ∷ [];
+      kept = 2;
+      reclaimed = 0;
+      objects = 2;
+    }
     ∷ record { number = 2; marked = 0; reported = []; kept = 2; reclaimed = 0; objects = 2 } ∷ []
 unfolding reach live_list
 cycle_is_reported_once = refl
 
 pub cycle_is_taken_back : reports cycle cycle_turns true ≡
-    record { number = 1; marked = 0; reported = entry 2 WaitKind.Receive 32 19 ∷ entry 3 WaitKind.Receive 32 22 ∷ []; kept = 0; reclaimed = 2; objects = 0 }
+    record {
+      number = 1;
+      marked = 0;
+      reported = entry 2 WaitKind.Receive 32 19 ∷ entry 3 WaitKind.Receive 32 22 ∷ [];
+      kept = 0;
+      reclaimed = 2;
+      objects = 0;
+    }
     ∷ quiet 2 0 0 ∷ []
 unfolding reach live_list
 cycle_is_taken_back = refl
@@ -104,8 +141,10 @@ cycle_is_taken_back = refl
 abbrev selecting : Code
 selecting =
     code_with (Value.Nil ∷ [])
-    (function 0 0 1 (new_channel 0 ++ (Instr.StoreGlobal 0 ∷ (new_channel 0 ++ (Instr.Go 1 1 ∷ Instr.Collect ∷ Instr.Return ∷ []))))
-    ∷ function 1 1 11 (Instr.LoadGlobal 0 ∷ Instr.Load 0 ∷ Instr.Select (case CaseKind.Take 3 ∷ case CaseKind.Take 3 ∷ []) None ∷ Instr.Drop ∷ Instr.Return ∷ [])
+    (function 0 0 1 (new_channel 0 ++ (Instr.StoreGlobal 0
+    ∷ (new_channel 0 ++ (Instr.Go 1 1 ∷ Instr.Collect ∷ Instr.Return ∷ []))))
+    ∷ function 1 1 11 (Instr.LoadGlobal 0 ∷ Instr.Load 0
+    ∷ Instr.Select (case CaseKind.Take 3 ∷ case CaseKind.Take 3 ∷ []) None ∷ Instr.Drop ∷ Instr.Return ∷ [])
     ∷ [])
 
 pub one_live_channel_is_enough : reports selecting (lowest 6 ++ (second 3 ++ lowest 1)) true ≡ quiet 1 2 2 ∷ []
@@ -122,7 +161,14 @@ never =
     ∷ [])
 
 pub empty_waits : reports never (lowest 3 ++ (second 1 ++ (second 3 ++ lowest 1))) false ≡
-    record { number = 1; marked = 0; reported = entry 2 WaitKind.SelectNone 11 1 ∷ entry 3 WaitKind.SendNil 23 3 ∷ []; kept = 2; reclaimed = 0; objects = 0 } ∷ []
+    record {
+      number = 1;
+      marked = 0;
+      reported = entry 2 WaitKind.SelectNone 11 1 ∷ entry 3 WaitKind.SendNil 23 3 ∷ [];
+      kept = 2;
+      reclaimed = 0;
+      objects = 0;
+    } ∷ []
 unfolding reach live_list
 empty_waits = refl
 
@@ -130,7 +176,8 @@ empty_waits = refl
 abbrev holding : Code
 holding =
     code_with (Value.Nil ∷ [])
-    (function 0 0 1 (Instr.NewMutex ∷ Instr.StoreGlobal 0 ∷ (new_channel 0 ++ (Instr.Go 1 1 ∷ Instr.Go 2 0 ∷ Instr.Collect ∷ Instr.Return ∷ [])))
+    (function 0 0 1 (Instr.NewMutex ∷ Instr.StoreGlobal 0
+    ∷ (new_channel 0 ++ (Instr.Go 1 1 ∷ Instr.Go 2 0 ∷ Instr.Collect ∷ Instr.Return ∷ [])))
     ∷ function 1 1 11 (Instr.LoadGlobal 0 ∷ Instr.Lock ∷ Instr.Load 0 ∷ Instr.Receive ∷ Instr.Drop ∷ Instr.Return ∷ [])
     ∷ function 0 0 21 (Instr.LoadGlobal 0 ∷ Instr.Lock ∷ Instr.Return ∷ [])
     ∷ [])
@@ -139,7 +186,15 @@ abbrev holding_turns : List ℕ
 holding_turns = lowest 6 ++ (second 4 ++ (second 2 ++ lowest 1))
 
 -- the one that waits for it is not reported, and the mutex stays locked
-pub holder_is_taken_back : reports holding holding_turns true ≡ record { number = 1; marked = 1; reported = entry 2 WaitKind.Receive 14 5 ∷ []; kept = 0; reclaimed = 1; objects = 1 } ∷ []
+pub holder_is_taken_back : reports holding holding_turns true
+    ≡ record {
+      number = 1;
+      marked = 1;
+      reported = entry 2 WaitKind.Receive 14 5 ∷ [];
+      kept = 0;
+      reclaimed = 1;
+      objects = 1;
+    } ∷ []
 unfolding reach live_list
 holder_is_taken_back = refl
 
@@ -151,7 +206,8 @@ mutex_stays_locked = refl
 abbrev finalised : Code
 finalised =
     code_with []
-    (function 0 0 1 (Instr.NewStruct 0 ∷ Instr.Dup ∷ Instr.SetFinalizer 2 ∷ (new_channel 0 ++ (Instr.Go 1 2 ∷ Instr.Collect ∷ Instr.Return ∷ [])))
+    (function 0 0 1 (Instr.NewStruct 0 ∷ Instr.Dup ∷ Instr.SetFinalizer 2
+    ∷ (new_channel 0 ++ (Instr.Go 1 2 ∷ Instr.Collect ∷ Instr.Return ∷ [])))
     ∷ function 2 2 11 (Instr.Load 1 ∷ Instr.Receive ∷ Instr.Drop ∷ Instr.Return ∷ [])
     ∷ function 1 1 21 (Instr.Return ∷ [])
     ∷ [])
@@ -159,7 +215,15 @@ finalised =
 abbrev finalised_turns : List ℕ
 finalised_turns = lowest 6 ++ (second 2 ++ lowest 1)
 
-pub finalised_is_kept : reports finalised finalised_turns true ≡ record { number = 1; marked = 0; reported = entry 2 WaitKind.Receive 12 6 ∷ []; kept = 1; reclaimed = 0; objects = 2 } ∷ []
+pub finalised_is_kept : reports finalised finalised_turns true
+    ≡ record {
+      number = 1;
+      marked = 0;
+      reported = entry 2 WaitKind.Receive 12 6 ∷ [];
+      kept = 1;
+      reclaimed = 0;
+      objects = 2;
+    } ∷ []
 unfolding reach live_list
 finalised_is_kept = refl
 
@@ -171,7 +235,9 @@ finaliser_is_not_queued = refl
 abbrev sharing : Code
 sharing =
     code_with (Value.Nil ∷ [])
-    (function 0 0 1 (Instr.NewStruct 0 ∷ Instr.StoreGlobal 0 ∷ Instr.LoadGlobal 0 ∷ (new_channel 0 ++ (Instr.Go 1 2 ∷ Instr.Collect ∷ Instr.LoadGlobal 0 ∷ Instr.SetFinalizer 2 ∷ Instr.Nil ∷ Instr.StoreGlobal 0 ∷ Instr.Collect ∷ Instr.Return ∷ [])))
+    (function 0 0 1 (Instr.NewStruct 0 ∷ Instr.StoreGlobal 0 ∷ Instr.LoadGlobal 0
+    ∷ (new_channel 0 ++ (Instr.Go 1 2 ∷ Instr.Collect ∷ Instr.LoadGlobal 0 ∷ Instr.SetFinalizer 2 ∷ Instr.Nil
+    ∷ Instr.StoreGlobal 0 ∷ Instr.Collect ∷ Instr.Return ∷ [])))
     ∷ function 2 2 21 (Instr.Load 1 ∷ Instr.Receive ∷ Instr.Drop ∷ Instr.Return ∷ [])
     ∷ function 1 1 31 (Instr.Return ∷ [])
     ∷ [])
@@ -180,7 +246,14 @@ abbrev sharing_turns : List ℕ
 sharing_turns = lowest 6 ++ (second 2 ++ lowest 6)
 
 pub sharer_is_kept : reports sharing sharing_turns true ≡
-    record { number = 1; marked = 1; reported = entry 2 WaitKind.Receive 22 6 ∷ []; kept = 1; reclaimed = 0; objects = 2 }
+    record {
+      number = 1;
+      marked = 1;
+      reported = entry 2 WaitKind.Receive 22 6 ∷ [];
+      kept = 1;
+      reclaimed = 0;
+      objects = 2;
+    }
     ∷ record { number = 2; marked = 0; reported = []; kept = 1; reclaimed = 0; objects = 2 } ∷ []
 unfolding reach live_list
 sharer_is_kept = refl
@@ -194,14 +267,17 @@ abbrev reviving : Code
 reviving =
     code_with []
     (function 0 0 1 (Instr.Call 1 0 ∷ Instr.Collect ∷ Instr.Collect ∷ Instr.Return ∷ [])
-    ∷ function 0 0 11 (Instr.NewStruct 0 ∷ Instr.Dup ∷ (new_channel 0 ++ (Instr.SetField 0 ∷ Instr.Dup ∷ Instr.SetFinalizer 2 ∷ Instr.Field 0 ∷ Instr.Go 3 1 ∷ Instr.Return ∷ [])))
+    ∷ function 0 0 11 (Instr.NewStruct 0 ∷ Instr.Dup
+    ∷ (new_channel 0 ++ (Instr.SetField 0 ∷ Instr.Dup ∷ Instr.SetFinalizer 2 ∷ Instr.Field 0 ∷ Instr.Go 3 1
+    ∷ Instr.Return ∷ [])))
     ∷ function 1 1 31 (Instr.Load 0 ∷ Instr.Field 0 ∷ push 9 ∷ Instr.Send ∷ Instr.Return ∷ [])
     ∷ function 1 1 41 (Instr.Load 0 ∷ Instr.Receive ∷ Instr.Print 1 ∷ Instr.Return ∷ [])
     ∷ [])
 
 -- it is queued and sends; then nothing is left
 abbrev reviving_turns : List ℕ
-reviving_turns = lowest 11 ++ (second 2 ++ (lowest 1 ++ (lowest 5 ++ (third 1 ++ (lowest 1 ++ (second 1 ++ lowest 1))))))
+reviving_turns = lowest 11 ++ (second 2 ++
+    (lowest 1 ++ (lowest 5 ++ (third 1 ++ (lowest 1 ++ (second 1 ++ lowest 1))))))
 
 pub revived_sends : (real_run reviving (turns reviving_turns) true).output ≡ 57 ∷ 10 ∷ []
 unfolding reach live_list digits
@@ -221,7 +297,10 @@ queue_is_live = refl
 
 -- the live objects at the collection of one goroutine's code
 abbrev marked : List Instr → ℕ → List ℕ
-marked main n = live_objects (after (code_with (Value.Nil ∷ []) (function 0 1 1 main ∷ function 1 1 11 (Instr.Return ∷ []) ∷ function 0 0 21 (Instr.Defer 3 0 ∷ Instr.NewStruct 0 ∷ Instr.ReturnValue ∷ []) ∷ function 0 0 31 (Instr.Collect ∷ Instr.Return ∷ []) ∷ [])) (lowest n))
+marked main n = live_objects (after (code_with (Value.Nil ∷ [])
+    (function 0 1 1 main ∷ function 1 1 11 (Instr.Return ∷ [])
+    ∷ function 0 0 21 (Instr.Defer 3 0 ∷ Instr.NewStruct 0 ∷ Instr.ReturnValue ∷ [])
+    ∷ function 0 0 31 (Instr.Collect ∷ Instr.Return ∷ []) ∷ [])) (lowest n))
 
 -- what a slot, an operand, a global, and an argument of a deferred call refer to is live; what was dropped is not
 pub slot_is_live : marked (Instr.NewStruct 0 ∷ Instr.Store 0 ∷ []) 2 ≡ 1 ∷ []
@@ -267,7 +346,8 @@ abbrev waiting : Code
 waiting =
     code_with (Value.Nil ∷ [])
     (function 0 0 1 (new_channel 0 ++ (Instr.StoreGlobal 0 ∷ Instr.Go 1 0 ∷ Instr.Collect ∷ Instr.Return ∷ []))
-    ∷ function 0 0 11 (Instr.LoadGlobal 0 ∷ Instr.NewStruct 0 ∷ (new_channel 0 ++ (Instr.Select (case CaseKind.Send 5 ∷ case CaseKind.Take 5 ∷ []) None ∷ Instr.Return ∷ [])))
+    ∷ function 0 0 11 (Instr.LoadGlobal 0 ∷ Instr.NewStruct 0
+    ∷ (new_channel 0 ++ (Instr.Select (case CaseKind.Send 5 ∷ case CaseKind.Take 5 ∷ []) None ∷ Instr.Return ∷ [])))
     ∷ [])
 
 pub waits_are_references : reports waiting (lowest 4 ++ (second 5 ++ lowest 1)) true ≡ quiet 1 3 3 ∷ []
@@ -280,13 +360,22 @@ with_masks masks fn = record fn { live = masks }
 
 abbrev in_slot : List ℕ → Code
 in_slot masks =
-    code_with [] (with_masks masks (function 0 1 1 (new_channel 0 ++ (Instr.Store 0 ∷ Instr.Load 0 ∷ Instr.Go 1 1 ∷ Instr.Collect ∷ Instr.Return ∷ [])))
+    code_with [] (with_masks masks (function 0 1 1
+    (new_channel 0 ++ (Instr.Store 0 ∷ Instr.Load 0 ∷ Instr.Go 1 1 ∷ Instr.Collect ∷ Instr.Return ∷ [])))
     ∷ function 1 1 11 (Instr.Load 0 ∷ Instr.Receive ∷ Instr.Drop ∷ Instr.Return ∷ []) ∷ [])
 
 abbrev slot_turns : List ℕ
 slot_turns = lowest 5 ++ (second 2 ++ lowest 1)
 
-pub dead_slot_lets_go : reports (in_slot (0 ∷ 0 ∷ 0 ∷ 1 ∷ 0 ∷ 0 ∷ 0 ∷ [])) slot_turns false ≡ record { number = 1; marked = 0; reported = entry 2 WaitKind.Receive 12 5 ∷ []; kept = 1; reclaimed = 0; objects = 1 } ∷ []
+pub dead_slot_lets_go : reports (in_slot (0 ∷ 0 ∷ 0 ∷ 1 ∷ 0 ∷ 0 ∷ 0 ∷ [])) slot_turns false
+    ≡ record {
+      number = 1;
+      marked = 0;
+      reported = entry 2 WaitKind.Receive 12 5 ∷ [];
+      kept = 1;
+      reclaimed = 0;
+      objects = 1;
+    } ∷ []
 unfolding reach live_list
 dead_slot_lets_go = refl
 

@@ -34,7 +34,9 @@ pub nothing_happens_after : (after code (lowest 4 ++ (second 2 ++ (lowest 3 ++ l
 nothing_happens_after = refl
 
 -- what a blocked receiver is given lies on top of what it had
-pub received_on_top : (after (code_with [] (function 0 0 1 (new_channel 0 ++ (Instr.Dup ∷ Instr.Go 1 1 ∷ push 7 ∷ Instr.Send ∷ Instr.Return ∷ [])) ∷ function 1 1 11 (push 9 ∷ Instr.Load 0 ∷ Instr.ReceiveOk ∷ Instr.Print 3 ∷ Instr.Return ∷ []) ∷ []))
+pub received_on_top : (after (code_with []
+    (function 0 0 1 (new_channel 0 ++ (Instr.Dup ∷ Instr.Go 1 1 ∷ push 7 ∷ Instr.Send ∷ Instr.Return ∷ []))
+    ∷ function 1 1 11 (push 9 ∷ Instr.Load 0 ∷ Instr.ReceiveOk ∷ Instr.Print 3 ∷ Instr.Return ∷ []) ∷ []))
     (lowest 4 ++ (second 3 ++ (lowest 2 ++ second 1)))).output ≡ 57 ∷ 32 ∷ 55 ∷ 32 ∷ 116 ∷ 114 ∷ 117 ∷ 101 ∷ 10 ∷ []
 unfolding digits
 received_on_top = refl

@@ -24,14 +24,17 @@ unfolding digits
 deferred_calls_run = refl
 
 -- its frame has no operands left
-pub panic_empties_operands : option_map (λ r. map (λ f. f.operands) r.frames) (find 1 (after deferring (lowest 6)).goroutines) ≡ Some ([] ∷ [] ∷ [])
+pub panic_empties_operands : option_map (λ r. map (λ f. f.operands) r.frames)
+    (find 1 (after deferring (lowest 6)).goroutines) ≡ Some ([] ∷ [] ∷ [])
 panic_empties_operands = refl
 
 -- nor has the caller's, in which it goes on
 abbrev calling : Code
-calling = code_with [] (function 0 0 1 (push 1 ∷ Instr.Defer 0 0 ∷ Instr.Call 1 0 ∷ []) ∷ function 0 0 11 (Instr.Nil ∷ Instr.Field 0 ∷ []) ∷ [])
+calling = code_with [] (function 0 0 1 (push 1 ∷ Instr.Defer 0 0 ∷ Instr.Call 1 0 ∷ [])
+    ∷ function 0 0 11 (Instr.Nil ∷ Instr.Field 0 ∷ []) ∷ [])
 
-pub caller_unwinds : option_map (λ r. map (λ f. f.operands) r.frames) (find 1 (after calling (lowest 6)).goroutines) ≡ Some ([] ∷ [])
+pub caller_unwinds : option_map (λ r. map (λ f. f.operands) r.frames) (find 1 (after calling (lowest 6)).goroutines)
+    ≡ Some ([] ∷ [])
 caller_unwinds = refl
 
 pub panic_ends : ending (after deferring (lowest 16)) ≡ Some (panicked PanicKind.DivideByZero 1 33)
@@ -50,7 +53,8 @@ pub value_is_handed_back : (after returning (lowest 12)).output ≡ 53 ∷ 10 �
 unfolding digits
 value_is_handed_back = refl
 
-pub deferred_value_is_lost : option_map (λ r. map (λ f. f.operands) r.frames) (find 1 (after returning (lowest 10)).goroutines) ≡ Some ([] ∷ [] ∷ [])
+pub deferred_value_is_lost : option_map (λ r. map (λ f. f.operands) r.frames)
+    (find 1 (after returning (lowest 10)).goroutines) ≡ Some ([] ∷ [] ∷ [])
 deferred_value_is_lost = refl
 
 -- a panic in a deferred call takes the place of the earlier one
@@ -65,21 +69,27 @@ pub later_panic_counts : ending (after replacing (lowest 8)) ≡ Some (panicked 
 later_panic_counts = refl
 
 -- a panic with its own text
-pub panic_with_text : ending (after (record (straight (Instr.Text 1 ∷ Instr.Panic ∷ [])) { texts = [] ∷ (104 ∷ 105 ∷ []) ∷ [] }) (lowest 3)) ≡ Some (panicked (PanicKind.Custom 1) 1 2)
+pub panic_with_text : ending (after (record
+    (straight (Instr.Text 1 ∷ Instr.Panic ∷ [])) { texts = [] ∷ (104 ∷ 105 ∷ []) ∷ [] }) (lowest 3)) ≡ Some
+    (panicked (PanicKind.Custom 1) 1 2)
 panic_with_text = refl
 
 -- nil if an object is wanted panics
 pub nil_pointers : map (λ i. ending (after (straight (Instr.Nil ∷ i ∷ [])) (lowest 3)))
-    (Instr.Field 0 ∷ Instr.Lock ∷ Instr.Unlock ∷ Instr.GroupWait ∷ Instr.RwLock ∷ Instr.RwUnlock ∷ Instr.ReadLock ∷ Instr.ReadUnlock ∷ Instr.CondMutex ∷ Instr.CondWait ∷ Instr.CondSignal ∷ Instr.CondBroadcast ∷ Instr.SetFinalizer 0 ∷ [])
+    (Instr.Field 0 ∷ Instr.Lock ∷ Instr.Unlock ∷ Instr.GroupWait ∷ Instr.RwLock ∷ Instr.RwUnlock ∷ Instr.ReadLock
+    ∷ Instr.ReadUnlock ∷ Instr.CondMutex ∷ Instr.CondWait ∷ Instr.CondSignal ∷ Instr.CondBroadcast
+    ∷ Instr.SetFinalizer 0 ∷ [])
     ≡ replicate 13 (Some (panicked PanicKind.NilPointer 1 2))
 nil_pointers = refl
 
-pub nil_pointers_with_operand : map (λ i. ending (after (straight (Instr.Nil ∷ push 1 ∷ i ∷ [])) (lowest 4))) (Instr.SetField 0 ∷ Instr.GroupAdd ∷ []) ≡ replicate 2 (Some (panicked PanicKind.NilPointer 1 3))
+pub nil_pointers_with_operand : map (λ i. ending (after (straight (Instr.Nil ∷ push 1 ∷ i ∷ [])) (lowest 4)))
+    (Instr.SetField 0 ∷ Instr.GroupAdd ∷ []) ≡ replicate 2 (Some (panicked PanicKind.NilPointer 1 3))
 nil_pointers_with_operand = refl
 
 -- an index that is out of range panics with it
 abbrev indexing : Code
-indexing = code_with [] (function 0 0 1 (push 2 ∷ Instr.NewSlice (number 0) ∷ Instr.Int (negsuc 0) ∷ Instr.Index ∷ []) ∷ [])
+indexing = code_with [] (function 0 0 1 (push 2 ∷ Instr.NewSlice (number 0) ∷ Instr.Int (negsuc 0) ∷ Instr.Index ∷ [])
+    ∷ [])
 
 pub index_panics : ending (after indexing (lowest 5)) ≡ Some (panicked (PanicKind.Index (negsuc 0) 2) 1 4)
 index_panics = refl

@@ -24,7 +24,14 @@ lines_from line (i ∷ is) = record { instr = i; line = line } ∷ lines_from (l
 
 -- a function with so many parameters and slots, whose first instruction has this line
 abbrev pub function : ℕ → ℕ → ℕ → List Instr → Function
-function params slots line is = record { params = params; slots = slots; depth = 8; line = line; body = lines_from line is; live = [] }
+function params slots line is = record {
+  params = params;
+  slots = slots;
+  depth = 8;
+  line = line;
+  body = lines_from line is;
+  live = [];
+}
 
 -- an integer, and its instruction
 abbrev pub number : ℕ → Value
@@ -82,4 +89,11 @@ reports code cs recover = book_of (stops code (turns cs)) recover (sets_finalise
 
 -- a report's numbers, if nothing was reported
 abbrev pub quiet : ℕ → ℕ → ℕ → Report
-quiet k marked objects = record { number = k; marked = marked; reported = []; kept = 0; reclaimed = 0; objects = objects }
+quiet k marked objects = record {
+  number = k;
+  marked = marked;
+  reported = [];
+  kept = 0;
+  reclaimed = 0;
+  objects = objects;
+}

@@ -15,7 +15,8 @@ returns-then-not-marked_here c =
       | inl low ↦ (c.is_marked-marked_here.ensures.node low).1 (c.requires.flags.flags p low least)
       | inr high ↦
           let s : ℕ = p - node_count g in
-          let low : s < sleeper_count g = omega (arith, high, level_below g c.args.walk.now c.requires.levels p c.requires.reached) in
+          let low : s < sleeper_count g = omega
+          (arith, high, level_below g c.args.walk.now c.requires.levels p c.requires.reached) in
           let is : p ≡ node_count g + s = omega (arith, high) in
           (c.is_marked-marked_here.ensures.sleeper high).1 (c.requires.flags.awake s low (subst (Least g) is least))
     ] in

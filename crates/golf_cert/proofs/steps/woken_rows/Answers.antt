@@ -8,21 +8,28 @@ use Rattle.golf_cert.proofs.StepLaws.{HasWoken-none, HasWoken-more}
 use Rattle.golf_cert.proofs.steps.woken_rows.Goals as goal
 
 pub loop-sleeper-init : goal.loop-sleeper-init
-loop-sleeper-init c = HasWoken-none c.args.graph.now c.in_ok-rows.rows (c.in_ok-rows.ensures.length ∙ c.nodes-nodes.ensures.count) c.in_ok-rows.ensures.empty
+loop-sleeper-init c = HasWoken-none c.args.graph.now c.in_ok-rows.rows
+    (c.in_ok-rows.ensures.length ∙ c.nodes-nodes.ensures.count) c.in_ok-rows.ensures.empty
 
 pub add_to_all-requires : goal.add_to_all-requires
 add_to_all-requires c =
     let g = c.args.graph.now in
-    let nodes : Every (λ n. n < length c.loop-sleeper.rows) (sleeper_waits g c.loop-sleeper.sleeper) = subst (λ (k : ℕ). Every (λ n. n < k) (sleeper_waits g c.loop-sleeper.sleeper)) (sym c.loop-sleeper.invariant.row_count) (waits-nodes g c.nodes-nodes.ensures.in_range c.loop-sleeper.sleeper) in
+    let nodes : Every (λ n. n < length c.loop-sleeper.rows) (sleeper_waits g c.loop-sleeper.sleeper) =
+    subst (λ (k : ℕ). Every (λ n. n < k) (sleeper_waits g c.loop-sleeper.sleeper))
+    (sym c.loop-sleeper.invariant.row_count)
+    (waits-nodes g c.nodes-nodes.ensures.in_range c.loop-sleeper.sleeper) in
     subst (λ (l : List ℕ). Every (λ n. n < length c.loop-sleeper.rows) l) (sym c.waits.ensures) nodes
 
 pub loop-sleeper-preserved : goal.loop-sleeper-preserved
 loop-sleeper-preserved c =
     let g = c.args.graph.now in
     let s : ℕ = c.loop-sleeper.sleeper in
-    HasWoken-more g s c.loop-sleeper.rows c.add_to_all.new.rows c.in_ok-add_to_all.ensures.length c.loop-sleeper.invariant
-    (subst (λ (m : ℕ). AddsTo (λ n. In n (sleeper_waits g s)) (m + s) c.loop-sleeper.rows c.add_to_all.new.rows) c.nodes-nodes.ensures.count
-    (subst (λ (l : List ℕ). AddsTo (λ n. In n l) (c.nodes-nodes.result + s) c.loop-sleeper.rows c.add_to_all.new.rows) c.waits.ensures c.in_ok-add_to_all.ensures.ok))
+    HasWoken-more g s c.loop-sleeper.rows c.add_to_all.new.rows c.in_ok-add_to_all.ensures.length
+    c.loop-sleeper.invariant
+    (subst (λ (m : ℕ). AddsTo (λ n. In n (sleeper_waits g s)) (m + s) c.loop-sleeper.rows c.add_to_all.new.rows)
+    c.nodes-nodes.ensures.count
+    (subst (λ (l : List ℕ). AddsTo (λ n. In n l) (c.nodes-nodes.result + s) c.loop-sleeper.rows c.add_to_all.new.rows)
+    c.waits.ensures c.in_ok-add_to_all.ensures.ok))
 
 pub returns : goal.returns
 returns c =

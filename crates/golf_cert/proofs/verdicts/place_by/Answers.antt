@@ -9,4 +9,5 @@ pub returns-in-Root : goal.returns-in-Root
 returns-in-Root c =
     let g = c.args.graph.now in
     subst (λ (l : Link). TellsPlace g (IsSet c.args.placed.now) l c.root_by.result) (sym c.in-Root.is)
-    (root_tells g (IsSet c.args.placed.now) c.args.roots.now c.in-Root.node c.root_by.result c.places_in-places.ensures.in_range c.requires.roots c.root_by.ensures)
+    (root_tells g (IsSet c.args.placed.now) c.args.roots.now c.in-Root.node c.root_by.result
+    c.places_in-places.ensures.in_range c.requires.roots c.root_by.ensures)

@@ -28,7 +28,13 @@ returns c =
     let h : FrameView = next st.frame (drop 1 st.frame.operands) in
     let x : Object = Object.Chan (record ch { closed = true }) in
     let rest : List Change = Change.WakeAll o (Waking.Closing ch.zero) ∷ [] in
-    let is : act (actor_of st line) ≡ Change.Replace o x ∷ (stands (actor_of st line) h ++ rest) = grind (arith, common_steps) in (
-      (grind (arith, common_steps), ap (runs g) c.wake_all.ensures ∙ runs-all g c.args.object.0 (waking_of (k.Closing c.in-Some.channel.now.zero)) c.proceed.new.state c.proceed.ensures.runs),
+    let is : act (actor_of st line) ≡ Change.Replace o x ∷ (stands (actor_of st line) h ++ rest) =
+    grind (arith, common_steps) in (
+      (
+        grind (arith, common_steps),
+        ap (runs g) c.wake_all.ensures
+            ∙ runs-all g c.args.object.0 (waking_of (k.Closing c.in-Some.channel.now.zero)) c.proceed.new.state
+            c.proceed.ensures.runs,
+      ),
       done-replacing g c.args.acting.after line s st act h rest refl refl o x is,
     )

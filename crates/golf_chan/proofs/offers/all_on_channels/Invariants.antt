@@ -5,4 +5,5 @@ use Rattle.golf_chan.proofs.offers.all_on_channels.Given as goal
 
 -- those so far are
 abbrev pub invariant-loop-offer : goal.invariant-loop-offer
-invariant-loop-offer l = all_on_channels l.state (plain_offers l.offers) ≡ all_on_channels l.state (plain_offers (drop l.offer-index l.offers))
+invariant-loop-offer l = all_on_channels l.state (plain_offers l.offers) ≡ all_on_channels l.state
+    (plain_offers (drop l.offer-index l.offers))

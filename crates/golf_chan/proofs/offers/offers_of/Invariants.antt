@@ -9,7 +9,8 @@ abbrev pub invariant-loop-at : goal.invariant-loop-at
 invariant-loop-at l = record {
   cases : l.at ≤ length l.cases;
   operands : l.end ≤ length l.operands;
-  taken : offers_of (drop l.at l.cases) (reverse l.operands) ≡ Some (plain_offers (reverse l.offers), reverse (take l.end l.operands));
+  taken : offers_of (drop l.at l.cases) (reverse l.operands) ≡ Some
+      (plain_offers (reverse l.offers), reverse (take l.end l.operands));
 }
 
 abbrev pub decreases-loop-at : goal.decreases-loop-at

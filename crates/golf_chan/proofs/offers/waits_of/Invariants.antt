@@ -5,4 +5,5 @@ use Rattle.golf_chan.proofs.offers.waits_of.Given as goal
 
 -- those so far, and those that are left
 abbrev pub invariant-loop-offer : goal.invariant-loop-offer
-invariant-loop-offer l = l.waits ++ offered_waits (plain_offers (drop l.offer-index l.offers)) ≡ offered_waits (plain_offers l.offers)
+invariant-loop-offer l = l.waits ++ offered_waits (plain_offers (drop l.offer-index l.offers)) ≡ offered_waits
+    (plain_offers l.offers)

@@ -31,7 +31,8 @@ wake-requires c =
     let x = c.in-Some.waiting in
     let t = replace c.args.object.0 c.take_first.new.object c.proceed_with.new.state in
     let m = first c.args.object.0 Side.Send s.goroutines in
-    let b = gone-beside c.requires.stands c.args.acting.line c.args.receiving.target c.args.receiving.taken (values_of c.received-given.result) c.in_ok-proceed_with.ensures.ok t refl in
+    let b = gone-beside c.requires.stands c.args.acting.line c.args.receiving.target c.args.receiving.taken
+    (values_of c.received-given.result) c.in_ok-proceed_with.ensures.ok t refl in
     served-blocked s m x (served-from s m x c.in-Some.ensures.first c.in-Some.ensures.blocked) t b
 
 pub returns-in-Some-clause-ok : goal.returns-in-Some-clause-ok
@@ -42,12 +43,15 @@ returns-in-Some-clause-ok c =
     let x = c.in-Some.waiting in
     let t = replace o c.take_first.new.object c.proceed_with.new.state in
     let m = first o Side.Send s.goroutines in
-    let now = gone-on c.requires.stands c.args.acting.line c.args.receiving.target c.args.receiving.taken (values_of c.received-given.result) c.in_ok-proceed_with.ensures.ok in
-    let b = gone-beside c.requires.stands c.args.acting.line c.args.receiving.target c.args.receiving.taken (values_of c.received-given.result) c.in_ok-proceed_with.ensures.ok t refl in
+    let now = gone-on c.requires.stands c.args.acting.line c.args.receiving.target c.args.receiving.taken
+    (values_of c.received-given.result) c.in_ok-proceed_with.ensures.ok in
+    let b = gone-beside c.requires.stands c.args.acting.line c.args.receiving.target c.args.receiving.taken
+    (values_of c.received-given.result) c.in_ok-proceed_with.ensures.ok t refl in
     let w = served-from s m x c.in-Some.ensures.first c.in-Some.ensures.blocked in
     let e = c.wake.ensures ∙ served-woken s m x w t b (k.Served x.wait v.Nothing) in
     let ch = full-channel c.args.value (find o s.objects) c.requires.buffered in
-    let was : Some c.object_mut.result.now ≡ Some (Object.Chan ch.0) = sym c.object_mut.ensures.value ∙ ap (λ (t : State). find o t.objects) now ∙ ch.2 in
+    let was : Some c.object_mut.result.now ≡ Some (Object.Chan ch.0) = sym c.object_mut.ensures.value
+    ∙ ap (λ (t : State). find o t.objects) now ∙ ch.2 in
     let old : c.object_mut.result.now ≡ Object.Chan ch.0 = cc in
     let new : c.take_first.new.object ≡ Object.Chan (record ch.0 { buffer = ch.1 ++ w.waiter.wait.value ∷ [] }) =
     c.take_first.ensures ∙ ap (unbuffered (x.wait.value ∷ [])) old
@@ -60,7 +64,12 @@ returns-in-Some-clause-ok c =
     let h : FrameView = given (after (actor_of st line)) (received c.args.receiving.with_ok c.args.value true) in
     let y : Object = Object.Chan (record ch.0 { buffer = ch.1 ++ w.waiter.wait.value ∷ [] }) in
     let rest : List Change = served w.waiter [] ∷ [] in
-    let is : act (actor_of st line) ≡ Change.Replace o y ∷ (stands (actor_of st line) h ++ rest) = grind (arith, common_steps, w.is, ch.2, ch.3) in (
-      (grind (arith, common_steps, e, w.is, w.told, ch.2, ch.3, new), ap (runs g) c.wake.ensures ∙ runs-woken g x.goroutine.0 (k.Served x.wait v.Nothing) t c.in_ok-proceed_with.ensures.runs),
+    let is : act (actor_of st line) ≡ Change.Replace o y ∷ (stands (actor_of st line) h ++ rest) =
+    grind (arith, common_steps, w.is, ch.2, ch.3) in (
+      (
+        grind (arith, common_steps, e, w.is, w.told, ch.2, ch.3, new),
+        ap (runs g) c.wake.ensures
+            ∙ runs-woken g x.goroutine.0 (k.Served x.wait v.Nothing) t c.in_ok-proceed_with.ensures.runs,
+      ),
       done-replacing g c.args.acting.after line s st act h rest refl refl o y is,
     )

@@ -26,7 +26,8 @@ wake-requires c =
     let x = c.in-Some.waiting in
     let t = c.proceed_with.new.state in
     let m = first c.args.object.0 Side.Send s.goroutines in
-    let b = gone-beside c.requires.stands c.args.acting.line c.args.receiving.target c.args.receiving.taken (values_of c.received-given.result) c.in_ok-proceed_with.ensures.ok t refl in
+    let b = gone-beside c.requires.stands c.args.acting.line c.args.receiving.target c.args.receiving.taken
+    (values_of c.received-given.result) c.in_ok-proceed_with.ensures.ok t refl in
     served-blocked s m x (served-from s m x c.in-Some.ensures.first c.in-Some.ensures.blocked) t b
 
 pub returns-in-Some-clause-ok : goal.returns-in-Some-clause-ok
@@ -37,7 +38,8 @@ returns-in-Some-clause-ok c =
     let x = c.in-Some.waiting in
     let t = c.proceed_with.new.state in
     let m = first o Side.Send s.goroutines in
-    let b = gone-beside c.requires.stands c.args.acting.line c.args.receiving.target c.args.receiving.taken (values_of c.received-given.result) c.in_ok-proceed_with.ensures.ok t refl in
+    let b = gone-beside c.requires.stands c.args.acting.line c.args.receiving.target c.args.receiving.taken
+    (values_of c.received-given.result) c.in_ok-proceed_with.ensures.ok t refl in
     let w = served-from s m x c.in-Some.ensures.first c.in-Some.ensures.blocked in
     let e = c.wake.ensures ∙ served-woken s m x w t b (k.Served x.wait v.Nothing) in
     let ch = empty-channel c.args.zero (find o s.objects) c.requires.empty in
@@ -47,7 +49,12 @@ returns-in-Some-clause-ok c =
     let act : Actor → List Change = λ a. receives_on a (after a) c.args.receiving.with_ok s o in
     let h : FrameView = given (after (actor_of st line)) (received c.args.receiving.with_ok w.waiter.wait.value true) in
     let rest : List Change = served w.waiter [] ∷ [] in
-    let is : act (actor_of st line) ≡ stands (actor_of st line) h ++ rest = grind (arith, common_steps, w.is, ch.1, ch.2) in (
-      (grind (arith, common_steps, e, w.is, w.told, ch.1, ch.2), ap (runs g) c.wake.ensures ∙ runs-woken g x.goroutine.0 (k.Served x.wait v.Nothing) t c.in_ok-proceed_with.ensures.runs),
+    let is : act (actor_of st line) ≡ stands (actor_of st line) h ++ rest =
+    grind (arith, common_steps, w.is, ch.1, ch.2) in (
+      (
+        grind (arith, common_steps, e, w.is, w.told, ch.1, ch.2),
+        ap (runs g) c.wake.ensures
+            ∙ runs-woken g x.goroutine.0 (k.Served x.wait v.Nothing) t c.in_ok-proceed_with.ensures.runs,
+      ),
       done-standing g c.args.acting.after line s st act h rest refl refl is,
     )

@@ -28,7 +28,8 @@ wake-requires c =
     let t = c.proceed.new.state in
     let m = first c.args.object.0 Side.Receive s.goroutines in
     let b = gone-beside c.requires c.args.acting.line c.args.target c.args.taken [] c.proceed.ensures.state t refl in
-    served-blocked s m x (served-from s m x c.in-Some-first_waiter.ensures.first c.in-Some-first_waiter.ensures.blocked) t b
+    served-blocked s m x (served-from s m x c.in-Some-first_waiter.ensures.first c.in-Some-first_waiter.ensures.blocked)
+    t b
 
 pub returns-in-Some-first_waiter-clause-ok : goal.returns-in-Some-first_waiter-clause-ok
 returns-in-Some-first_waiter-clause-ok c =
@@ -42,11 +43,16 @@ returns-in-Some-first_waiter-clause-ok c =
     let e = c.wake.ensures ∙ served-woken s m x w t b (k.Served x.wait c.received-given.result) in
     let st = c.requires in
     let line = c.args.acting.line in
-    let act : Actor → List Change = λ a. sends_on a (went c.args.target c.args.taken [] a.frame) c.args.value s c.args.object.0 in
+    let act : Actor → List Change = λ a. sends_on a
+    (went c.args.target c.args.taken [] a.frame) c.args.value s c.args.object.0 in
     let h : FrameView = went c.args.target c.args.taken [] st.frame in
     let rest : List Change = served w.waiter (received w.waiter.wait.with_ok c.args.value true) ∷ [] in
     let is : act (actor_of st line) ≡ stands (actor_of st line) h ++ rest = grind (arith, common_steps, w.is) in (
-      (grind (arith, common_steps, e, w.is, w.told), ap (runs g) c.wake.ensures ∙ runs-woken g x.goroutine.0 (k.Served x.wait c.received-given.result) t c.proceed.ensures.runs),
+      (
+        grind (arith, common_steps, e, w.is, w.told),
+        ap (runs g) c.wake.ensures
+            ∙ runs-woken g x.goroutine.0 (k.Served x.wait c.received-given.result) t c.proceed.ensures.runs,
+      ),
       done-standing g c.args.acting.after line s st act h rest refl refl is,
     )
 
@@ -57,4 +63,5 @@ returns-in_err-buffer-clause-err c =
     let p = err_from_is_err_and c.from_residual.result c.from_residual.ensures.1 in
     rw p.1
     (ap (λ (x : Object). record s { objects = put o x s.objects }) c.in_err-buffer.ensures.err
-    ∙ ap (λ es. record s { objects = es }) (put-same o 1 c.object_mut.result.now s.objects c.object_mut.ensures.rises c.object_mut.ensures.value))
+    ∙ ap (λ es. record s { objects = es })
+    (put-same o 1 c.object_mut.result.now s.objects c.object_mut.ensures.rises c.object_mut.ensures.value))

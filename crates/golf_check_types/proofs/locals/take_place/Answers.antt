@@ -14,7 +14,9 @@ returns c = λ n.
       between = c.remove.new.self;
       places = c.pop.new.self;
       key_is = c.in_ok-key.ensures.items_if_clones_equal (λ x y e. e);
-      places_are = popped _ _ c.pop.result c.pop.ensures ∙ ap without_place (c.unwrap_or-own.ensures ∙ ap (unwrap_or c.remove.result) c.new.ensures ∙ ap (λ o. unwrap_or o []) c.remove.ensures.value);
+      places_are = popped _ _ c.pop.result c.pop.ensures
+          ∙ ap without_place (c.unwrap_or-own.ensures ∙ ap (unwrap_or c.remove.result) c.new.ensures
+          ∙ ap (λ o. unwrap_or o []) c.remove.ensures.value);
       removed = c.remove.ensures.updates;
       inserted = c.in_ok-insert.ensures.updates;
     })

@@ -8,5 +8,6 @@ pub returns : goal.returns
 returns c =
     let checked = c.args.checked.now in
     subst (λ (z : Code). IfOk c.code.result (λ code. code ≡ z))
-    (code_is checked.file checked.scope c.as_slice-decls.result.now c.as_slice-facts.result.now c.requires.scope c.as_slice-decls.ensures (c.as_slice-facts.ensures ∙ c.requires.facts))
+    (code_is checked.file checked.scope c.as_slice-decls.result.now c.as_slice-facts.result.now c.requires.scope
+    c.as_slice-decls.ensures (c.as_slice-facts.ensures ∙ c.requires.facts))
     c.code.ensures

@@ -13,7 +13,9 @@ invariant-put_all-loop-x l =
     let t = l.fn.writer.draft.tables.now in
     record {
       tables : l.writer.draft.tables ≡ l.fn.writer.draft.tables;
-      draft : with_piece l.writer.draft (puts l.line (map (λ x. taking t x.value) (drop l.x-index l.fields)) l.writer.facts) ≡ with_piece l.fn.writer.draft (puts l.line (map (λ x. taking t x.value) l.fields) l.fn.writer.facts);
+      draft : with_piece l.writer.draft (puts l.line
+          (map (λ x. taking t x.value) (drop l.x-index l.fields)) l.writer.facts) ≡ with_piece l.fn.writer.draft
+          (puts l.line (map (λ x. taking t x.value) l.fields) l.fn.writer.facts);
     }
 
 abbrev pub invariant-set_all-loop-i : goal.invariant-set_all-loop-i
@@ -21,7 +23,9 @@ invariant-set_all-loop-i l =
     let t = l.fn.writer.draft.tables.now in
     record {
       tables : l.writer.draft.tables ≡ l.fn.writer.draft.tables;
-      draft : with_piece l.writer.draft (elements l.line l.i (pieces (arguments l.line (map (taking t) (drop l.i l.es)) l.writer.facts))) ≡ with_piece l.fn.writer.draft (elements l.line 0 (pieces (arguments l.line (map (taking t) l.es) l.fn.writer.facts)));
+      draft : with_piece l.writer.draft (elements l.line l.i
+          (pieces (arguments l.line (map (taking t) (drop l.i l.es)) l.writer.facts))) ≡ with_piece l.fn.writer.draft
+          (elements l.line 0 (pieces (arguments l.line (map (taking t) l.es) l.fn.writer.facts)));
     }
 
 abbrev pub invariant-arguments-loop-x : goal.invariant-arguments-loop-x
@@ -29,7 +33,9 @@ invariant-arguments-loop-x l =
     let t = l.fn.writer.draft.tables.now in
     record {
       tables : l.writer.draft.tables ≡ l.fn.writer.draft.tables;
-      draft : with_piece l.writer.draft (pushes (arguments l.line (map (taking t) (drop l.x-index l.xs)) l.writer.facts)) ≡ with_piece l.fn.writer.draft (pushes (arguments l.line (map (taking t) l.xs) l.fn.writer.facts));
+      draft : with_piece l.writer.draft (pushes
+          (arguments l.line (map (taking t) (drop l.x-index l.xs)) l.writer.facts)) ≡ with_piece l.fn.writer.draft
+          (pushes (arguments l.line (map (taking t) l.xs) l.fn.writer.facts));
     }
 
 -- what waits goes on with what was written

@@ -5,4 +5,5 @@ use Rattle.golf_code_files.proofs.numbers.giving.Given as goal
 
 abbrev pub invariant-loop-function : goal.invariant-loop-function
 invariant-loop-function l =
-    l.gives ++ map (λ (x : Signature). is_some x.result) (drop l.function-index l.functions) ≡ false ∷ map (λ (x : Signature). is_some x.result) l.functions
+    l.gives ++ map (λ (x : Signature). is_some x.result) (drop l.function-index l.functions) ≡ false
+    ∷ map (λ (x : Signature). is_some x.result) l.functions

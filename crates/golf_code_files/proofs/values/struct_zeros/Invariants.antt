@@ -3,4 +3,5 @@ use Rattle.golf_code_of.specs.Values.{zero_value}
 use Rattle.golf_code_files.proofs.values.struct_zeros.Given as goal
 
 abbrev pub invariant-loop-fields : goal.invariant-loop-fields
-invariant-loop-fields l = l.values ++ map (map zero_value) (drop l.fields-index l.structs) ≡ map (map zero_value) l.structs
+invariant-loop-fields l = l.values ++ map (map zero_value) (drop l.fields-index l.structs) ≡ map
+    (map zero_value) l.structs

@@ -19,8 +19,10 @@ returns-in-Function c =
     let xs = c.args.xs.now in
     let k = c.in-Function.function in
     as_lays c.begin_function.result (begun w.draft.tables.now l begin w.draft.functions c.args.callee.now xs w.facts)
-    (all (pushes (arguments l (map (taking w.draft.tables.now) xs) w.facts) ∷ op l (begin (k + 1) (length xs + 0)) ∷ [])) (skip_all (length xs) w.facts) w c.begin_function.new.writer
-    (function_begun w l begin xs k ∙ ap (λ (m : Operand). after w (begun w.draft.tables.now l begin w.draft.functions m xs w.facts)) (sym c.in-Function.is))
+    (all (pushes (arguments l (map (taking w.draft.tables.now) xs) w.facts) ∷ op l (begin (k + 1) (length xs + 0))
+    ∷ [])) (skip_all (length xs) w.facts) w c.begin_function.new.writer
+    (function_begun w l begin xs k ∙ ap (λ (m : Operand). after w
+    (begun w.draft.tables.now l begin w.draft.functions m xs w.facts)) (sym c.in-Function.is))
     c.begin_function.ensures
 
 pub returns-in-Method : goal.returns-in-Method
@@ -30,7 +32,10 @@ returns-in-Method c =
     let begin = begin_of c.args.begins in
     let xs = c.args.xs.now in
     let k = c.in-Method.function in
-    as_lays c.begin_function-in-Method.result (begun w.draft.tables.now l begin w.draft.functions c.args.callee.now xs w.facts)
-    (all (pushes (arguments l (map (taking w.draft.tables.now) xs) w.facts) ∷ op l (begin (k + 1) (length xs + 1)) ∷ [])) (skip_all (length xs) w.facts) w c.begin_function-in-Method.new.writer
-    (method_begun w l begin xs k ∙ ap (λ (m : Operand). after w (begun w.draft.tables.now l begin w.draft.functions m xs w.facts)) (sym c.in-Method.is))
+    as_lays c.begin_function-in-Method.result
+    (begun w.draft.tables.now l begin w.draft.functions c.args.callee.now xs w.facts)
+    (all (pushes (arguments l (map (taking w.draft.tables.now) xs) w.facts) ∷ op l (begin (k + 1) (length xs + 1))
+    ∷ [])) (skip_all (length xs) w.facts) w c.begin_function-in-Method.new.writer
+    (method_begun w l begin xs k ∙ ap (λ (m : Operand). after w
+    (begun w.draft.tables.now l begin w.draft.functions m xs w.facts)) (sym c.in-Method.is))
     c.begin_function-in-Method.ensures

@@ -11,5 +11,7 @@ invariant-loop-x l =
     record {
       tables : l.writer.draft.tables ≡ l.fn.writer.draft.tables;
       facts : skip_all (length (drop l.x-index l.xs)) l.writer.facts ≡ skip_all (length l.xs) l.fn.writer.facts;
-      draft : with_piece l.writer.draft (pushes (arguments l.line (map (taking t) (drop l.x-index l.xs)) l.writer.facts)) ≡ with_piece l.fn.writer.draft (pushes (arguments l.line (map (taking t) l.xs) l.fn.writer.facts));
+      draft : with_piece l.writer.draft (pushes
+          (arguments l.line (map (taking t) (drop l.x-index l.xs)) l.writer.facts)) ≡ with_piece l.fn.writer.draft
+          (pushes (arguments l.line (map (taking t) l.xs) l.fn.writer.facts));
     }

@@ -14,6 +14,7 @@ invariant-loop-x l =
     record {
       tables : l.writer.draft.tables ≡ l.fn.writer.draft.tables;
       facts : skip_all (length (drop l.x-index l.xs)) l.writer.facts ≡ skip_all (length l.xs) l.fn.writer.facts;
-      types : l.types ++ map (λ (y : Argument). type_given (given y.meaning)) rest ≡ l.fn.types ++ map (λ (y : Argument). type_given (given y.meaning)) whole;
+      types : l.types ++ map (λ (y : Argument). type_given (given y.meaning)) rest ≡ l.fn.types
+          ++ map (λ (y : Argument). type_given (given y.meaning)) whole;
       draft : with_piece l.writer.draft (pushes rest) ≡ with_piece l.fn.writer.draft (pushes whole);
     }

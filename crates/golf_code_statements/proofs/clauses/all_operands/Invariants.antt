@@ -10,5 +10,7 @@ invariant-loop-clause l =
     let t = l.fn.writer.draft.tables.now in
     record {
       tables : l.writer.draft.tables ≡ l.fn.writer.draft.tables;
-      draft : with_piece l.writer.draft (all (operands_all l.line (map (clause_by t) (drop l.clause-index l.clauses)) l.writer.facts)) ≡ with_piece l.fn.writer.draft (all (operands_all l.line (map (clause_by t) l.clauses) l.fn.writer.facts));
+      draft : with_piece l.writer.draft (all
+          (operands_all l.line (map (clause_by t) (drop l.clause-index l.clauses)) l.writer.facts))
+          ≡ with_piece l.fn.writer.draft (all (operands_all l.line (map (clause_by t) l.clauses) l.fn.writer.facts));
     }

@@ -9,6 +9,9 @@ abbrev pub invariant-loop-clause : goal.invariant-loop-clause
 invariant-loop-clause l =
     record {
       number : l.number ≡ l.clause-index;
-      cases : (t : Tables) → l.choice.cases ++ cases_from l.clause-index (map (clause_by t) (drop l.clause-index l.clauses)) ≡ cases_from 0 (map (clause_by t) l.clauses);
-      otherwise : (t : Tables) → first_of l.choice.otherwise (default_from l.clause-index (map (clause_by t) (drop l.clause-index l.clauses))) ≡ default_from 0 (map (clause_by t) l.clauses);
+      cases : (t : Tables) → l.choice.cases ++ cases_from l.clause-index
+          (map (clause_by t) (drop l.clause-index l.clauses)) ≡ cases_from 0 (map (clause_by t) l.clauses);
+      otherwise : (t : Tables) → first_of l.choice.otherwise
+          (default_from l.clause-index (map (clause_by t) (drop l.clause-index l.clauses))) ≡ default_from 0
+          (map (clause_by t) l.clauses);
     }

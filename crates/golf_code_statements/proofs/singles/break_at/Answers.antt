@@ -6,4 +6,5 @@ use Rattle.golf_code_statements.proofs.singles.break_at.Goals as goal
 pub returns : goal.returns
 returns c =
     let w = c.args.writer.now in
-    ap (λ ms. written w.facts (record w.draft { emitted = ms })) c.in_ok-exit.ensures ∙ quiet w (Piece.Exit c.args.line c.args.targets.breaks) w.facts
+    ap (λ ms. written w.facts (record w.draft { emitted = ms })) c.in_ok-exit.ensures
+    ∙ quiet w (Piece.Exit c.args.line c.args.targets.breaks) w.facts

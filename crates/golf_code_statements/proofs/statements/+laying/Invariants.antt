@@ -13,7 +13,9 @@ invariant-all-loop-stmt l =
     let t = l.fn.writer.draft.tables.now in
     record {
       tables : l.writer.draft.tables ≡ l.fn.writer.draft.tables;
-      writer : after l.writer (in_order (map (stmt_by t) (drop l.stmt-index l.stmts)) (around l.writer l.targets) l.writer.facts) ≡ after l.fn.writer (in_order (map (stmt_by t) l.stmts) (around l.fn.writer l.targets) l.fn.writer.facts);
+      writer : after l.writer (in_order (map (stmt_by t) (drop l.stmt-index l.stmts))
+          (around l.writer l.targets) l.writer.facts) ≡ after l.fn.writer
+          (in_order (map (stmt_by t) l.stmts) (around l.fn.writer l.targets) l.fn.writer.facts);
     }
 
 abbrev pub invariant-clauses_at-loop-clause : goal.invariant-clauses_at-loop-clause
@@ -22,7 +24,8 @@ invariant-clauses_at-loop-clause l =
     record {
       left : l.later + l.clause-index ≡ length l.clauses;
       tables : l.writer.draft.tables ≡ l.fn.writer.draft.tables;
-      writer : with_clauses (map (clause_by t) (drop l.clause-index l.clauses)) l.targets l.writer ≡ with_clauses (map (clause_by t) l.clauses) l.targets l.fn.writer;
+      writer : with_clauses (map (clause_by t) (drop l.clause-index l.clauses)) l.targets l.writer ≡ with_clauses
+          (map (clause_by t) l.clauses) l.targets l.fn.writer;
     }
 
 abbrev pub decreases-statement : goal.decreases-statement
@@ -98,7 +101,8 @@ invariant-otherwise_at-branches l =
     let rest = after l.writer (stmt_by t l.last (around l.writer l.inner) l.writer.facts) in
     record {
       tables : l.writer.draft.tables ≡ l.fn.writer.draft.tables;
-      writer : with_parts rest (shut l.blocks rest.draft.emitted) ≡ after l.fn.writer (stmt_by t l.fn.otherwise (around l.fn.writer l.fn.targets) l.fn.writer.facts);
+      writer : with_parts rest (shut l.blocks rest.draft.emitted) ≡ after l.fn.writer
+          (stmt_by t l.fn.otherwise (around l.fn.writer l.fn.targets) l.fn.writer.facts);
       smaller : size-Stmt l.last ≤ size-Stmt l.fn.otherwise;
     }
 

@@ -8,10 +8,12 @@ use Rattle.golf_code_texts.specs.Spines.{Rising}
 use Rattle.golf_code_texts.proofs.expressions.+walking.Given as goal
 
 abbrev pub invariant-exprs-loop-x : goal.invariant-exprs-loop-x
-invariant-exprs-loop-x l = with_texts l.table (flat_map expr_texts (drop l.x-index l.xs)) ≡ with_texts l.fn.table (flat_map expr_texts l.xs)
+invariant-exprs-loop-x l = with_texts l.table (flat_map expr_texts (drop l.x-index l.xs)) ≡ with_texts l.fn.table
+    (flat_map expr_texts l.xs)
 
 abbrev pub invariant-elements-loop-x : goal.invariant-elements-loop-x
-invariant-elements-loop-x l = with_texts l.table (flat_map element_texts (drop l.x-index l.xs)) ≡ with_texts l.fn.table (flat_map element_texts l.xs)
+invariant-elements-loop-x l = with_texts l.table (flat_map element_texts (drop l.x-index l.xs)) ≡ with_texts l.fn.table
+    (flat_map element_texts l.xs)
 
 -- what waits is still to be added
 abbrev pub invariant-expr-loop-node : goal.invariant-expr-loop-node

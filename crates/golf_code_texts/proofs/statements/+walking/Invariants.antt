@@ -8,10 +8,12 @@ use Rattle.golf_code_texts.specs.Adding.{with_texts}
 use Rattle.golf_code_texts.proofs.statements.+walking.Given as goal
 
 abbrev pub invariant-stmts-loop-stmt : goal.invariant-stmts-loop-stmt
-invariant-stmts-loop-stmt l = with_texts l.table (flat_map stmt_texts (drop l.stmt-index l.body)) ≡ with_texts l.fn.table (flat_map stmt_texts l.body)
+invariant-stmts-loop-stmt l = with_texts l.table (flat_map stmt_texts (drop l.stmt-index l.body))
+    ≡ with_texts l.fn.table (flat_map stmt_texts l.body)
 
 abbrev pub invariant-clauses-loop-c : goal.invariant-clauses-loop-c
-invariant-clauses-loop-c l = with_texts l.table (flat_map clause_texts (drop l.c-index l.cs)) ≡ with_texts l.fn.table (flat_map clause_texts l.cs)
+invariant-clauses-loop-c l = with_texts l.table (flat_map clause_texts (drop l.c-index l.cs)) ≡ with_texts l.fn.table
+    (flat_map clause_texts l.cs)
 
 abbrev pub decreases-statement : goal.decreases-statement
 decreases-statement l = 8 * size-Stmt l.stmt.now

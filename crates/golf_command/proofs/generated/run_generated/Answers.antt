@@ -11,7 +11,9 @@ use Rattle.golf_command.proofs.generated.run_generated.Goals as goal
 
 pub returns-in-Err : goal.returns-in-Err
 returns-in-Err g c =
-    memory-tells (CommandLine.Generate c.args.parts) (generated_file c.args.parts) (c.requires.some, c.requires.most) _ _ c.end.result (says _ _ _ _ _ _ s.Memory c.end.result no_memory_text c.end.ensures)
+    memory-tells (CommandLine.Generate c.args.parts) (generated_file c.args.parts)
+    (c.requires.some, c.requires.most) _ _ c.end.result
+    (says _ _ _ _ _ _ s.Memory c.end.result no_memory_text c.end.ensures)
 
 pub returns-in-Ok-read : goal.returns-in-Ok-read
 returns-in-Ok-read g c =
@@ -21,25 +23,41 @@ returns-in-Ok-read g c =
     let code = c.in-Ok-read.code in
     let made = c.surveyed.result in
     let same : bytes ≡ generated_file c.args.parts = c.as_slice.ensures ∙ c.in-Ok.ensures in
-    let within : length bytes ≤ most_bytes = subst (λ (bs : List ℕ). length bs ≤ most_bytes) (sym same) (short c.args.parts c.requires.some c.requires.most) in
+    let within : length bytes ≤ most_bytes =
+    subst (λ (bs : List ℕ). length bs ≤ most_bytes) (sym same)
+    (short c.args.parts c.requires.some c.requires.most) in
     same-file line bytes (generated_file c.args.parts) c.write_texts.result _ _ same
-    (written-tells line bytes (c.requires.some, c.requires.most) has.file code (record { within = within; typed = has.typed }) has.is has.only made c.write_texts.result _ _ (made-of-parts c.args.parts has.file code made c.surveyed.ensures) c.write_texts.ensures)
+    (written-tells line bytes (c.requires.some, c.requires.most) has.file code
+    (record { within = within; typed = has.typed }) has.is has.only made c.write_texts.result _ _
+    (made-of-parts c.args.parts has.file code made c.surveyed.ensures) c.write_texts.ensures)
 
 pub read-requires : goal.read-requires
 read-requires g c =
     let same : c.as_slice.result.now ≡ generated_file c.args.parts = c.as_slice.ensures ∙ c.in-Ok.ensures in
-    let within : length c.as_slice.result.now ≤ most_bytes = subst (λ (bs : List ℕ). length bs ≤ most_bytes) (sym same) (short c.args.parts c.requires.some c.requires.most) in
+    let within : length c.as_slice.result.now ≤ most_bytes =
+    subst (λ (bs : List ℕ). length bs ≤ most_bytes) (sym same)
+    (short c.args.parts c.requires.some c.requires.most) in
     omega arith
 
 pub returns-in-Err-Memory : goal.returns-in-Err-Memory
 returns-in-Err-Memory g c =
-    memory-tells (CommandLine.Generate c.args.parts) (generated_file c.args.parts) (c.requires.some, c.requires.most) _ _ c.end-in-Err-Memory.result (says _ _ _ _ _ _ s.Memory c.end-in-Err-Memory.result no_memory_text c.end-in-Err-Memory.ensures)
+    memory-tells (CommandLine.Generate c.args.parts) (generated_file c.args.parts)
+    (c.requires.some, c.requires.most) _ _ c.end-in-Err-Memory.result
+    (says _ _ _ _ _ _ s.Memory c.end-in-Err-Memory.result no_memory_text c.end-in-Err-Memory.ensures)
 
 pub unreachable-requires : goal.unreachable-requires
-unreachable-requires g c = not-lexical c.args.parts c.requires.some c.requires.most c.as_slice.result.now (c.as_slice.ensures ∙ c.in-Ok.ensures) c.in-Err-Lexical.field-0 c.in-Err-Lexical.ensures.answer _ _ c.in-Err-Lexical.field-0-is
+unreachable-requires g c = not-lexical c.args.parts c.requires.some c.requires.most c.as_slice.result.now
+    (c.as_slice.ensures ∙ c.in-Ok.ensures) c.in-Err-Lexical.field-0 c.in-Err-Lexical.ensures.answer _ _
+    c.in-Err-Lexical.field-0-is
 
 pub unreachable-requires-in-Err-Syntax : goal.unreachable-requires-in-Err-Syntax
-unreachable-requires-in-Err-Syntax g c = not-syntax c.args.parts c.requires.some c.requires.most c.as_slice.result.now (c.as_slice.ensures ∙ c.in-Ok.ensures) c.in-Err-Syntax.field-0 c.in-Err-Syntax.ensures.answer _ c.in-Err-Syntax.field-0-is
+unreachable-requires-in-Err-Syntax g c =
+    not-syntax c.args.parts c.requires.some c.requires.most c.as_slice.result.now
+    (c.as_slice.ensures ∙ c.in-Ok.ensures) c.in-Err-Syntax.field-0 c.in-Err-Syntax.ensures.answer _
+    c.in-Err-Syntax.field-0-is
 
 pub unreachable-requires-in-Err-Untyped : goal.unreachable-requires-in-Err-Untyped
-unreachable-requires-in-Err-Untyped g c = not-untyped c.args.parts c.requires.some c.requires.most c.as_slice.result.now (c.as_slice.ensures ∙ c.in-Ok.ensures) c.in-Err-Untyped.field-0 c.in-Err-Untyped.ensures.answer _ _ c.in-Err-Untyped.field-0-is
+unreachable-requires-in-Err-Untyped g c =
+    not-untyped c.args.parts c.requires.some c.requires.most c.as_slice.result.now
+    (c.as_slice.ensures ∙ c.in-Ok.ensures) c.in-Err-Untyped.field-0 c.in-Err-Untyped.ensures.answer _ _
+    c.in-Err-Untyped.field-0-is

@@ -4,11 +4,21 @@ use Rattle.golf_command.proofs.Fetching.{fails-to-read, is-too-long, lacks-memor
 use Rattle.golf_command.proofs.loading.fetch.Goals as goal
 
 pub returns-in-Ok : goal.returns-in-Ok
-returns-in-Ok g c = (record { told = all-left _ _ c.in-Ok.bytes c.in-Ok.ensures.ok c.in-Ok.ensures.at_end; at_end = c.in-Ok.ensures.at_end; quiet = c.in-Ok.ensures.cause; within = c.in-Ok.ensures.within }, refl, refl)
+returns-in-Ok g c = (
+  record {
+    told = all-left _ _ c.in-Ok.bytes c.in-Ok.ensures.ok c.in-Ok.ensures.at_end;
+    at_end = c.in-Ok.ensures.at_end;
+    quiet = c.in-Ok.ensures.cause;
+    within = c.in-Ok.ensures.within;
+  },
+  refl,
+  refl,
+)
 
 pub returns-in-Err-ReadFault : goal.returns-in-Err-ReadFault
 returns-in-Err-ReadFault g c =
-    fails-to-read (rw c.in-Err-ReadFault.field-0-is at c.in-Err-ReadFault.ensures.cause) c.read_file.ensures.later c.end.ensures
+    fails-to-read (rw c.in-Err-ReadFault.field-0-is at c.in-Err-ReadFault.ensures.cause) c.read_file.ensures.later
+    c.end.ensures
 
 pub returns-in-Err-TooLong : goal.returns-in-Err-TooLong
 returns-in-Err-TooLong g c =

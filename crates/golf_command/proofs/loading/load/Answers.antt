@@ -10,4 +10,5 @@ returns-in-Ok-read-clause-loads g c =
 pub returns-clause-loads : goal.returns-clause-loads
 returns-clause-loads g c =
     let fetched = c.in-Ok.ensures in
-    then-refused c.in-Err-read.refusal fetched.0 fetched.1 fetched.2 (rw c.as_slice.ensures at c.in-Err-read.ensures.answer) c.refuse.ensures
+    then-refused c.in-Err-read.refusal fetched.0 fetched.1 fetched.2
+    (rw c.as_slice.ensures at c.in-Err-read.ensures.answer) c.refuse.ensures

@@ -10,4 +10,5 @@ returns-in-Ok-judge g c =
 pub returns : goal.returns
 returns g c =
     let fetched = c.in-Ok.ensures in
-    then-refused c.in-Err-judge.refusal fetched.0 fetched.1 fetched.2 (rw c.as_slice.ensures at c.in-Err-judge.ensures) c.refuse.ensures
+    then-refused c.in-Err-judge.refusal fetched.0 fetched.1 fetched.2
+    (rw c.as_slice.ensures at c.in-Err-judge.ensures) c.refuse.ensures

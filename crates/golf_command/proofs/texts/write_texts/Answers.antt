@@ -5,4 +5,5 @@ use Rattle.golf_command.proofs.Writing.{none-written}
 use Rattle.golf_command.proofs.texts.write_texts.Goals as goal
 
 pub returns-in-Err : goal.returns-in-Err
-returns-in-Err g c = none-written c.args.made c.in-Err.field-0 c.end.result _ _ c.in-Err.is (says _ _ _ _ _ _ s.Memory c.end.result no_memory_text c.end.ensures)
+returns-in-Err g c = none-written c.args.made c.in-Err.field-0 c.end.result _ _ c.in-Err.is
+    (says _ _ _ _ _ _ s.Memory c.end.result no_memory_text c.end.ensures)

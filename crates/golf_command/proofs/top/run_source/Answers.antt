@@ -14,7 +14,9 @@ returns-in-Ok-run g c =
     let loads = c.in-Ok.ensures.loads in
     let l = loads.1 in
     loaded-tells line tt l loads.3 loads.4
-    (went-tells line l.bytes c.requires loads.0 c.in-Ok.code l.accepts loads.2 l.only (Way.ByOptions c.args.options) refl _ _ c.in-Ok-run.status c.in-Ok-run.ensures.0.status c.in-Ok-run.ensures.0.out c.in-Ok-run.ensures.0.err c.in-Ok-run.ensures.1)
+    (went-tells line l.bytes c.requires loads.0 c.in-Ok.code l.accepts loads.2 l.only
+    (Way.ByOptions c.args.options) refl _ _ c.in-Ok-run.status c.in-Ok-run.ensures.0.status
+    c.in-Ok-run.ensures.0.out c.in-Ok-run.ensures.0.err c.in-Ok-run.ensures.1)
 
 pub returns-in-Err-Write : goal.returns-in-Err-Write
 returns-in-Err-Write g c =
@@ -23,7 +25,8 @@ returns-in-Err-Write g c =
     let l = loads.1 in
     let was = rw c.in-Err-Write.field-0-is at c.in-Err-Write.ensures in
     loaded-tells line tt l loads.3 loads.4
-    (failed-tells line l.bytes c.requires loads.0 c.in-Ok.code l.accepts loads.2 l.only (Way.ByOptions c.args.options) refl _ _ was.done was.later was.cut was.order
+    (failed-tells line l.bytes c.requires loads.0 c.in-Ok.code l.accepts loads.2 l.only
+    (Way.ByOptions c.args.options) refl _ _ was.done was.later was.cut was.order
     (record { prefix = was.prefix; is_prefix = was.is_prefix; got = was.got; failed = was.failed }))
 
 pub returns : goal.returns
@@ -33,4 +36,6 @@ returns g c =
     let l = loads.1 in
     let was = rw c.in-Err-Memory.field-0-is at c.in-Err-Memory.ensures in
     loaded-tells line tt l loads.3 loads.4
-    (stopped-tells line l.bytes c.requires loads.0 c.in-Ok.code l.accepts loads.2 l.only (Way.ByOptions c.args.options) refl _ _ _ _ _ _ _ _ _ _ was.done was.later was.order tt c.end.result was.got was.steady c.end.ensures)
+    (stopped-tells line l.bytes c.requires loads.0 c.in-Ok.code l.accepts loads.2 l.only
+    (Way.ByOptions c.args.options) refl _ _ _ _ _ _ _ _ _ _ was.done was.later was.order tt c.end.result was.got
+    was.steady c.end.ensures)

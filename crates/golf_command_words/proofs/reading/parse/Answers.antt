@@ -5,8 +5,11 @@ use Rattle.golf_command_words.proofs.reading.parse.Goals as goal
 
 pub returns-clause-line : goal.returns-clause-line
 returns-clause-line c =
-    as_line (map string_bytes c.args.words.now) c.line_as_split.result (line_law (map string_bytes c.args.words.now) (words_are_utf8 c.args.words.now)) c.line_as_split.ensures
+    as_line (map string_bytes c.args.words.now) c.line_as_split.result
+    (line_law (map string_bytes c.args.words.now) (words_are_utf8 c.args.words.now)) c.line_as_split.ensures
 
 pub returns-clause-limits : goal.returns-clause-limits
 returns-clause-limits c =
-    as_within (map string_bytes c.args.words.now) c.line_as_split.result (as_line (map string_bytes c.args.words.now) c.line_as_split.result (line_law (map string_bytes c.args.words.now) (words_are_utf8 c.args.words.now)) c.line_as_split.ensures)
+    as_within (map string_bytes c.args.words.now) c.line_as_split.result
+    (as_line (map string_bytes c.args.words.now) c.line_as_split.result
+    (line_law (map string_bytes c.args.words.now) (words_are_utf8 c.args.words.now)) c.line_as_split.ensures)

@@ -8,15 +8,18 @@ use Rattle.golf_command_words.proofs.splitting.split.Goals as goal
 
 pub returns-in-Ok : goal.returns-in-Ok
 returns-in-Ok c =
-    split_found (app_of c.in_ok-command.command) (map string_bytes c.args.words.now) (subcommand_rows_of c.in-Ok.matches) c.in_ok-command.ensures
+    split_found (app_of c.in_ok-command.command) (map string_bytes c.args.words.now)
+    (subcommand_rows_of c.in-Ok.matches) c.in_ok-command.ensures
     c.in-Ok.ensures.kinds (λ simple. (c.in-Ok.ensures.matches simple).1)
 
 pub returns : goal.returns
 returns c =
-    split_refused (app_of c.in_ok-command.command) (map string_bytes c.args.words.now) c.in-Err.error.kind c.in_ok-command.ensures
+    split_refused (app_of c.in_ok-command.command)
+    (map string_bytes c.args.words.now) c.in-Err.error.kind c.in_ok-command.ensures
     (λ simple. elim (c.in-Err.ensures.kinds simple) [
       | inl memory ↦
           let same : true ≡ sameb the_type OutOfMemory OutOfMemory = refl in
-          absurd (true≢false (same ∙ ap (λ k. sameb the_type k OutOfMemory) (sym (c.kind.ensures ∙ memory)) ∙ sym c.eq.ensures ∙ c.if-eq.false))
+          absurd (true≢false (same ∙ ap (λ k. sameb the_type k OutOfMemory) (sym (c.kind.ensures ∙ memory))
+          ∙ sym c.eq.ensures ∙ c.if-eq.false))
       | inr among ↦ among
     ])

@@ -20,4 +20,8 @@ loop-at-preserved c =
     c.loop-at.invariant
 
 pub returns : goal.returns
-returns c = (λ t. same-to-end c.args.lines.now c.args.others.now c.loop-at.at c.if-lines-others.false c.loop-at-test.false c.loop-at.invariant, λ e. refl)
+returns c = (
+  λ t. same-to-end c.args.lines.now c.args.others.now c.loop-at.at c.if-lines-others.false
+      c.loop-at-test.false c.loop-at.invariant,
+  λ e. refl,
+)

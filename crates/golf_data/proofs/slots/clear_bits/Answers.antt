@@ -13,12 +13,15 @@ loop-left-preserved c =
     record {
       values = c.clear_one.ensures
           ∙ ap (λ vs. slice_set vs at none) inv.values
-          ∙ yet-one c.args.dead c.loop-left.left c.without-left.result at c.lowest-at.ensures.low c.lowest-at.ensures.bit inv.among others c.without-left.ensures.own c.args.values.now;
-      among = yet-among c.args.dead c.loop-left.left c.without-left.result at c.lowest-at.ensures.low inv.among others c.without-left.ensures.own;
+          ∙ yet-one c.args.dead c.loop-left.left c.without-left.result at c.lowest-at.ensures.low
+          c.lowest-at.ensures.bit inv.among others c.without-left.ensures.own c.args.values.now;
+      among = yet-among c.args.dead c.loop-left.left c.without-left.result at c.lowest-at.ensures.low inv.among others
+          c.without-left.ensures.own;
     }
 
 pub loop-left-smaller : goal.loop-left-smaller
-loop-left-smaller c = fewer c.args.dead c.loop-left.left c.without-left.result c.lowest-at.result c.lowest-at.ensures.low c.without-left.ensures.at_most c.lowest-at.ensures.bit c.without-left.ensures.own
+loop-left-smaller c = fewer c.args.dead c.loop-left.left c.without-left.result c.lowest-at.result
+    c.lowest-at.ensures.low c.without-left.ensures.at_most c.lowest-at.ensures.bit c.without-left.ensures.own
 
 pub returns : goal.returns
 returns c = c.loop-left.invariant.values ∙ yet-end c.args.dead c.loop-left.left c.args.values.now (omega arith)

@@ -7,11 +7,13 @@ loop-at-init c = record { values = sym (until-start (λ i. false) c.args.values.
 
 pub loop-at-preserved : goal.loop-at-preserved
 loop-at-preserved c = record {
-  values = c.set.ensures ∙ ap (λ vs. slice_set vs c.loop-at.at none) c.loop-at.invariant.values ∙ until-clear (λ i. false) c.loop-at.at c.args.values.now refl;
+  values = c.set.ensures ∙ ap (λ vs. slice_set vs c.loop-at.at none) c.loop-at.invariant.values
+      ∙ until-clear (λ i. false) c.loop-at.at c.args.values.now refl;
   same = ap length c.set.ensures ∙ values-length c.loop-at.values c.loop-at.at ∙ c.loop-at.invariant.same;
 }
 
 pub returns : goal.returns
 returns c =
     c.loop-at.invariant.values
-    ∙ until-end (λ i. false) c.loop-at.at c.args.values.now (λ i l m. absurd (omega (arith, l, m, c.loop-at-test.false, c.loop-at.auto.at-end, c.len-at-end.ensures)))
+    ∙ until-end (λ i. false) c.loop-at.at c.args.values.now
+    (λ i l m. absurd (omega (arith, l, m, c.loop-at-test.false, c.loop-at.auto.at-end, c.len-at-end.ensures)))

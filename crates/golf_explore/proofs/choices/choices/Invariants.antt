@@ -7,5 +7,6 @@ use Rattle.golf_explore.proofs.choices.choices.Given as goal
 abbrev pub invariant-loop-place : goal.invariant-loop-place
 invariant-loop-place l = record {
   count : length l.choices ≡ l.place;
-  each : (place n : ℕ) → slice_get l.choices place ≡ Some n → turn_last_choice l.code l.state (slice_get (runnable l.state) place) < n;
+  each : (place n : ℕ) → slice_get l.choices place ≡ Some n
+      → turn_last_choice l.code l.state (slice_get (runnable l.state) place) < n;
 }

@@ -1,4 +1,5 @@
-use Rattle.std.proofs.Common.{◌≡◌, ◌<◌, Bool, List, true, false, length, slice_get, Some, suc, ◌+◌, take, ap, refl, subst, arith, ◌∙◌}
+use Rattle.std.proofs.Common.{◌≡◌, ◌<◌, Bool, List, true, false, length, slice_get, Some, suc, ◌+◌, take, ap, refl}
+use Rattle.std.proofs.Common.{subst, arith, ◌∙◌}
 use Rattle.std.proofs.lemmas.Option.{slice_get-get_or}
 use Rattle.golf_theory.specs.Membership.{In}
 use Rattle.golf_explore.proofs.DeadFlags.{get-unset, none-so-far}

@@ -15,4 +15,5 @@ loop-visit-preserved c =
     let within : i < length visits = c.loop-visit-test.true in
     let one : suc i ≡ i + 1 = omega arith in
     subst (λ k. NoneEnds is_panic (states (take k visits))) one
-    (none-more is_panic visits i d (slice_get-get_or visits i d within ∙ ap Some (sym c.visit-item.is)) (c.panics.ensures c.if-panics.false) c.loop-visit.invariant)
+    (none-more is_panic visits i d (slice_get-get_or visits i d within ∙ ap Some (sym c.visit-item.is))
+    (c.panics.ensures c.if-panics.false) c.loop-visit.invariant)

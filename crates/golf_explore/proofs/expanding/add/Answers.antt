@@ -12,13 +12,16 @@ judge-requires-clause-whole c =
     let code = c.args.code.now in
     let s = c.in_ok-state.state in
     let goes : ending s ≡ None = ap ending c.in_ok-state.ensures.state ∙ c.requires.path.on in
-    leads-whole code c.take.new.state (subst (Leads code) (sym c.in_ok-take.ensures) (Leads.Emptied _ (Leads.Turn s c.args.number c.in_ok-state.ensures.leads goes)))
+    leads-whole code c.take.new.state (subst (Leads code) (sym c.in_ok-take.ensures)
+    (Leads.Emptied _ (Leads.Turn s c.args.number c.in_ok-state.ensures.leads goes)))
 
 pub returns : goal.returns
 returns c =
     let code = c.args.code.now in
     let t = after_all code (start_of code) c.args.path.now in
     let s = c.take.new.state in
-    let is : s ≡ after code t c.args.number = c.in_ok-take.ensures ∙ ap (λ (u : State). after code u c.args.number) c.in_ok-state.ensures.state in
-    added-new code t c.args.number s is c.args.visits.now.list c.push.new.self.list c.args.at c.requires.visits c.requires.path.stands c.requires.path.on
+    let is : s ≡ after code t c.args.number = c.in_ok-take.ensures
+    ∙ ap (λ (u : State). after code u c.args.number) c.in_ok-state.ensures.state in
+    added-new code t c.args.number s is c.args.visits.now.list c.push.new.self.list c.args.at c.requires.visits
+    c.requires.path.stands c.requires.path.on
     (subst (Unless code (IsWell s)) c.in_default.is c.in_ok-explored.ensures) c.in_ok-push.ensures

@@ -15,7 +15,8 @@ loop-place-init c = record {
 }
 
 pub add_choices-requires-clause-path : goal.add_choices-requires-clause-path
-add_choices-requires-clause-path c = path-grown c.args.code.now c.args.visits.now.list c.loop-place.visits.list c.args.at c.args.path.now c.loop-place.invariant.grows c.requires.path
+add_choices-requires-clause-path c = path-grown c.args.code.now c.args.visits.now.list c.loop-place.visits.list
+    c.args.at c.args.path.now c.loop-place.invariant.grows c.requires.path
 
 pub loop-place-preserved : goal.loop-place-preserved
 loop-place-preserved c =
@@ -27,11 +28,14 @@ loop-place-preserved c =
     let new = c.add_choices.new.visits.list in
     let within : place < length choices = c.loop-place-test.true in
     let more = get_or choices place 0 in
-    let turned : HasTurned code mid new s place (length choices) more = subst (Unless code _) c.in_default.is c.in_ok-explored.ensures in
+    let turned : HasTurned code mid new s place (length choices) more =
+    subst (Unless code _) c.in_default.is c.in_ok-explored.ensures in
     record {
       grows = grows-trans c.args.visits.now.list mid new c.loop-place.invariant.grows turned.grows;
       visits = turned.visits;
-      has = places-more code c.args.visits.now.list s mid new place (length choices) more c.loop-place.invariant.has turned c.requires.choices.count (c.requires.choices.each place more (slice_get-get_or choices place 0 within));
+      has = places-more code c.args.visits.now.list s mid new place
+          (length choices) more c.loop-place.invariant.has turned c.requires.choices.count
+          (c.requires.choices.each place more (slice_get-get_or choices place 0 within));
     }
 
 pub returns : goal.returns
@@ -42,4 +46,5 @@ returns c =
     let low : length choices ≤ c.loop-place.place = c.loop-place-test.false in
     let high : c.loop-place.place ≤ length choices = c.loop-place.auto.place-end in
     let count = c.requires.choices.count in
-    expanded code c.args.visits.now.list s c.loop-place.visits.list c.loop-place.place c.loop-place.invariant.grows c.loop-place.invariant.visits c.loop-place.invariant.has (omega (arith, low, high, count))
+    expanded code c.args.visits.now.list s c.loop-place.visits.list c.loop-place.place c.loop-place.invariant.grows
+    c.loop-place.invariant.visits c.loop-place.invariant.has (omega (arith, low, high, count))

@@ -13,7 +13,8 @@ returns-then-is_some c =
     let d : Visit = c.index-as_slice-at.result in
     let v = get_or c.as_slice.result.now c.args.at d in
     let got = indexed vs c.as_slice.result.now c.args.at d c.requires.at c.as_slice.ensures in
-    visited-end c.args.code.now vs c.args.at v got c.requires.visits (sym (c.is_some.ensures ∙ ap is_some c.ending.ensures) ∙ c.if-is_some.true)
+    visited-end c.args.code.now vs c.args.at v got c.requires.visits
+    (sym (c.is_some.ensures ∙ ap is_some c.ending.ensures) ∙ c.if-is_some.true)
 
 pub add_places-requires-clause-path : goal.add_places-requires-clause-path
 add_places-requires-clause-path c =
@@ -22,9 +23,12 @@ add_places-requires-clause-path c =
     let d : Visit = c.index-as_slice-at.result in
     let v = get_or c.as_slice.result.now c.args.at d in
     let got = indexed vs c.as_slice.result.now c.args.at d c.requires.at c.as_slice.ensures in
-    let path : IsPathTo vs c.args.at c.in_ok-path.path = subst (λ (xs : List Visit). IsPathTo xs c.args.at c.in_ok-path.path) c.as_slice-2.ensures c.in_ok-path.ensures in
+    let path : IsPathTo vs c.args.at c.in_ok-path.path =
+    subst (λ (xs : List Visit). IsPathTo xs c.args.at c.in_ok-path.path) c.as_slice-2.ensures
+    c.in_ok-path.ensures in
     let goes : ending v.state ≡ None = sym c.ending.ensures ∙ no-ending _ _ c.is_some.ensures c.if-is_some.false in
-    subst (IsPathFor code vs c.args.at) (sym c.as_slice-turns.ensures) (path-for code vs c.args.at v got c.requires.visits c.in_ok-path.path path goes)
+    subst (IsPathFor code vs c.args.at) (sym c.as_slice-turns.ensures)
+    (path-for code vs c.args.at v got c.requires.visits c.in_ok-path.path path goes)
 
 pub add_places-requires-clause-choices : goal.add_places-requires-clause-choices
 add_places-requires-clause-choices c =
@@ -33,9 +37,13 @@ add_places-requires-clause-choices c =
     let d : Visit = c.index-as_slice-at.result in
     let v = get_or c.as_slice.result.now c.args.at d in
     let got = indexed vs c.as_slice.result.now c.args.at d c.requires.at c.as_slice.ensures in
-    let path : IsPathTo vs c.args.at c.in_ok-path.path = subst (λ (xs : List Visit). IsPathTo xs c.args.at c.in_ok-path.path) c.as_slice-2.ensures c.in_ok-path.ensures in
-    let has = choices-for code vs c.args.at v got c.requires.visits c.in_ok-path.path path c.in_ok-choices.choices c.in_ok-choices.ensures in
-    subst (λ (ns : List ℕ). HasChoices code (after_all code (start_of code) ns) c.as_slice-3.result.now) (sym c.as_slice-turns.ensures)
+    let path : IsPathTo vs c.args.at c.in_ok-path.path =
+    subst (λ (xs : List Visit). IsPathTo xs c.args.at c.in_ok-path.path) c.as_slice-2.ensures
+    c.in_ok-path.ensures in
+    let has = choices-for code vs c.args.at v got c.requires.visits c.in_ok-path.path path c.in_ok-choices.choices
+    c.in_ok-choices.ensures in
+    subst (λ (ns : List ℕ). HasChoices code (after_all code (start_of code) ns) c.as_slice-3.result.now)
+    (sym c.as_slice-turns.ensures)
     (subst (HasChoices code (after_all code (start_of code) c.in_ok-path.path)) (sym c.as_slice-3.ensures) has)
 
 pub returns : goal.returns
@@ -46,7 +54,10 @@ returns c =
     let v = get_or c.as_slice.result.now c.args.at d in
     let got = indexed vs c.as_slice.result.now c.args.at d c.requires.at c.as_slice.ensures in
     let new : List Visit = c.add_places.new.visits.list in
-    let path : IsPathTo vs c.args.at c.in_ok-path.path = subst (λ (xs : List Visit). IsPathTo xs c.args.at c.in_ok-path.path) c.as_slice-2.ensures c.in_ok-path.ensures in
-    let has : HasExpanded code vs new (after_all code (start_of code) c.as_slice-turns.result.now) = subst (Unless code _) c.in_default.is c.in_ok-explored.ensures in
+    let path : IsPathTo vs c.args.at c.in_ok-path.path =
+    subst (λ (xs : List Visit). IsPathTo xs c.args.at c.in_ok-path.path) c.as_slice-2.ensures
+    c.in_ok-path.ensures in
+    let has : HasExpanded code vs new (after_all code (start_of code) c.as_slice-turns.result.now) =
+    subst (Unless code _) c.in_default.is c.in_ok-explored.ensures in
     visited-all code vs c.args.at v got c.requires.visits c.in_ok-path.path path new
     (subst (λ (ns : List ℕ). HasExpanded code vs new (after_all code (start_of code) ns)) c.as_slice-turns.ensures has)

@@ -37,5 +37,6 @@ returns-then-at-len c =
     let len = c.len.ensures in
     let past = c.if-at-len.true in
     let within : c.loop-at.at ≤ length mid = c.loop-at.invariant.within in
-    all-visited c.args.code.now mid c.loop-at.at c.loop-at.invariant.visits c.loop-at.invariant.done (omega (arith, len, past, within)) c.told.result
+    all-visited c.args.code.now mid c.loop-at.at c.loop-at.invariant.visits c.loop-at.invariant.done
+    (omega (arith, len, past, within)) c.told.result
     (subst (λ (vs : List Visit). HasTold vs c.loop-at.at c.told.result) c.as_slice.ensures c.told.ensures)

@@ -9,5 +9,6 @@ pub returns : goal.returns
 returns c =
     let code = c.args.code.now in
     let new : List Visit = c.push.new.self.list in
-    let pushed = subst (λ (vs : List Visit). HasPushed vs new c.in_ok-state.state None) c.in_ok-visits.ensures c.in_ok-push.ensures in
+    let pushed = subst (λ (vs : List Visit). HasPushed vs new c.in_ok-state.state None) c.in_ok-visits.ensures
+    c.in_ok-push.ensures in
     visits-opened code new c.in_ok-state.state c.in_ok-state.ensures pushed (opening-well code)

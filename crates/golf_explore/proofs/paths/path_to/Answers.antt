@@ -17,7 +17,8 @@ loop-here-preserved c =
       within = omega (arith, within, below);
       joins = subst (λ (ns : List ℕ). Joins visits came.parent ns c.args.at)
           (reverse-push c.loop-here.path.items came.number ∙ ap reverse (sym c.in_ok-push.ensures.items))
-          (joins-up visits here c.args.at _ came (reverse c.loop-here.path.items) got c.in-Some.is c.loop-here.invariant.joins);
+          (joins-up visits here c.args.at _ came
+          (reverse c.loop-here.path.items) got c.in-Some.is c.loop-here.invariant.joins);
     }
 
 pub returns : goal.returns
@@ -26,4 +27,5 @@ returns c =
     let here = c.loop-here.here in
     let got = slice_get-get_or visits here _ c.loop-here.invariant.within in
     subst (IsPathTo visits c.args.at) (sym (c.from_vec.ensures ∙ c.reverse.ensures.items))
-    (joins-path visits here c.args.at _ (reverse c.loop-here.path.items) got c.in_default.is c.loop-here.invariant.joins)
+    (joins-path visits here c.args.at _ (reverse c.loop-here.path.items) got c.in_default.is
+    c.loop-here.invariant.joins)

@@ -16,7 +16,8 @@ take-requires-clause-goes c =
     let ns : List ℕ = c.args.numbers.now in
     let i = c.loop-number.number-index in
     let within : i < length ns = c.loop-number-test.true in
-    ap ending c.loop-number.invariant.led ∙ goes-at c.args.code.now ns (start_of c.args.code.now) i _ c.requires.goes (slice_get-get_or ns i 0 within)
+    ap ending c.loop-number.invariant.led ∙ goes-at c.args.code.now ns (start_of c.args.code.now) i _ c.requires.goes
+    (slice_get-get_or ns i 0 within)
 
 pub loop-number-preserved : goal.loop-number-preserved
 loop-number-preserved c =
@@ -26,8 +27,11 @@ loop-number-preserved c =
     let s = c.loop-number.state in
     let within : i < length ns = c.loop-number-test.true in
     let got = slice_get-get_or ns i 0 within in
-    let goes : ending s ≡ None = ap ending c.loop-number.invariant.led ∙ goes-at code ns (start_of code) i _ c.requires.goes got in
+    let goes : ending s ≡ None = ap ending c.loop-number.invariant.led
+    ∙ goes-at code ns (start_of code) i _ c.requires.goes got in
     record {
-      led = next-after code ns (start_of code) s c.take.new.state i _ got c.loop-number.invariant.led c.in_ok-take.ensures;
-      leads = subst (Leads code) (sym c.in_ok-take.ensures) (Leads.Emptied _ (Leads.Turn s _ c.loop-number.invariant.leads goes));
+      led = next-after code ns (start_of code) s c.take.new.state i _ got c.loop-number.invariant.led
+          c.in_ok-take.ensures;
+      leads = subst (Leads code) (sym c.in_ok-take.ensures)
+          (Leads.Emptied _ (Leads.Turn s _ c.loop-number.invariant.leads goes));
     }

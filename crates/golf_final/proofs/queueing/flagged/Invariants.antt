@@ -6,4 +6,5 @@ use Rattle.golf_final.proofs.queueing.flagged.Given as goal
 
 -- those so far
 abbrev pub invariant-loop-finaliser : goal.invariant-loop-finaliser
-invariant-loop-finaliser l = l.stays ≡ map (λ e. is_in e.0 (kept l.flags (keys l.state.objects))) (take l.finaliser-index l.state.finalisers)
+invariant-loop-finaliser l = l.stays ≡ map (λ e. is_in e.0 (kept l.flags (keys l.state.objects)))
+    (take l.finaliser-index l.state.finalisers)

@@ -17,7 +17,8 @@ absorb-requires-clause-table c =
     let w = c.index_mut-owner.result.now in
     let at = at_index c.args.owners.now.items c.args.j w c.requires.low c.index_mut-owner.ensures.value in
     let t = exists_at c.args.thieves.now.items c.args.j (omega (arith, c.requires.low, c.requires.stage.len)) in
-    subst (λ (d : RowsId × Global). IsPassOf d c.args.pass) (sym (c.requires.stage.each c.args.j t.0 w t.1 at).0) (c.requires.pass t.0 t.1)
+    subst (λ (d : RowsId × Global). IsPassOf d c.args.pass) (sym (c.requires.stage.each c.args.j t.0 w t.1 at).0)
+    (c.requires.pass t.0 t.1)
 
 pub absorb-requires-clause-rule : goal.absorb-requires-clause-rule
 absorb-requires-clause-rule c =
@@ -32,7 +33,8 @@ returns-clause-stage c =
     let x = c.absorb.new.self in
     let at = at_index c.args.owners.now.items c.args.j w c.requires.low c.index_mut-owner.ensures.value in
     let parts = c.requires.stage.low c.args.j w at (omega arith) in
-    stage_down c.args.thieves.now.items c.args.owners.now.items (4294967295 - c.args.more) c.args.j w x at c.absorb.ensures.same.0.0 c.absorb.ensures.same.0.1
+    stage_down c.args.thieves.now.items c.args.owners.now.items
+    (4294967295 - c.args.more) c.args.j w x at c.absorb.ensures.same.0.0 c.absorb.ensures.same.0.1
     (omega (arith, ap (λ (v : GreyView). v.parts) c.absorb.ensures.rule, parts, c.requires.one.0)) c.requires.stage
 
 pub returns-clause-pushed : goal.returns-clause-pushed
@@ -40,11 +42,24 @@ returns-clause-pushed c = λ g.
     let w = c.index_mut-owner.result.now in
     let x = c.absorb.new.self in
     let at = at_index c.args.owners.now.items c.args.j w c.requires.low c.index_mut-owner.ensures.value in
-    omega (arith, set_weighs (λ j (y : Owner). sum_by (g j) (worker_view y).pushed) c.args.owners.now.items c.args.j w x at, ap (λ (v : GreyView). sum_by (g c.args.j) v.pushed) c.absorb.ensures.rule, sum_by-append (g c.args.j) (worker_view w).pushed (view c.args.pass).pushed, ap (sum_by (g c.args.j)) c.requires.one.1)
+    omega (
+      arith,
+      set_weighs (λ j (y : Owner). sum_by (g j) (worker_view y).pushed) c.args.owners.now.items c.args.j w x
+          at,
+      ap (λ (v : GreyView). sum_by (g c.args.j) v.pushed) c.absorb.ensures.rule,
+      sum_by-append (g c.args.j) (worker_view w).pushed (view c.args.pass).pushed,
+      ap (sum_by (g c.args.j)) c.requires.one.1,
+    )
 
 pub returns-clause-taken : goal.returns-clause-taken
 returns-clause-taken c = λ g.
     let w = c.index_mut-owner.result.now in
     let x = c.absorb.new.self in
     let at = at_index c.args.owners.now.items c.args.j w c.requires.low c.index_mut-owner.ensures.value in
-    omega (arith, set_weighs (λ j (y : Owner). sum_by (g j) (worker_view y).taken) c.args.owners.now.items c.args.j w x at, ap (λ (v : GreyView). sum_by (g c.args.j) v.taken) c.absorb.ensures.rule, sum_by-append (g c.args.j) (worker_view w).taken (view c.args.pass).taken)
+    omega (
+      arith,
+      set_weighs (λ j (y : Owner). sum_by (g j) (worker_view y).taken) c.args.owners.now.items c.args.j w x
+          at,
+      ap (λ (v : GreyView). sum_by (g c.args.j) v.taken) c.absorb.ensures.rule,
+      sum_by-append (g c.args.j) (worker_view w).taken (view c.args.pass).taken,
+    )

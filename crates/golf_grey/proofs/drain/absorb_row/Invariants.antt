@@ -9,7 +9,8 @@ invariant-loop-pass l =
     × RowFits l.thieves.items l.rest.items
     × (length l.rest.items ≤ length l.thieves.items)
     × ((g : ℕ → ℕ → ℕ) → pushed_in g l.owners.items ≡ pushed_in g l.initial.owners.items)
-    × ((g : ℕ → ℕ → ℕ) → taken_in g l.owners.items + row_weight g l.rest.items ≡ taken_in g l.initial.owners.items + row_weight g l.initial.rest.items)
+    × ((g : ℕ → ℕ → ℕ) → taken_in g l.owners.items + row_weight g l.rest.items ≡ taken_in g l.initial.owners.items
+    + row_weight g l.initial.rest.items)
 
 abbrev pub decreases-loop-pass : goal.decreases-loop-pass
 decreases-loop-pass l = vec_len l.rest

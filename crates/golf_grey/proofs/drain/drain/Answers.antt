@@ -12,5 +12,13 @@ pop_as-requires-clause-empty c = finds _ _
 
 pub returns-clause-left : goal.returns-clause-left
 returns-clause-left c =
-    let i = c.loop-place.invariant in
-    (i.3.0, i.3.1, λ f. omega (arith, i.3.2 f, even (worker_view c.loop-place.owner) c.in_default.ensures.rule.1 i.1 f, ap (sum_by f) i.2))
+    let i = c.loop-place.invariant in (
+      i.3.0,
+      i.3.1,
+      λ f. omega (
+        arith,
+        i.3.2 f,
+        even (worker_view c.loop-place.owner) c.in_default.ensures.rule.1 i.1 f,
+        ap (sum_by f) i.2,
+      ),
+    )

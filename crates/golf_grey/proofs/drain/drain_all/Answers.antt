@@ -15,10 +15,12 @@ loop-owner-init c = (
 )
 
 pub drain-requires-clause-flavor : goal.drain-requires-clause-flavor
-drain-requires-clause-flavor c = (c.loop-owner.invariant.0 (length c.pop.new.self.items) c.in-Some.owner (at_end c.loop-owner.rest.items c.pop.new.self.items c.in-Some.owner _ c.in-Some.ensures.items refl)).0
+drain-requires-clause-flavor c = (c.loop-owner.invariant.0 (length c.pop.new.self.items) c.in-Some.owner
+    (at_end c.loop-owner.rest.items c.pop.new.self.items c.in-Some.owner _ c.in-Some.ensures.items refl)).0
 
 pub drain-requires-clause-all : goal.drain-requires-clause-all
-drain-requires-clause-all c = (c.loop-owner.invariant.0 (length c.pop.new.self.items) c.in-Some.owner (at_end c.loop-owner.rest.items c.pop.new.self.items c.in-Some.owner _ c.in-Some.ensures.items refl)).1
+drain-requires-clause-all c = (c.loop-owner.invariant.0 (length c.pop.new.self.items) c.in-Some.owner
+    (at_end c.loop-owner.rest.items c.pop.new.self.items c.in-Some.owner _ c.in-Some.ensures.items refl)).1
 
 pub drain-requires-clause-room : goal.drain-requires-clause-room
 drain-requires-clause-room c =
@@ -26,7 +28,8 @@ drain-requires-clause-room c =
       arith,
       c.loop-owner.invariant.1,
       total_length (worker_view c.in-Some.owner).pushed,
-      push_at (λ j (w : Owner). sum_by (λ _. 1) (worker_view w).pushed) c.pop.new.self.items c.in-Some.owner (length c.pop.new.self.items) refl,
+      push_at (λ j (w : Owner). sum_by (λ _. 1) (worker_view w).pushed) c.pop.new.self.items c.in-Some.owner
+          (length c.pop.new.self.items) refl,
       ap (pushed_in (λ _ _. 1)) c.in-Some.ensures.items,
     )
 
@@ -37,7 +40,8 @@ loop-owner-preserved c =
     let n = length c.pop.new.self.items in
     let more = e.left.0 in
     let from = replicate (length more) n in (
-      (λ j w at. i.0 j w (longer c.loop-owner.rest.items c.pop.new.self.items c.in-Some.owner c.in-Some.ensures.items j w at)),
+      (λ j w at. i.0 j w (longer c.loop-owner.rest.items c.pop.new.self.items c.in-Some.owner c.in-Some.ensures.items j
+          w at)),
       omega (
         arith,
         i.1,
@@ -48,7 +52,14 @@ loop-owner-preserved c =
       ),
       (
         i.2.0 ++ from,
-        omega (arith, length-append i.2.0 from, length-append c.loop-owner.left.items more, ap length e.left.1, i.2.1, length_same n (length more)),
+        omega (
+          arith,
+          length-append i.2.0 from,
+          length-append c.loop-owner.left.items more,
+          ap length e.left.1,
+          i.2.1,
+          length_same n (length more),
+        ),
         λ g. omega (
           arith,
           i.2.2 g,

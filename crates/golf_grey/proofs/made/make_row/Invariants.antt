@@ -4,4 +4,7 @@ use Rattle.golf_grey.specs.Hands.{IsStage, AllFresh, RowFits, RowIsNew, row_weig
 use Rattle.golf_grey.proofs.made.make_row.Given as goal
 
 abbrev pub invariant-loop-j : goal.invariant-loop-j
-invariant-loop-j l = IsStage l.thieves.items (all_parts - 1 - l.made) l.j l.owners.items × AllFresh l.capacity l.places l.owners.items × RowFits l.thieves.items l.row.items × (length l.row.items ≡ l.j) × ((g : ℕ → ℕ → ℕ) → row_weight g l.row.items ≡ 0) × (length l.owners.items ≡ length l.initial.owners.items) × RowIsNew l.capacity l.places l.row.items
+invariant-loop-j l = IsStage l.thieves.items (all_parts - 1 - l.made) l.j l.owners.items
+    × AllFresh l.capacity l.places l.owners.items × RowFits l.thieves.items l.row.items × (length l.row.items ≡ l.j)
+    × ((g : ℕ → ℕ → ℕ) → row_weight g l.row.items ≡ 0) × (length l.owners.items ≡ length l.initial.owners.items)
+    × RowIsNew l.capacity l.places l.row.items

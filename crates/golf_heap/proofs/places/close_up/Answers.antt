@@ -12,8 +12,10 @@ loop-at-preserved g c = elim c.if-keep-at.branch [
       rw (w.items-is, w.count-is)
       (record {
         within = omega (arith, i.within);
-        whole = swapped-length xs w.swap.new.self.items c.loop-at.count c.loop-at.at (omega (arith, c.loop-at-test.true, i.whole)) w.swap.ensures.by_index ∙ i.whole;
-        kept = swapped_more c.args.keep.now xs w.swap.new.self.items (kept c.args.keep.now c.args.items.now.items) c.loop-at.count c.loop-at.at
+        whole = swapped-length xs w.swap.new.self.items c.loop-at.count c.loop-at.at
+            (omega (arith, c.loop-at-test.true, i.whole)) w.swap.ensures.by_index ∙ i.whole;
+        kept = swapped_more c.args.keep.now xs w.swap.new.self.items
+            (kept c.args.keep.now c.args.items.now.items) c.loop-at.count c.loop-at.at
             (record { within = c.loop-at-test.true; whole = i.whole; below = i.within; flag = w.if-keep-at.true })
             w.swap.ensures.by_index i.kept;
       })
@@ -23,6 +25,8 @@ loop-at-preserved g c = elim c.if-keep-at.branch [
       (record {
         within = omega (arith, i.within);
         whole = i.whole;
-        kept = skipped_more c.args.keep.now c.loop-at.items.items (kept c.args.keep.now c.args.items.now.items) c.loop-at.count c.loop-at.at c.loop-at-test.true i.whole w.if-keep-at.false i.kept;
+        kept = skipped_more c.args.keep.now c.loop-at.items.items
+            (kept c.args.keep.now c.args.items.now.items) c.loop-at.count c.loop-at.at c.loop-at-test.true i.whole
+            w.if-keep-at.false i.kept;
       })
 ]

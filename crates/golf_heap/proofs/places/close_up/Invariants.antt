@@ -7,5 +7,6 @@ abbrev pub invariant-loop-at : goal.invariant-loop-at
 invariant-loop-at g l = record {
   within : l.count ≤ l.at;
   whole : length l.items.items ≡ length l.keep;
-  kept : take l.count l.items.items ++ kept (drop l.at l.keep) (drop l.at l.items.items) ≡ kept l.keep l.initial.items.items;
+  kept : take l.count l.items.items ++ kept (drop l.at l.keep) (drop l.at l.items.items)
+      ≡ kept l.keep l.initial.items.items;
 }

@@ -1,7 +1,7 @@
 use Rattle.std.proofs.Common.{sym, ap, ◌∙◌, arith}
 use Rattle.std.specs.Prelude.{option_map}
 use Rattle.std.proofs.lemmas.Option.{slice_get-map}
-use Rattle.golf_heap.specs.declared.places.Place.{Place}
+use Rattle.golf_heap.specs.declared.places.ObjectKey.{ObjectKey}
 use Rattle.golf_heap.specs.Kept.{keyed}
 use Rattle.golf_heap.proofs.Finding.{item-at}
 use Rattle.golf_heap.proofs.Guesses.{rank-there}
@@ -12,5 +12,8 @@ returns-then-place-number c =
     let ps = c.args.places.now in
     let p = c.in_ok-place.place.now in
     let i = c.in_ok-index.index in
-    let here = slice_get-map (λ (q : Place). (q.number, q.key)) ps i ∙ ap (option_map (λ (q : Place). (q.number, q.key))) (item-at ps i c.in_ok-place.place c.in_ok-place.ensures.lookup) in
-    sym (rank-there c.args.number i (keyed ps) (p.number, p.key) c.requires here c.if-place-number.true (let e = c.in_ok-index.ensures in omega (arith, e.0, e.1)))
+    let here = slice_get-map (λ (q : ObjectKey). (q.number, q.key)) ps i
+    ∙ ap (option_map (λ (q : ObjectKey). (q.number, q.key)))
+    (item-at ps i c.in_ok-place.place c.in_ok-place.ensures.lookup) in
+    sym (rank-there c.args.number i (keyed ps) (p.number, p.key) c.requires here c.if-place-number.true
+    (let e = c.in_ok-index.ensures in omega (arith, e.0, e.1)))

@@ -11,5 +11,6 @@ invariant-loop-i l = record {
   begun : l.start ≤ l.i;
   line : l.output.line ≤ l.start + 1;
   ran : run Blank (take l.i l.bytes) ≡ Some l.state;
-  reads : read l.output l.state (take (l.i - l.start) (drop l.start l.bytes)) (drop l.i l.bytes) ≡ read empty Blank [] l.bytes;
+  reads : read l.output l.state (take (l.i - l.start) (drop l.start l.bytes)) (drop l.i l.bytes)
+      ≡ read empty Blank [] l.bytes;
 }

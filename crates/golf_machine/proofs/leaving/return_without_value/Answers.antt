@@ -10,5 +10,7 @@ returns-clause-ok c =
     let after = c.args.acting.after in
     let s = c.args.state.now in
     let line = c.args.acting.line in
-    let none = sym (deferred-is g after s c.requires line) ∙ none_left _ (sym c.has_deferred.ensures ∙ c.if-has_deferred.false) in
-    returns-done g after s c.requires line returns None c.return_to.new.state (returns-by g after s c.requires line none None c.requires.frame.operands) (c.in_ok-return_to.ensures.ok line)
+    let none = sym (deferred-is g after s c.requires line)
+    ∙ none_left _ (sym c.has_deferred.ensures ∙ c.if-has_deferred.false) in
+    returns-done g after s c.requires line returns None c.return_to.new.state
+    (returns-by g after s c.requires line none None c.requires.frame.operands) (c.in_ok-return_to.ensures.ok line)

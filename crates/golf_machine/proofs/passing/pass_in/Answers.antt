@@ -13,9 +13,11 @@ overflow_add-result c =
     let l = c.in-Some-line_in.line.now in
     let f : FrameView = frame_view c.args.frame.now in
     let g = blank c.args.globals.now in
-    let same = left-alone (is_on_frame l.instr) c.in_ok-perform_within.field-0 (λ a. changes code l.instr a 0 g) f (frame_view c.perform_within.new.frame) (c.in_ok-perform_within.ensures.ok code 0 g refl) c.in-ZeroDivisor.is in
+    let same = left-alone (is_on_frame l.instr) c.in_ok-perform_within.field-0 (λ a. changes code l.instr a 0 g) f
+    (frame_view c.perform_within.new.frame) (c.in_ok-perform_within.ensures.ok code 0 g refl) c.in-ZeroDivisor.is in
     let at = ap (λ (x : FrameView). x.at) same in
-    let fits = place-fits code f.function f.at l c.requires.places (sym (line-there code c.in-Some.function.now l f c.in-Some.ensures.function c.in-Some-line_in.ensures.line)) in
+    let fits = place-fits code f.function f.at l c.requires.places
+    (sym (line-there code c.in-Some.function.now l f c.in-Some.ensures.function c.in-Some-line_in.ensures.line)) in
     omega (arith, at, fits)
 
 pub returns-in-ZeroDivisor : goal.returns-in-ZeroDivisor
@@ -24,9 +26,18 @@ returns-in-ZeroDivisor c =
     let l = c.in-Some-line_in.line.now in
     let f : FrameView = frame_view c.args.frame.now in
     let g = blank c.args.globals.now in
-    let same = left-alone (is_on_frame l.instr) c.in_ok-perform_within.field-0 (λ a. changes code l.instr a 0 g) f (frame_view c.perform_within.new.frame) (c.in_ok-perform_within.ensures.ok code 0 g refl) c.in-ZeroDivisor.is in
+    let same = left-alone (is_on_frame l.instr) c.in_ok-perform_within.field-0 (λ a. changes code l.instr a 0 g) f
+    (frame_view c.perform_within.new.frame) (c.in_ok-perform_within.ensures.ok code 0 g refl) c.in-ZeroDivisor.is in
     record {
-      ok = (same, (c.in-No.is, line-there code c.in-Some.function.now l f c.in-Some.ensures.function c.in-Some-line_in.ensures.line, ap (λ (x : FrameView). x.at + 1) same));
+      ok = (
+        same,
+        (
+          c.in-No.is,
+          line-there code c.in-Some.function.now l f c.in-Some.ensures.function
+              c.in-Some-line_in.ensures.line,
+          ap (λ (x : FrameView). x.at + 1) same,
+        ),
+      );
       err = tt;
     }
 
@@ -35,7 +46,10 @@ returns-clause-ok c =
     let i = c.in-Some-line_in.line.now.instr in
     let f : FrameView = frame_view c.args.frame.now in
     let h : FrameView = frame_view c.perform_within.new.frame in
-    passed c.args.code.now c.in-Some.function.now c.in-Some-line_in.line.now f c.in-Some.ensures.function c.in-Some-line_in.ensures.line
-    h c.args.globals.now (frame_view c.clear_in.new.frame) c.in-No.is (c.in_ok-perform_within.ensures.plain c.in-Done.is)
-    (λ choice s same. subst (λ (w : Within). HasGone (is_on_frame i) w (λ a. changes c.args.code.now i a choice s) f h) c.in-Done.is (c.in_ok-perform_within.ensures.ok c.args.code.now choice s same))
+    passed c.args.code.now c.in-Some.function.now c.in-Some-line_in.line.now f c.in-Some.ensures.function
+    c.in-Some-line_in.ensures.line
+    h c.args.globals.now (frame_view c.clear_in.new.frame) c.in-No.is
+    (c.in_ok-perform_within.ensures.plain c.in-Done.is)
+    (λ choice s same. subst (λ (w : Within). HasGone (is_on_frame i) w (λ a. changes c.args.code.now i a choice s) f h)
+    c.in-Done.is (c.in_ok-perform_within.ensures.ok c.args.code.now choice s same))
     c.clear_in.ensures

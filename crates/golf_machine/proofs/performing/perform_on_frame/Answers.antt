@@ -10,14 +10,18 @@ use Rattle.golf_machine.proofs.performing.perform_on_frame.Goals as goal
 pub returns-then-count-eq0-clause-ok : goal.returns-then-count-eq0-clause-ok
 returns-then-count-eq0-clause-ok c =
     let lent = c.frames_and_globals-frames in
-    let e : true ≡ false = no-frames c.args.acting.goroutine.0 c.args.acting.after c.args.state.now c.requires.stands lent.result.0.now c.len-count.result c.len-count.ensures lent.ensures.value c.if-count-eq0.true in
+    let e : true ≡ false = no-frames c.args.acting.goroutine.0 c.args.acting.after c.args.state.now c.requires.stands
+    lent.result.0.now c.len-count.result c.len-count.ensures lent.ensures.value c.if-count-eq0.true in
     cc
 
 pub perform_within-requires : goal.perform_within-requires
 perform_within-requires c =
     let s = c.args.state.now in
     let lent = c.frames_and_globals-frames in
-    let e = ap (λ (f : FrameView). f.at + 1) (were (λ a. []) c.args.acting.goroutine.0 c.args.acting.after c.args.acting.line s c.requires.stands lent.result.0.now c.item_mut.result.now c.item_mut.result.now c.len-count.result c.len-count.ensures c.item_mut.ensures.value lent.ensures.value lent.ensures.same).0 ∙ sym c.requires.stands.next in
+    let e = ap (λ (f : FrameView). f.at + 1)
+    (were (λ a. []) c.args.acting.goroutine.0 c.args.acting.after c.args.acting.line s c.requires.stands
+    lent.result.0.now c.item_mut.result.now c.item_mut.result.now c.len-count.result c.len-count.ensures
+    c.item_mut.ensures.value lent.ensures.value lent.ensures.same).0 ∙ sym c.requires.stands.next in
     omega (arith, e)
 
 pub returns-in_err-came-clause-err : goal.returns-in_err-came-clause-err
@@ -25,12 +29,17 @@ returns-in_err-came-clause-err c =
     let s = c.args.state.now in
     let lent = c.frames_and_globals-frames in
     let p = err_from_is_err_and c.from_residual.result c.from_residual.ensures.1 in
-    rw p.1 (left-is (λ a. []) c.args.acting.goroutine.0 c.args.acting.after c.args.acting.line s c.requires.stands lent.result.0.now c.item_mut.result.now c.perform_within.new.frame c.len-count.result c.len-count.ensures c.item_mut.ensures.value lent.ensures.value lent.ensures.same c.in_err-came.ensures.err)
+    rw p.1 (left-is (λ a. []) c.args.acting.goroutine.0 c.args.acting.after c.args.acting.line s c.requires.stands
+    lent.result.0.now c.item_mut.result.now c.perform_within.new.frame c.len-count.result c.len-count.ensures
+    c.item_mut.ensures.value lent.ensures.value lent.ensures.same c.in_err-came.ensures.err)
 
 pub returns-clause-ok : goal.returns-clause-ok
 returns-clause-ok c = λ code choice.
     let s = c.args.state.now in
     let lent = c.frames_and_globals-frames in
     let act : Actor → List Change = λ a. changes code c.args.instr.now a choice s in
-    frame-fits act c.args.acting.goroutine.0 c.args.acting.after c.args.acting.line s c.requires.stands lent.result.0.now c.item_mut.result.now c.perform_within.new.frame c.len-count.result c.len-count.ensures c.item_mut.ensures.value lent.ensures.value lent.ensures.same
-    c.in_ok-came.came _ c.outcome_in.result c.outcome_in.ensures c.requires.on_frame (c.in_ok-came.ensures.ok code choice s (sym lent.ensures.globals))
+    frame-fits act c.args.acting.goroutine.0 c.args.acting.after c.args.acting.line s c.requires.stands
+    lent.result.0.now c.item_mut.result.now c.perform_within.new.frame c.len-count.result c.len-count.ensures
+    c.item_mut.ensures.value lent.ensures.value lent.ensures.same
+    c.in_ok-came.came _ c.outcome_in.result c.outcome_in.ensures c.requires.on_frame
+    (c.in_ok-came.ensures.ok code choice s (sym lent.ensures.globals))

@@ -13,12 +13,19 @@ loop-i-preserved c =
     let i = c.loop-i.i in
     let v : Value = get_or values i (Value.Int (pos 0)) in
     let here = get_or_default values i (Value.Int (pos 0)) v c.loop-i-test.true in
-    let added = was_added (bytes_of texts v) c.in_ok-add_value.field-0 c.add_value.new.text c.if-i-gt0.text c.if-not-branch.false c.in_ok-add_value.ensures in
+    let added = was_added (bytes_of texts v) c.in_ok-add_value.field-0 c.add_value.new.text c.if-i-gt0.text
+    c.if-not-branch.false c.in_ok-add_value.ensures in
     elim c.if-i-gt0.branch [
       | then-i-gt0+in_ok-push w ↦
-          let is : c.add_value.new.text ≡ (c.loop-i.text ++ 32 ∷ []) ++ added.0 = added.2 ∙ ap (λ (t : List ℕ). t ++ added.0) (w.text-is ∙ w.in_ok-push.ensures.ok) in
-          subst (λ (t : List ℕ). IsPrinted texts values (i + 1) t) (sym is) (printed_later texts values i v c.loop-i.text added.0 w.if-i-gt0.true c.loop-i-test.true here added.1 c.loop-i.invariant)
+          let is : c.add_value.new.text ≡ (c.loop-i.text ++ 32 ∷ []) ++ added.0 = added.2
+          ∙ ap (λ (t : List ℕ). t ++ added.0) (w.text-is ∙ w.in_ok-push.ensures.ok) in
+          subst (λ (t : List ℕ). IsPrinted texts values (i + 1) t) (sym is)
+          (printed_later texts values i v c.loop-i.text added.0 w.if-i-gt0.true c.loop-i-test.true here added.1
+          c.loop-i.invariant)
       | else-i-gt0 w ↦
-          let is : c.add_value.new.text ≡ c.loop-i.text ++ added.0 = added.2 ∙ ap (λ (t : List ℕ). t ++ added.0) w.text-is in
-          subst (λ (t : List ℕ). IsPrinted texts values (i + 1) t) (sym is) (printed_first texts values i v c.loop-i.text added.0 w.if-i-gt0.false c.loop-i-test.true here added.1 c.loop-i.invariant)
+          let is : c.add_value.new.text ≡ c.loop-i.text ++ added.0 = added.2
+          ∙ ap (λ (t : List ℕ). t ++ added.0) w.text-is in
+          subst (λ (t : List ℕ). IsPrinted texts values (i + 1) t) (sym is)
+          (printed_first texts values i v c.loop-i.text added.0 w.if-i-gt0.false c.loop-i-test.true here added.1
+          c.loop-i.invariant)
     ]

@@ -1,5 +1,6 @@
 use Rattle.std.proofs.Common.{Some, refl, ◌∙◌}
-use Rattle.golf_machine.proofs.Sequence.{failed, one-more, last-given, outcome-is, stops-is, still-goes, asked-turn, asked-end, failed-asked}
+use Rattle.golf_machine.proofs.Sequence.{failed, one-more, last-given, outcome-is, stops-is, still-goes, asked-turn}
+use Rattle.golf_machine.proofs.Sequence.{asked-end, failed-asked}
 use Rattle.golf_machine.proofs.taking.take_turns.Goals as goal
 
 pub returns-in_err-number-clause-err : goal.returns-in_err-number-clause-err
@@ -24,7 +25,8 @@ returns-then-needs_outside-clause-ok g c =
       last-given a.1 a.2,
       next,
       outcome-is code s c.turn.new.state c.in-Some.number c.in_ok-turned.turned next turned,
-      stops-is code s c.turn.new.state c.in-Some.number c.in_ok-turned.turned c.output.result.now c.needs_outside.result next turned c.output.ensures c.needs_outside.ensures ∙ c.if-needs_outside.true,
+      stops-is code s c.turn.new.state c.in-Some.number c.in_ok-turned.turned c.output.result.now c.needs_outside.result
+          next turned c.output.ensures c.needs_outside.ensures ∙ c.if-needs_outside.true,
     )
 
 pub loop-number-preserved : goal.loop-number-preserved
@@ -35,9 +37,12 @@ loop-number-preserved g c =
     let next = c.in_ok-turned.ensures.ok in
     let turned = c.in_ok-turned.ensures.turned in record {
       gone = one-more a.1 a.2 next
-          (stops-is code s c.turn.new.state c.in-Some.number c.in_ok-turned.turned c.output.result.now c.needs_outside.result next turned c.output.ensures c.needs_outside.ensures ∙ c.if-needs_outside.false);
-      goes = still-goes c.in_ok-turned.turned c.turn.new.state _ c.needs_outside.result c.output.result.now turned c.needs_outside.ensures c.if-needs_outside.false;
+          (stops-is code s c.turn.new.state c.in-Some.number c.in_ok-turned.turned c.output.result.now
+          c.needs_outside.result next turned c.output.ensures c.needs_outside.ensures ∙ c.if-needs_outside.false);
+      goes = still-goes c.in_ok-turned.turned c.turn.new.state _ c.needs_outside.result c.output.result.now turned
+          c.needs_outside.ensures c.if-needs_outside.false;
     }
 
 pub returns-clause-ok : goal.returns-clause-ok
-returns-clause-ok g c = asked-end c.in_ok-number.field-0 c.in_default.is c.loop-number.invariant.gone c.in_ok-number.ensures.ok
+returns-clause-ok g c = asked-end c.in_ok-number.field-0 c.in_default.is c.loop-number.invariant.gone
+    c.in_ok-number.ensures.ok

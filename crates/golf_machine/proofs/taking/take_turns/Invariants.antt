@@ -6,7 +6,8 @@ use Rattle.golf_machine.proofs.taking.take_turns.Given as goal
 -- the numbers so far were taken, and the program goes on
 abbrev pub invariant-loop-number : goal.invariant-loop-number
 invariant-loop-number g l = record {
-  gone : HasGoneOn l.code l.fn.state l.state (g.N.Numbers.left l.fn.numbers) (g.N.Numbers.left l.numbers) (g.N.Numbers.given l.fn.numbers) (g.N.Numbers.given l.numbers);
+  gone : HasGoneOn l.code l.fn.state l.state (g.N.Numbers.left l.fn.numbers) (g.N.Numbers.left l.numbers)
+      (g.N.Numbers.given l.fn.numbers) (g.N.Numbers.given l.numbers);
   goes : ending l.state ≡ None;
 }
 

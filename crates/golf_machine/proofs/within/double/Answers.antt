@@ -8,5 +8,6 @@ use Rattle.golf_machine.proofs.within.double.Goals as goal
 pub returns-in-Some-clause-ok : goal.returns-in-Some-clause-ok
 returns-in-Some-clause-ok c =
     IfOk-weaker c.push.result _ _
-    (λ came d. done-same true came (λ a. pushes a c.in-Some.value) doubles (frame_view c.args.frame.now) _ (doubles-pushes (frame_view c.args.frame.now) c.in-Some.value c.in-Some.ensures) d)
+    (λ came d. done-same true came (λ a. pushes a c.in-Some.value) doubles (frame_view c.args.frame.now) _
+    (doubles-pushes (frame_view c.args.frame.now) c.in-Some.value c.in-Some.ensures) d)
     c.push.ensures.ok

@@ -14,6 +14,8 @@ returns-clause-ok c =
     let w = c.in-Some.second in
     let plain : FrameView = frame_view f in
     let are : c.push_ready-2.new.self.items ≡ (os ++ v ∷ []) ++ w ∷ [] =
-    c.push_ready-2.ensures.items ∙ ap (λ (xs : List Value). xs ++ w ∷ []) (c.push_ready.ensures.items ∙ ap (λ (xs : List Value). xs ++ v ∷ []) c.reserve.ensures.items) in
+    c.push_ready-2.ensures.items ∙ ap (λ (xs : List Value). xs ++ w ∷ [])
+    (c.push_ready.ensures.items ∙ ap (λ (xs : List Value). xs ++ v ∷ []) c.reserve.ensures.items) in
     doubled-two plain _ v w c.in-Some.ensures
-    (ap (λ (vs : List Value). record plain { at = f.at + 1; operands = vs }) (ap reverse are ∙ reverse-push (os ++ v ∷ []) w ∙ ap (λ (xs : List Value). w ∷ xs) (reverse-push os v)))
+    (ap (λ (vs : List Value). record plain { at = f.at + 1; operands = vs })
+    (ap reverse are ∙ reverse-push (os ++ v ∷ []) w ∙ ap (λ (xs : List Value). w ∷ xs) (reverse-push os v)))

@@ -8,6 +8,9 @@ pub returns : goal.returns
 returns c =
     let f = c.args.frame.now in
     let os = f.operands.items in
-    let keep : c.truncate.new.self.items ≡ take (length os - c.args.taken) os = c.truncate.ensures.items ∙ ap (λ (n : ℕ). take (n - c.args.taken) os) c.len.ensures in
+    let keep : c.truncate.new.self.items ≡ take (length os - c.args.taken) os = c.truncate.ensures.items
+    ∙ ap (λ (n : ℕ). take (n - c.args.taken) os) c.len.ensures in
     let plain : FrameView = frame_view f in
-    ap (λ (vs : List Value). record plain { at = f.at + 1; operands = vs }) (one_more os c.truncate.new.self.items c.args.taken keep c.push_ready.new.self.items c.args.value c.push_ready.ensures.items)
+    ap (λ (vs : List Value). record plain { at = f.at + 1; operands = vs })
+    (one_more os c.truncate.new.self.items c.args.taken keep c.push_ready.new.self.items c.args.value
+    c.push_ready.ensures.items)

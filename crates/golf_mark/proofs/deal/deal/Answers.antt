@@ -11,23 +11,37 @@ use Rattle.golf_mark.proofs.Readying.{all_fresh_set, parts_set, rooted_set}
 use Rattle.golf_mark.proofs.deal.deal.Goals as goal
 
 pub index_mut-marker-requires : goal.index_mut-marker-requires
-index_mut-marker-requires c = omega (arith, c.len-count.ensures, c.args.markers.ok.0, c.loop-i.invariant.size, c.loop-i.markers.ok.0, c.requires.some)
+index_mut-marker-requires c = omega (
+  arith,
+  c.len-count.ensures,
+  c.args.markers.ok.0,
+  c.loop-i.invariant.size,
+  c.loop-i.markers.ok.0,
+  c.requires.some,
+)
 
 pub seed-requires-clause-fits : goal.seed-requires-clause-fits
 seed-requires-clause-fits c = (c.loop-i.invariant.fresh (c.loop-i.i % c.len-count.result) c.index_mut-marker.result.now
-    (at_index c.loop-i.markers.items (c.loop-i.i % c.len-count.result) c.index_mut-marker.result.now (omega (arith, c.len-count.ensures, c.args.markers.ok.0, c.loop-i.invariant.size, c.requires.some)) c.index_mut-marker.ensures.value)).fits
+    (at_index c.loop-i.markers.items (c.loop-i.i % c.len-count.result) c.index_mut-marker.result.now
+    (omega (arith, c.len-count.ensures, c.args.markers.ok.0, c.loop-i.invariant.size, c.requires.some))
+    c.index_mut-marker.ensures.value)).fits
 
 pub seed-requires-clause-place : goal.seed-requires-clause-place
 seed-requires-clause-place c =
     let root : ℕ = get_or c.roots-roots.result.now c.loop-i.i 0 in
-    let i : In root c.args.graph.now.roots = subst (λ (l : List ℕ). In root l) c.roots-roots.ensures (In-get_or c.roots-roots.result.now c.loop-i.i 0 (omega arith)) in
-    let low = Every-at (λ p. p < node_count c.args.graph.now) c.args.graph.now.roots root c.nodes-nodes.ensures.in_range.roots i in
+    let i : In root c.args.graph.now.roots =
+    subst (λ (l : List ℕ). In root l) c.roots-roots.ensures
+    (In-get_or c.roots-roots.result.now c.loop-i.i 0 (omega arith)) in
+    let low = Every-at (λ p. p < node_count c.args.graph.now) c.args.graph.now.roots root
+    c.nodes-nodes.ensures.in_range.roots i in
     omega (arith, low, ap place_count c.requires.graph)
 
 pub seed-requires-clause-root : goal.seed-requires-clause-root
 seed-requires-clause-root c =
     let root : ℕ = get_or c.roots-roots.result.now c.loop-i.i 0 in
-    subst (λ (d : GraphParts). In root d.roots) (sym c.requires.graph) (subst (λ (l : List ℕ). In root l) c.roots-roots.ensures (In-get_or c.roots-roots.result.now c.loop-i.i 0 (omega arith)))
+    subst (λ (d : GraphParts). In root d.roots) (sym c.requires.graph)
+    (subst (λ (l : List ℕ). In root l) c.roots-roots.ensures
+    (In-get_or c.roots-roots.result.now c.loop-i.i 0 (omega arith)))
 
 pub loop-i-preserved : goal.loop-i-preserved
 loop-i-preserved c =
@@ -40,13 +54,21 @@ loop-i-preserved c =
     let root : ℕ = get_or roots i 0 in
     let a = c.index_mut-marker.result.now in
     let b = c.seed.new.marker in
-    let at = at_index ms j a (omega (arith, c.len-count.ensures, c.args.markers.ok.0, c.loop-i.invariant.size, c.requires.some)) c.index_mut-marker.ensures.value in
+    let at = at_index ms j a (omega (
+      arith,
+      c.len-count.ensures,
+      c.args.markers.ok.0,
+      c.loop-i.invariant.size,
+      c.requires.some,
+    )) c.index_mut-marker.ensures.value in
     record {
       size = length-set ms j b ∙ c.loop-i.invariant.size;
       parts = parts_set marks pool ms root j a b at c.seed.ensures ∙ c.loop-i.invariant.parts;
       fresh = all_fresh_set marks pool ms root j a b at c.seed.ensures c.loop-i.invariant.fresh;
-      rooted = subst (λ (l : List ℕ). IsRooted l (set ms j b)) (sym (take_more roots i 0 (omega arith))) (rooted_set marks pool (take i roots) ms root j a b at c.seed.ensures c.loop-i.invariant.rooted);
+      rooted = subst (λ (l : List ℕ). IsRooted l (set ms j b)) (sym (take_more roots i 0 (omega arith)))
+          (rooted_set marks pool (take i roots) ms root j a b at c.seed.ensures c.loop-i.invariant.rooted);
     }
 
 pub returns-clause-rooted : goal.returns-clause-rooted
-returns-clause-rooted c = subst (λ (l : List ℕ). IsRooted l c.loop-i.markers.items) (take_all c.loop-i.i c.roots-roots.result.now (omega arith) ∙ c.roots-roots.ensures) c.loop-i.invariant.rooted
+returns-clause-rooted c = subst (λ (l : List ℕ). IsRooted l c.loop-i.markers.items)
+    (take_all c.loop-i.i c.roots-roots.result.now (omega arith) ∙ c.roots-roots.ensures) c.loop-i.invariant.rooted

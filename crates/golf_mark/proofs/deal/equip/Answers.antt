@@ -16,13 +16,15 @@ loop-hand-init c =
       new_hands = c.requires.new;
       count = omega (arith, ap length none, c.requires.hands.0);
       parts = omega (arith, ap marker_parts none, c.requires.same);
-      fresh = subst (λ (l : List Marker). AllFresh c.args.marks.now c.args.pool.now l) (sym none) (λ k m at. absurd (some-ne-none m (sym at)));
+      fresh = subst (λ (l : List Marker). AllFresh c.args.marks.now c.args.pool.now l) (sym none)
+          (λ k m at. absurd (some-ne-none m (sym at)));
     }
 
 pub loop-hand-preserved : goal.loop-hand-preserved
 loop-hand-preserved c =
     rw c.in_ok-push.ensures.items
-    (equipped c.args.marks.now c.args.pool.now c.pop-in-Some.new.self c.pop.new.self c.loop-hand.markers.items _ c.loop-hand.invariant c.in-Some-pop.ensures c.in-Some.ensures (record {
+    (equipped c.args.marks.now c.args.pool.now c.pop-in-Some.new.self c.pop.new.self c.loop-hand.markers.items _
+    c.loop-hand.invariant c.in-Some-pop.ensures c.in-Some.ensures (record {
       deferred = omega (arith, c.in_ok-deferred.ensures, c.requires.places);
       idle = c.in_ok-won.ensures.items;
       room = omega (arith, c.in_ok-won.ensures.room, c.requires.places);

@@ -13,4 +13,5 @@ returns g t c =
     let front : EachRuns marks pool a c.front-1.given.0 = search rules in
     let back : EachRuns marks pool b c.back-1.given.0 = search rules in
     let whole : a ++ b ≡ c.args.markers.now = search rules in
-    subst (λ (l : List Marker). EachRuns marks pool l (c.front-1.given.0 ++ c.back-1.given.0)) whole (EachRuns-append marks pool a b c.front-1.given.0 c.back-1.given.0 front back)
+    subst (λ (l : List Marker). EachRuns marks pool l (c.front-1.given.0 ++ c.back-1.given.0)) whole
+    (EachRuns-append marks pool a b c.front-1.given.0 c.back-1.given.0 front back)

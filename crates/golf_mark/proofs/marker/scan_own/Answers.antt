@@ -11,21 +11,28 @@ use Rattle.golf_mark.proofs.marker.scan_own.Goals as goal
 
 pub scan-requires-clause-place : goal.scan-requires-clause-place
 scan-requires-clause-place c =
-    let i = subst (λ (l : List ℕ). In c.in-Some.place l) (sym c.in-Some.ensures.items) (In-push c.in-Some.place c.pop.new.self.items) in
-    subst (λ (d : GraphParts). c.in-Some.place < place_count d) c.requires.graph (c.requires.fits.own c.in-Some.place i).0
+    let i = subst (λ (l : List ℕ). In c.in-Some.place l) (sym c.in-Some.ensures.items)
+    (In-push c.in-Some.place c.pop.new.self.items) in
+    subst (λ (d : GraphParts). c.in-Some.place < place_count d) c.requires.graph
+    (c.requires.fits.own c.in-Some.place i).0
 
 pub scan-requires-clause-known : goal.scan-requires-clause-known
 scan-requires-clause-known c =
-    let i = subst (λ (l : List ℕ). In c.in-Some.place l) (sym c.in-Some.ensures.items) (In-push c.in-Some.place c.pop.new.self.items) in
+    let i = subst (λ (l : List ℕ). In c.in-Some.place l) (sym c.in-Some.ensures.items)
+    (In-push c.in-Some.place c.pop.new.self.items) in
     (c.requires.fits.own c.in-Some.place i).1
 
 pub returns-in_default : goal.returns-in_default
 returns-in_default c =
     let a = c.args.marker.now in
-    Runs-idle c.args.shared.now.marks.now c.args.shared.now.pool.now a c.pop.new.self a.hand c.requires.fits (ap (λ (r : Roomy ℕ). r.items) c.in_default.ensures.items.1) (ap (λ (r : Roomy ℕ). r.spare) c.in_default.ensures.items.1)
+    Runs-idle c.args.shared.now.marks.now c.args.shared.now.pool.now a c.pop.new.self a.hand c.requires.fits
+    (ap (λ (r : Roomy ℕ). r.items) c.in_default.ensures.items.1)
+    (ap (λ (r : Roomy ℕ). r.spare) c.in_default.ensures.items.1)
     (record { fits = c.requires.fits.hand; pushed = refl; took = λ f. refl; number = refl })
 
 pub returns : goal.returns
 returns c =
-    Runs-own c.args.shared.now.marks.now c.args.shared.now.pool.now c.in-Some.place c.args.marker.now c.pop.new.self c.scan.new.scanner c.requires.fits c.in-Some.ensures.items c.scan.ensures.wins
-    (subst (λ (d : GraphParts). IsScanned d (known c.scan.new.scanner.seat) c.in-Some.place) (sym c.requires.graph) c.scan.ensures.scanned)
+    Runs-own c.args.shared.now.marks.now c.args.shared.now.pool.now c.in-Some.place c.args.marker.now c.pop.new.self
+    c.scan.new.scanner c.requires.fits c.in-Some.ensures.items c.scan.ensures.wins
+    (subst (λ (d : GraphParts). IsScanned d (known c.scan.new.scanner.seat) c.in-Some.place)
+    (sym c.requires.graph) c.scan.ensures.scanned)

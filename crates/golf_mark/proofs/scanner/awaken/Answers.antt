@@ -15,14 +15,19 @@ claim-requires-clause-justified c =
     let xs = c.args.sleepers.now in
     let s : ℕ = get_or xs c.loop-sleeper.sleeper-index 0 in
     let old = known c.args.scanner.now.seat in
-    Follows-grows (λ q. In q g.roots) (Justifies g) old (known c.loop-sleeper.scanner.seat) (c.args.nodes + s) c.loop-sleeper.invariant.wins.known
-    (Every-at (λ t. IsJustified g old (c.args.nodes + t)) xs s c.requires.justified (In-get_or xs c.loop-sleeper.sleeper-index 0 (omega arith)))
+    Follows-grows (λ q. In q g.roots) (Justifies g) old (known c.loop-sleeper.scanner.seat)
+    (c.args.nodes + s) c.loop-sleeper.invariant.wins.known
+    (Every-at (λ t. IsJustified g old (c.args.nodes + t)) xs s c.requires.justified
+    (In-get_or xs c.loop-sleeper.sleeper-index 0 (omega arith)))
 
 pub loop-sleeper-preserved : goal.loop-sleeper-preserved
 loop-sleeper-preserved c = record {
-  wins = Wins-trans c.args.marks.now c.args.scanner.now c.loop-sleeper.scanner c.claim.new.scanner c.loop-sleeper.invariant.wins c.claim.ensures.wins;
-  there = below_more _ _ (λ k h. c.claim.ensures.wins.known _ (c.loop-sleeper.invariant.there k h)) c.claim.ensures.there;
+  wins = Wins-trans c.args.marks.now c.args.scanner.now c.loop-sleeper.scanner c.claim.new.scanner
+      c.loop-sleeper.invariant.wins c.claim.ensures.wins;
+  there = below_more _ _ (λ k h. c.claim.ensures.wins.known _ (c.loop-sleeper.invariant.there k h))
+      c.claim.ensures.there;
 }
 
 pub returns-clause-there : goal.returns-clause-there
-returns-clause-there c = In-all (λ s. In (c.args.nodes + s) (known c.loop-sleeper.scanner.seat)) c.args.sleepers.now c.loop-sleeper.sleeper-index (omega arith) c.loop-sleeper.invariant.there
+returns-clause-there c = In-all (λ s. In (c.args.nodes + s) (known c.loop-sleeper.scanner.seat)) c.args.sleepers.now
+    c.loop-sleeper.sleeper-index (omega arith) c.loop-sleeper.invariant.there

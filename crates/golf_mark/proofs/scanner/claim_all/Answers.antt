@@ -15,14 +15,17 @@ claim-requires-clause-justified c =
     let xs = c.args.places.now in
     let p : ℕ = get_or xs c.loop-place.place-index 0 in
     let old = known c.args.scanner.now.seat in
-    Follows-grows (λ q. In q g.roots) (Justifies g) old (known c.loop-place.scanner.seat) p c.loop-place.invariant.wins.known
+    Follows-grows (λ q. In q g.roots) (Justifies g) old
+    (known c.loop-place.scanner.seat) p c.loop-place.invariant.wins.known
     (Every-at (IsJustified g old) xs p c.requires.justified (In-get_or xs c.loop-place.place-index 0 (omega arith)))
 
 pub loop-place-preserved : goal.loop-place-preserved
 loop-place-preserved c = record {
-  wins = Wins-trans c.args.marks.now c.args.scanner.now c.loop-place.scanner c.claim.new.scanner c.loop-place.invariant.wins c.claim.ensures.wins;
+  wins = Wins-trans c.args.marks.now c.args.scanner.now c.loop-place.scanner c.claim.new.scanner
+      c.loop-place.invariant.wins c.claim.ensures.wins;
   there = below_more _ _ (λ k h. c.claim.ensures.wins.known _ (c.loop-place.invariant.there k h)) c.claim.ensures.there;
 }
 
 pub returns-clause-there : goal.returns-clause-there
-returns-clause-there c = In-all (λ p. In p (known c.loop-place.scanner.seat)) c.args.places.now c.loop-place.place-index (omega arith) c.loop-place.invariant.there
+returns-clause-there c = In-all (λ p. In p (known c.loop-place.scanner.seat)) c.args.places.now c.loop-place.place-index
+    (omega arith) c.loop-place.invariant.there

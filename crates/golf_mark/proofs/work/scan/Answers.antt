@@ -12,10 +12,12 @@ pub claim_all-requires : goal.claim_all-requires
 claim_all-requires c =
     let g = c.args.graph.now in
     subst (λ (l : List ℕ). Every (λ p. p < c.args.work.now.places) l) (sym c.children.ensures)
-    (Every-weaker (λ p. p < node_count g) (λ p. p < c.args.work.now.places) (λ p h. omega (arith, h)) (children_of g c.args.place) (children-nodes g c.nodes-nodes.ensures.in_range c.args.place))
+    (Every-weaker (λ p. p < node_count g) (λ p. p < c.args.work.now.places) (λ p h. omega (arith, h))
+    (children_of g c.args.place) (children-nodes g c.nodes-nodes.ensures.in_range c.args.place))
 
 pub awaken-requires-clause-room : goal.awaken-requires-clause-room
-awaken-requires-clause-room c = Every-from (λ s. c.nodes-nodes.result + s < c.claim_all.new.self.places) c.of.result.now (λ s h.
+awaken-requires-clause-room c = Every-from (λ s. c.nodes-nodes.result + s < c.claim_all.new.self.places) c.of.result.now
+    (λ s h.
     let m = (c.requires.waiters.members c.args.place s).0 (subst (λ (l : List ℕ). In s l) c.of.ensures h) in
     omega (arith, m.0, c.claim_all.ensures.gains.places, c.nodes-nodes.ensures.count))
 
@@ -24,7 +26,8 @@ claim_all-requires-else-place-nodes c =
     let g = c.args.graph.now in
     let s : ℕ = c.args.place - c.nodes-nodes.result in
     subst (λ (l : List ℕ). Every (λ p. p < c.args.work.now.places) l) (sym c.references.ensures)
-    (Every-weaker (λ p. p < node_count g) (λ p. p < c.args.work.now.places) (λ p h. omega (arith, h)) (sleeper_references g s) (references-nodes g c.nodes-nodes.ensures.in_range s))
+    (Every-weaker (λ p. p < node_count g) (λ p. p < c.args.work.now.places) (λ p h. omega (arith, h))
+    (sleeper_references g s) (references-nodes g c.nodes-nodes.ensures.in_range s))
 
 pub returns-then-place-nodes-clause-gains : goal.returns-then-place-nodes-clause-gains
 returns-then-place-nodes-clause-gains c =
@@ -32,9 +35,12 @@ returns-then-place-nodes-clause-gains c =
     let p : ℕ = c.args.place in
     let Kind : ℕ → Type 0 = Justifies g p in
     Gains-trans Kind c.args.work.now c.claim_all.new.self c.awaken.new.self
-    (Gains-into (λ q. In q c.children.result.now) Kind c.args.work.now c.claim_all.new.self (λ q h. Justifies.child (subst (λ (l : List ℕ). In q l) c.children.ensures h)) c.claim_all.ensures.gains)
-    (Gains-into (λ q. (s : ℕ) × (q ≡ c.nodes-nodes.result + s) × In s c.of.result.now) Kind c.claim_all.new.self c.awaken.new.self
-    (λ q (s, e, h). Justifies.wakes s (omega (arith, e, c.nodes-nodes.ensures.count)) ((c.requires.waiters.members p s).0 (subst (λ (l : List ℕ). In s l) c.of.ensures h)).1)
+    (Gains-into (λ q. In q c.children.result.now) Kind c.args.work.now c.claim_all.new.self
+    (λ q h. Justifies.child (subst (λ (l : List ℕ). In q l) c.children.ensures h)) c.claim_all.ensures.gains)
+    (Gains-into (λ q. (s : ℕ) × (q ≡ c.nodes-nodes.result + s) × In s c.of.result.now) Kind c.claim_all.new.self
+    c.awaken.new.self
+    (λ q (s, e, h). Justifies.wakes s (omega (arith, e, c.nodes-nodes.ensures.count))
+    ((c.requires.waiters.members p s).0 (subst (λ (l : List ℕ). In s l) c.of.ensures h)).1)
     c.awaken.ensures.gains)
 
 pub returns-then-place-nodes-clause-scanned : goal.returns-then-place-nodes-clause-scanned
@@ -43,17 +49,21 @@ returns-then-place-nodes-clause-scanned c =
     let p : ℕ = c.args.place in
     let low : p < node_count g = omega (arith, c.nodes-nodes.ensures.count) in
     scanned_node g c.awaken.new.self.order p low
-    (λ q h. Gains-keeps _ c.claim_all.new.self c.awaken.new.self q c.awaken.ensures.gains (c.claim_all.ensures.there q (subst (λ (l : List ℕ). In q l) (sym c.children.ensures) h)))
+    (λ q h. Gains-keeps _ c.claim_all.new.self c.awaken.new.self q c.awaken.ensures.gains
+    (c.claim_all.ensures.there q (subst (λ (l : List ℕ). In q l) (sym c.children.ensures) h)))
     (λ s h. subst (λ (n : ℕ). In (n + s) c.awaken.new.self.order) c.nodes-nodes.ensures.count
-    (c.awaken.ensures.there s (subst (λ (l : List ℕ). In s l) (sym c.of.ensures) ((c.requires.waiters.members p s).1 (waits-below g s p h, h)))))
+    (c.awaken.ensures.there s (subst (λ (l : List ℕ). In s l) (sym c.of.ensures)
+    ((c.requires.waiters.members p s).1 (waits-below g s p h, h)))))
 
 pub returns-else-place-nodes-clause-gains : goal.returns-else-place-nodes-clause-gains
 returns-else-place-nodes-clause-gains c =
     let g = c.args.graph.now in
     let s : ℕ = c.args.place - c.nodes-nodes.result in
     let is : c.args.place ≡ node_count g + s = omega (arith, c.nodes-nodes.ensures.count) in
-    Gains-into (λ q. In q c.references.result.now) (Justifies g c.args.place) c.args.work.now c.claim_all-else-place-nodes.new.self
-    (λ q h. Justifies.refers s is (subst (λ (l : List ℕ). In q l) c.references.ensures h)) c.claim_all-else-place-nodes.ensures.gains
+    Gains-into (λ q. In q c.references.result.now)
+    (Justifies g c.args.place) c.args.work.now c.claim_all-else-place-nodes.new.self
+    (λ q h. Justifies.refers s is (subst (λ (l : List ℕ). In q l) c.references.ensures h))
+    c.claim_all-else-place-nodes.ensures.gains
 
 pub returns-else-place-nodes-clause-scanned : goal.returns-else-place-nodes-clause-scanned
 returns-else-place-nodes-clause-scanned c =
@@ -62,4 +72,6 @@ returns-else-place-nodes-clause-scanned c =
     let marked = c.claim_all-else-place-nodes.new.self.order in
     let is : c.args.place ≡ node_count g + s = omega (arith, c.nodes-nodes.ensures.count) in
     subst (λ (p : ℕ). IsScanned g marked p) (sym is)
-    (scanned_sleeper g marked s c.nodes-nodes.ensures.in_range (λ q h. c.claim_all-else-place-nodes.ensures.there q (subst (λ (l : List ℕ). In q l) (sym c.references.ensures) h)))
+    (scanned_sleeper g marked s c.nodes-nodes.ensures.in_range
+    (λ q h. c.claim_all-else-place-nodes.ensures.there q
+    (subst (λ (l : List ℕ). In q l) (sym c.references.ensures) h)))

@@ -17,6 +17,10 @@ loop-i-preserved c =
       filled = below_more _ _
           (λ k h.
           let apart : k ≢ i = omega arith in
-          ap (λ (l : List Bool). slice_index_or l k false) c.set.ensures ∙ get_or-set_other old i k _ false apart ∙ c.loop-i.invariant.filled k h)
-          (ap (λ (l : List Bool). slice_index_or l i false) c.set.ensures ∙ get_or-set_same old i _ false low ∙ ap (λ (n : ℕ). n == 1) (c.bit.ensures ∙ ap (bit_in (c.args.first + i)) (sym (get_or_of words (word_of (c.args.first + i)) c.word.result 0 c.word.ensures))));
+          ap (λ (l : List Bool). slice_index_or l k false) c.set.ensures ∙ get_or-set_other old i k _ false apart
+          ∙ c.loop-i.invariant.filled k h)
+          (ap (λ (l : List Bool). slice_index_or l i false) c.set.ensures ∙ get_or-set_same old i _ false low
+          ∙ ap (λ (n : ℕ). n == 1) (c.bit.ensures
+          ∙ ap (bit_in (c.args.first + i)) (sym
+          (get_or_of words (word_of (c.args.first + i)) c.word.result 0 c.word.ensures))));
     }

@@ -11,11 +11,18 @@ loop-number-preserved c =
     let Done : List ℕ → Type 0 = λ ns. AreNumbers flags (i + 1) ns in
     elim c.if-flag.branch [
       | then-flag w ↦ record {
-        numbers = subst Done (sym (ap (λ (r : Roomy ℕ). r.items) w.numbers-is ∙ w.push_ready.ensures.items)) (AreNumbers-yes flags i c.loop-number.numbers.items (search rules) c.loop-number.invariant.numbers);
-        room = omega (arith, c.loop-number.invariant.room, w.push_ready.ensures.spare, ap (λ (r : Roomy ℕ). r.spare) w.numbers-is);
+        numbers = subst Done (sym (ap (λ (r : Roomy ℕ). r.items) w.numbers-is ∙ w.push_ready.ensures.items))
+            (AreNumbers-yes flags i c.loop-number.numbers.items (search rules) c.loop-number.invariant.numbers);
+        room = omega (
+          arith,
+          c.loop-number.invariant.room,
+          w.push_ready.ensures.spare,
+          ap (λ (r : Roomy ℕ). r.spare) w.numbers-is,
+        );
       }
       | else-flag w ↦ record {
-        numbers = subst Done (sym (ap (λ (r : Roomy ℕ). r.items) w.numbers-is)) (AreNumbers-no flags i c.loop-number.numbers.items (search rules) c.loop-number.invariant.numbers);
+        numbers = subst Done (sym (ap (λ (r : Roomy ℕ). r.items) w.numbers-is))
+            (AreNumbers-no flags i c.loop-number.numbers.items (search rules) c.loop-number.invariant.numbers);
         room = omega (arith, c.loop-number.invariant.room, ap (λ (r : Roomy ℕ). r.spare) w.numbers-is);
       }
     ]

@@ -6,5 +6,8 @@ use Rattle.golf_marks.proofs.deal.deal.Goals as goal
 
 pub split_seat-seat-requires : goal.split_seat-seat-requires
 split_seat-seat-requires c =
-    let parts = ap (λ (me : Me (Unit {0}) View). me.0.parts) c.loop.invariant.view in
-    (c.loop.invariant.table, c.requires.words, forks c.args.marks.now.table.shared.key c.loop.first.id c.loop.first.me.0 (omega arith))
+    let parts = ap (λ (me : Me (Unit {0}) View). me.0.parts) c.loop.invariant.view in (
+      c.loop.invariant.table,
+      c.requires.words,
+      forks c.args.marks.now.table.shared.key c.loop.first.id c.loop.first.me.0 (omega arith),
+    )

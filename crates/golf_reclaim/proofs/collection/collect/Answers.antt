@@ -22,28 +22,42 @@ use Rattle.golf_reclaim.proofs.Promises.{are-still, is-unseen, leaves-exactly, m
 use Rattle.golf_reclaim.proofs.collection.collect.Goals as goal
 
 pub find_retained-requires-clause-rises : goal.find_retained-requires-clause-rises
-find_retained-requires-clause-rises g c κs within = gone-rise c.args.state.now c.in_ok-found.ensures.numbered.goroutines_rise c.in_ok-found.found.dead c.as_slice-gone.result.now c.in_ok-found.ensures.dead c.args.options.recover c.args.options.sets_finalisers (ap numbers c.as_slice-gone.ensures ∙ c.in_ok-found.ensures.gone)
+find_retained-requires-clause-rises g c κs within =
+    gone-rise c.args.state.now c.in_ok-found.ensures.numbered.goroutines_rise c.in_ok-found.found.dead
+    c.as_slice-gone.result.now c.in_ok-found.ensures.dead c.args.options.recover c.args.options.sets_finalisers
+    (ap numbers c.as_slice-gone.ensures ∙ c.in_ok-found.ensures.gone)
 
 pub outside-requires : goal.outside-requires
-outside-requires g c = gone-rise c.args.state.now c.in_ok-found.ensures.numbered.goroutines_rise c.in_ok-found.found.dead c.as_slice-gone.result.now c.in_ok-found.ensures.dead c.args.options.recover c.args.options.sets_finalisers (ap numbers c.as_slice-gone.ensures ∙ c.in_ok-found.ensures.gone)
+outside-requires g c = gone-rise c.args.state.now c.in_ok-found.ensures.numbered.goroutines_rise
+    c.in_ok-found.found.dead c.as_slice-gone.result.now c.in_ok-found.ensures.dead c.args.options.recover
+    c.args.options.sets_finalisers (ap numbers c.as_slice-gone.ensures ∙ c.in_ok-found.ensures.gone)
 
 pub note-requires-clause-rises : goal.note-requires-clause-rises
-note-requires-clause-rises g c = gone-rise c.args.state.now c.in_ok-found.ensures.numbered.goroutines_rise c.in_ok-found.found.dead c.as_slice-gone.result.now c.in_ok-found.ensures.dead c.args.options.recover c.args.options.sets_finalisers (ap numbers c.as_slice-gone.ensures ∙ c.in_ok-found.ensures.gone)
+note-requires-clause-rises g c = gone-rise c.args.state.now c.in_ok-found.ensures.numbered.goroutines_rise
+    c.in_ok-found.found.dead c.as_slice-gone.result.now c.in_ok-found.ensures.dead c.args.options.recover
+    c.args.options.sets_finalisers (ap numbers c.as_slice-gone.ensures ∙ c.in_ok-found.ensures.gone)
 
 pub note-requires-clause-known : goal.note-requires-clause-known
 note-requires-clause-known g c =
     let s = c.args.state.now in
     let b = c.args.book.now in
-    can-note s b c.args.options.recover c.args.options.sets_finalisers c.in_ok-found.found.dead c.as_slice-gone.result.now c.in_ok-found.ensures.dead (ap numbers c.as_slice-gone.ensures ∙ c.in_ok-found.ensures.gone) c.as_slice-4.result.now
-    (c.as_slice-4.ensures ∙ c.in_ok-new.ensures ∙ ap (λ (l : List GoroutineId). filter (λ (h : GoroutineId). not (stays_reported b h.0)) l) c.as_slice-2.ensures) c.in_ok-found.ensures.numbered
+    can-note s b c.args.options.recover c.args.options.sets_finalisers c.in_ok-found.found.dead
+    c.as_slice-gone.result.now c.in_ok-found.ensures.dead
+    (ap numbers c.as_slice-gone.ensures ∙ c.in_ok-found.ensures.gone) c.as_slice-4.result.now
+    (c.as_slice-4.ensures ∙ c.in_ok-new.ensures
+    ∙ ap (λ (l : List GoroutineId). filter (λ (h : GoroutineId). not (stays_reported b h.0)) l)
+    c.as_slice-2.ensures) c.in_ok-found.ensures.numbered
 
 pub retain_goroutines-requires-clause-count : goal.retain_goroutines-requires-clause-count
 retain_goroutines-requires-clause-count g c =
     let s = c.args.state.now in
     let out : List ℕ = numbers c.as_slice-gone.result.now in
     let stays : c.as_slice-5.result.now ≡ map (λ (e : ℕ × GoroutineView). not (is_in e.0 out)) s.goroutines =
-    c.as_slice-5.ensures ∙ c.in_ok-stays.ensures ∙ stays-are (λ k. not (is_in k out)) c.as_slice.result.now s.goroutines (ap (λ (hs : List GoroutineId). map (λ h. h.0) hs) c.as_slice.ensures ∙ c.in_ok-goroutines.ensures.present) in
-    ap length stays ∙ length-map s.goroutines (λ (e : ℕ × GoroutineView). not (is_in e.0 out)) ∙ ap (λ (u : State). length u.goroutines) (sym c.in_ok-note.ensures.state)
+    c.as_slice-5.ensures ∙ c.in_ok-stays.ensures
+    ∙ stays-are (λ k. not (is_in k out)) c.as_slice.result.now s.goroutines
+    (ap (λ (hs : List GoroutineId). map (λ h. h.0) hs) c.as_slice.ensures ∙ c.in_ok-goroutines.ensures.present) in
+    ap length stays ∙ length-map s.goroutines (λ (e : ℕ × GoroutineView). not (is_in e.0 out))
+    ∙ ap (λ (u : State). length u.goroutines) (sym c.in_ok-note.ensures.state)
 
 pub retain_goroutines-requires-clause-zero : goal.retain_goroutines-requires-clause-zero
 retain_goroutines-requires-clause-zero g c =
@@ -51,21 +65,28 @@ retain_goroutines-requires-clause-zero g c =
     let recover : Bool = c.args.options.recover in
     let sets : Bool = c.args.options.sets_finalisers in
     let gone : List ℕ = removed s recover sets in
-    let out : numbers c.as_slice-gone.result.now ≡ gone = ap numbers c.as_slice-gone.ensures ∙ c.in_ok-found.ensures.gone in
+    let out : numbers c.as_slice-gone.result.now ≡ gone = ap numbers c.as_slice-gone.ensures
+    ∙ c.in_ok-found.ensures.gone in
     let stays : c.as_slice-5.result.now ≡ map (λ (e : ℕ × GoroutineView). not (is_in e.0 gone)) s.goroutines =
-    c.as_slice-5.ensures ∙ c.in_ok-stays.ensures ∙ ap (λ (l : List ℕ). map (λ (h : GoroutineId). not (is_in h.0 l)) c.as_slice.result.now) out
-    ∙ stays-are (λ k. not (is_in k gone)) c.as_slice.result.now s.goroutines (ap (λ (hs : List GoroutineId). map (λ h. h.0) hs) c.as_slice.ensures ∙ c.in_ok-goroutines.ensures.present) in
+    c.as_slice-5.ensures ∙ c.in_ok-stays.ensures
+    ∙ ap (λ (l : List ℕ). map (λ (h : GoroutineId). not (is_in h.0 l)) c.as_slice.result.now) out
+    ∙ stays-are (λ k. not (is_in k gone)) c.as_slice.result.now s.goroutines
+    (ap (λ (hs : List GoroutineId). map (λ h. h.0) hs) c.as_slice.ensures ∙ c.in_ok-goroutines.ensures.present) in
     ap (λ (u : State). is_some (find 0 (kept c.as_slice-5.result.now u.goroutines))) c.in_ok-note.ensures.state
     ∙ zero-stays s recover sets c.as_slice-5.result.now stays c.goroutines.ensures.zero
 
 pub overflow_sub-result : goal.overflow_sub-result
 overflow_sub-result g c =
-    let less = fewer-gone c.args.state.now c.args.book.now c.args.options.recover c.args.options.sets_finalisers c.in_ok-found.found.dead c.as_slice-gone.result.now c.in_ok-found.ensures.dead (ap numbers c.as_slice-gone.ensures ∙ c.in_ok-found.ensures.gone) in
+    let less = fewer-gone c.args.state.now c.args.book.now c.args.options.recover c.args.options.sets_finalisers
+    c.in_ok-found.found.dead c.as_slice-gone.result.now c.in_ok-found.ensures.dead
+    (ap numbers c.as_slice-gone.ensures ∙ c.in_ok-found.ensures.gone) in
     omega (arith, less, c.len.ensures)
 
 pub overflow_cast-result-2 : goal.overflow_cast-result-2
 overflow_cast-result-2 g c =
-    let less = fewer-gone c.args.state.now c.args.book.now c.args.options.recover c.args.options.sets_finalisers c.in_ok-found.found.dead c.as_slice-gone.result.now c.in_ok-found.ensures.dead (ap numbers c.as_slice-gone.ensures ∙ c.in_ok-found.ensures.gone) in
+    let less = fewer-gone c.args.state.now c.args.book.now c.args.options.recover c.args.options.sets_finalisers
+    c.in_ok-found.found.dead c.as_slice-gone.result.now c.in_ok-found.ensures.dead
+    (ap numbers c.as_slice-gone.ensures ∙ c.in_ok-found.ensures.gone) in
     omega (arith, less, c.in_ok-found.ensures.few)
 
 pub returns-clause-state : goal.returns-clause-state
@@ -76,16 +97,22 @@ returns-clause-state g c =
     let recover : Bool = c.args.options.recover in
     let sets : Bool = c.args.options.sets_finalisers in
     let gone : List ℕ = removed s recover sets in
-    let out : numbers c.as_slice-gone.result.now ≡ gone = ap numbers c.as_slice-gone.ensures ∙ c.in_ok-found.ensures.gone in
+    let out : numbers c.as_slice-gone.result.now ≡ gone = ap numbers c.as_slice-gone.ensures
+    ∙ c.in_ok-found.ensures.gone in
     let stays : c.as_slice-5.result.now ≡ map (λ (e : ℕ × GoroutineView). not (is_in e.0 gone)) s.goroutines =
-    c.as_slice-5.ensures ∙ c.in_ok-stays.ensures ∙ ap (λ (l : List ℕ). map (λ (h : GoroutineId). not (is_in h.0 l)) c.as_slice.result.now) out
-    ∙ stays-are (λ k. not (is_in k gone)) c.as_slice.result.now s.goroutines (ap (λ (hs : List GoroutineId). map (λ h. h.0) hs) c.as_slice.ensures ∙ c.in_ok-goroutines.ensures.present) in
+    c.as_slice-5.ensures ∙ c.in_ok-stays.ensures
+    ∙ ap (λ (l : List ℕ). map (λ (h : GoroutineId). not (is_in h.0 l)) c.as_slice.result.now) out
+    ∙ stays-are (λ k. not (is_in k gone)) c.as_slice.result.now s.goroutines
+    (ap (λ (hs : List GoroutineId). map (λ h. h.0) hs) c.as_slice.ensures ∙ c.in_ok-goroutines.ensures.present) in
     let keep : c.as_slice-6.result.now ≡ map (λ (e : ℕ × Object). is_in e.0 (retained s gone)) s.objects =
-    c.as_slice-6.ensures ∙ c.in_ok-rest.ensures.keep ∙ ap (λ (l : List ℕ). map (λ (e : ℕ × Object). is_in e.0 (retained s l)) s.objects) out in
-    let flags : c.in_ok-rest.rest.marked.flags ≡ map (λ (e : ℕ × Object). is_in e.0 (reach s (sources s gone))) s.objects =
+    c.as_slice-6.ensures ∙ c.in_ok-rest.ensures.keep
+    ∙ ap (λ (l : List ℕ). map (λ (e : ℕ × Object). is_in e.0 (retained s l)) s.objects) out in
+    let flags : c.in_ok-rest.rest.marked.flags ≡ map
+    (λ (e : ℕ × Object). is_in e.0 (reach s (sources s gone))) s.objects =
     retained-flags s n w (numbers c.as_slice-gone.result.now) c.in_ok-rest.rest.marked c.in_ok-rest.ensures.marked
     ∙ ap (λ (l : List ℕ). map (λ (e : ℕ × Object). is_in e.0 (reach s (sources s l))) s.objects) out in
-    let queued : c.note.new.state ≡ plain_collect s = c.in_ok-note.ensures.state ∙ queued-alike s n recover sets w c.in_ok-rest.rest.marked.flags flags in
+    let queued : c.note.new.state ≡ plain_collect s = c.in_ok-note.ensures.state
+    ∙ queued-alike s n recover sets w c.in_ok-rest.rest.marked.flags flags in
     c.retain_objects.ensures
     ∙ ap (λ (u : State). record u { objects = kept c.as_slice-6.result.now u.objects }) c.retain_goroutines.ensures
     ∙ collected s n recover sets c.note.new.state c.as_slice-5.result.now c.as_slice-6.result.now queued stays keep
@@ -101,7 +128,8 @@ returns-clause-report g c =
     let new = c.in_ok-new.new in
     let are = c.in_ok-found.ensures.dead in
     let out : numbers gone ≡ removed s recover sets = ap numbers c.as_slice-gone.ensures ∙ c.in_ok-found.ensures.gone in
-    let fresh = c.in_ok-new.ensures ∙ ap (λ (l : List GoroutineId). filter (λ (h : GoroutineId). not (stays_reported b h.0)) l) c.as_slice-2.ensures in
+    let fresh = c.in_ok-new.ensures ∙ ap (λ (l : List GoroutineId). filter
+    (λ (h : GoroutineId). not (stays_reported b h.0)) l) c.as_slice-2.ensures in
     let less = fewer-gone s b recover sets found gone are out in
     report-is s b recover sets found gone are out new fresh (record {
       number = c.collections.result;
@@ -124,24 +152,34 @@ returns-clause-book g c =
     let b = c.args.book.now in
     let recover : Bool = c.args.options.recover in
     let sets : Bool = c.args.options.sets_finalisers in
-    let out : numbers c.as_slice-gone.result.now ≡ removed s recover sets = ap numbers c.as_slice-gone.ensures ∙ c.in_ok-found.ensures.gone in
-    let fresh = c.as_slice-4.ensures ∙ c.in_ok-new.ensures ∙ ap (λ (l : List GoroutineId). filter (λ (h : GoroutineId). not (stays_reported b h.0)) l) c.as_slice-2.ensures in
-    c.in_ok-note.ensures.book ∙ book-is s b recover sets c.in_ok-found.found.dead c.as_slice-gone.result.now c.in_ok-found.ensures.dead out c.as_slice-4.result.now fresh
+    let out : numbers c.as_slice-gone.result.now ≡ removed s recover sets = ap numbers c.as_slice-gone.ensures
+    ∙ c.in_ok-found.ensures.gone in
+    let fresh = c.as_slice-4.ensures ∙ c.in_ok-new.ensures
+    ∙ ap (λ (l : List GoroutineId). filter (λ (h : GoroutineId). not (stays_reported b h.0)) l)
+    c.as_slice-2.ensures in
+    c.in_ok-note.ensures.book ∙ book-is s b recover sets c.in_ok-found.found.dead c.as_slice-gone.result.now
+    c.in_ok-found.ensures.dead out c.as_slice-4.result.now fresh
 
 pub returns-clause-plain_report : goal.returns-clause-plain_report
-returns-clause-plain_report g c apart = returns-clause-report g c ∙ report-plain c.args.state.now c.args.book.now c.args.options.recover c.args.options.sets_finalisers apart
+returns-clause-plain_report g c apart = returns-clause-report g c
+    ∙ report-plain c.args.state.now c.args.book.now c.args.options.recover c.args.options.sets_finalisers apart
 
 pub returns-clause-plain_book : goal.returns-clause-plain_book
-returns-clause-plain_book g c apart = returns-clause-book g c ∙ book-plain c.args.state.now c.args.book.now c.args.options.recover c.args.options.sets_finalisers apart
+returns-clause-plain_book g c apart = returns-clause-book g c
+    ∙ book-plain c.args.state.now c.args.book.now c.args.options.recover c.args.options.sets_finalisers apart
 
 pub returns-clause-still : goal.returns-clause-still
-returns-clause-still g c = are-still c.args.state.now c.args.book.now c.args.options.recover c.args.options.sets_finalisers _ c.in_ok-found.ensures.numbered (returns-clause-report g c)
+returns-clause-still g c = are-still c.args.state.now c.args.book.now c.args.options.recover
+    c.args.options.sets_finalisers _ c.in_ok-found.ensures.numbered (returns-clause-report g c)
 
 pub returns-clause-unseen : goal.returns-clause-unseen
-returns-clause-unseen g c = is-unseen c.args.state.now c.retain_objects.new.self c.args.options.recover c.args.options.sets_finalisers (returns-clause-state g c)
+returns-clause-unseen g c = is-unseen c.args.state.now c.retain_objects.new.self c.args.options.recover
+    c.args.options.sets_finalisers (returns-clause-state g c)
 
 pub returns-clause-exactly : goal.returns-clause-exactly
-returns-clause-exactly g c = leaves-exactly c.args.state.now c.retain_objects.new.self c.args.options.recover c.args.options.sets_finalisers (returns-clause-state g c)
+returns-clause-exactly g c = leaves-exactly c.args.state.now c.retain_objects.new.self c.args.options.recover
+    c.args.options.sets_finalisers (returns-clause-state g c)
 
 pub returns-clause-moves_on : goal.returns-clause-moves_on
-returns-clause-moves_on g c = moves-on c.args.state.now c.retain_objects.new.self c.args.options.recover c.args.options.sets_finalisers (returns-clause-state g c)
+returns-clause-moves_on g c = moves-on c.args.state.now c.retain_objects.new.self c.args.options.recover
+    c.args.options.sets_finalisers (returns-clause-state g c)

@@ -10,9 +10,11 @@ pub returns-clause-members : goal.returns-clause-members
 returns-clause-members c = λ n.
     let gone = c.args.gone.now in
     staying-among c.args.staying.now c.args.new.now gone n
-    (c.in_ok-add_unlisted.ensures ∙ ap (λ (l : List GoroutineId). l ++ filter (λ (g : GoroutineId). not (is_in g.0 (numbers gone))) c.args.staying.now) c.new-after.ensures.items)
+    (c.in_ok-add_unlisted.ensures ∙ ap (λ (l : List GoroutineId). l
+    ++ filter (λ (g : GoroutineId). not (is_in g.0 (numbers gone))) c.args.staying.now) c.new-after.ensures.items)
     c.in_ok-add_unlisted-2.ensures
     c.sort.ensures.permutation
 
 pub returns-clause-rises : goal.returns-clause-rises
-returns-clause-rises c = IsNonDecreasingBy-from_sort (λ (g : GoroutineId). g.0) c.sort.new.self.items c.in_ok-sort.ensures.sorted
+returns-clause-rises c = IsNonDecreasingBy-from_sort
+    (λ (g : GoroutineId). g.0) c.sort.new.self.items c.in_ok-sort.ensures.sorted

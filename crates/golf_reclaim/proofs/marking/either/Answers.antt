@@ -14,13 +14,18 @@ loop-at-preserved c =
     let y : Bool = get_or others i false in
     elim c.if-flags-at.branch [
       | then-flags-at w ↦
-          either-more flags others i _ within (slice_get-get_or others i false there) (w.is_set-is ∙ w.if-flags-at.true ∙ sym (ap (λ (t : Bool). t || y) w.if-flags-at.true)) c.loop-at.invariant c.in_ok-push.ensures.ok
+          either-more flags others i _ within (slice_get-get_or others i false there)
+          (w.is_set-is ∙ w.if-flags-at.true ∙ sym (ap (λ (t : Bool). t || y) w.if-flags-at.true))
+          c.loop-at.invariant c.in_ok-push.ensures.ok
       | else-flags-at w ↦
-          either-more flags others i _ within (slice_get-get_or others i false there) (w.is_set-is ∙ sym (ap (λ (t : Bool). t || y) w.if-flags-at.false)) c.loop-at.invariant c.in_ok-push.ensures.ok
+          either-more flags others i _ within (slice_get-get_or others i false there)
+          (w.is_set-is ∙ sym (ap (λ (t : Bool). t || y) w.if-flags-at.false)) c.loop-at.invariant
+          c.in_ok-push.ensures.ok
     ]
 
 pub returns-clause-flags : goal.returns-clause-flags
-returns-clause-flags c = either-all c.args.flags.now c.args.others.now c.loop-at.at c.loop-at.both (omega arith) (omega (arith, c.requires)) c.loop-at.invariant
+returns-clause-flags c = either-all c.args.flags.now c.args.others.now c.loop-at.at c.loop-at.both (omega arith)
+    (omega (arith, c.requires)) c.loop-at.invariant
 
 pub returns-clause-length : goal.returns-clause-length
 returns-clause-length c = ap length (returns-clause-flags c) ∙ either-long c.args.flags.now c.args.others.now c.requires

@@ -10,20 +10,28 @@ loop-node-preserved c =
     let finalised = c.args.graph.now.finalised in
     let i = c.loop-node.node in
     let within : i < length marked = omega (arith, c.nodes-node-end.ensures.count) in
-    let there : i < length finalised = omega (arith, c.nodes-node-end.ensures.count, c.nodes-node-end.ensures.in_range.flagged) in
+    let there : i < length finalised = omega
+    (arith, c.nodes-node-end.ensures.count, c.nodes-node-end.ensures.in_range.flagged) in
     elim c.if-marked-node.branch [
       | then-marked-node w ↦
           let y : Bool = get_or finalised i false in
-          either-more marked finalised i _ within (slice_get-get_or finalised i false there) (w.stays-is ∙ w.if-marked-node.true ∙ sym (ap (λ (t : Bool). t || y) w.if-marked-node.true)) c.loop-node.invariant c.in_ok-push.ensures.ok
+          either-more marked finalised i _ within (slice_get-get_or finalised i false there)
+          (w.stays-is ∙ w.if-marked-node.true ∙ sym (ap (λ (t : Bool). t || y) w.if-marked-node.true))
+          c.loop-node.invariant c.in_ok-push.ensures.ok
       | else-marked-node w ↦
           let y : Bool = w.finalised-stays.result in
-          either-more marked finalised i _ within w.finalised-stays.ensures (w.stays-is ∙ sym (ap (λ (t : Bool). t || y) w.if-marked-node.false)) c.loop-node.invariant c.in_ok-push.ensures.ok
+          either-more marked finalised i _ within w.finalised-stays.ensures
+          (w.stays-is ∙ sym (ap (λ (t : Bool). t || y) w.if-marked-node.false)) c.loop-node.invariant
+          c.in_ok-push.ensures.ok
     ]
 
 pub returns-clause-flags : goal.returns-clause-flags
 returns-clause-flags c =
-    either-all c.args.marked.now c.args.graph.now.finalised c.loop-node.node c.loop-node.keep (omega (arith, c.nodes-node-end.ensures.count)) (omega (arith, c.nodes-node-end.ensures.count, c.nodes-node-end.ensures.in_range.flagged)) c.loop-node.invariant
+    either-all c.args.marked.now c.args.graph.now.finalised c.loop-node.node c.loop-node.keep
+    (omega (arith, c.nodes-node-end.ensures.count))
+    (omega (arith, c.nodes-node-end.ensures.count, c.nodes-node-end.ensures.in_range.flagged)) c.loop-node.invariant
 
 pub returns-clause-length : goal.returns-clause-length
 returns-clause-length c =
-    ap length (returns-clause-flags c) ∙ either-long c.args.marked.now c.args.graph.now.finalised (c.requires ∙ sym c.nodes-node-end.ensures.in_range.flagged) ∙ c.requires
+    ap length (returns-clause-flags c) ∙ either-long c.args.marked.now c.args.graph.now.finalised
+    (c.requires ∙ sym c.nodes-node-end.ensures.in_range.flagged) ∙ c.requires

@@ -11,5 +11,11 @@ loop-at-preserved c =
     let is : get_or rows i [] ≡ c.row.result.now = get_or_from_slice_get rows i c.row.result.now [] c.row.ensures in
     record {
       size = c.count_row.ensures.length ∙ c.loop-at.invariant.size;
-      counted = λ n. omega (arith, c.in_ok-count_row.ensures.counts n, c.loop-at.invariant.counted n, rows-more n i rows (omega (arith, c.len-at-end.ensures)), ap (occurrences n) is);
+      counted = λ n. omega (
+        arith,
+        c.in_ok-count_row.ensures.counts n,
+        c.loop-at.invariant.counted n,
+        rows-more n i rows (omega (arith, c.len-at-end.ensures)),
+        ap (occurrences n) is,
+      );
     }

@@ -8,7 +8,9 @@ use Rattle.golf_rows.proofs.rows.empty_rows.Goals as goal
 pub loop-preserved : goal.loop-preserved
 loop-preserved c =
     let old = c.loop.rows in
-    let is : c.push.new.self ≡ old ++ [] ∷ [] = c.in_ok-push.ensures.ok ∙ ap (λ (row : List ℕ). old ++ row ∷ []) c.new.ensures in (
+    let is : c.push.new.self ≡ old ++ [] ∷ [] = c.in_ok-push.ensures.ok
+    ∙ ap (λ (row : List ℕ). old ++ row ∷ []) c.new.ensures in (
       omega (arith, ap length is, length_push old [], c.loop.invariant.0),
-      subst (λ (rows : List (List ℕ)). (n s : ℕ) → In s (row_of rows n) → ⊥) (sym is) (empty-push old c.loop.invariant.1),
+      subst (λ (rows : List (List ℕ)). (n s : ℕ) → In s (row_of rows n) → ⊥) (sym is)
+          (empty-push old c.loop.invariant.1),
     )

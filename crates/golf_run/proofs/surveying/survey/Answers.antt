@@ -6,7 +6,9 @@ use Rattle.golf_run.proofs.surveying.survey.Goals as goal
 pub returns : goal.returns
 returns g c =
     let course = c.in-Ok.course in record {
-      status = status-is course c.args.code.now c.args.options _ _ c.in-Ok.ensures c.status_by.result c.status_by.ensures;
+      status = status-is course c.args.code.now c.args.options _ _ c.in-Ok.ensures c.status_by.result
+          c.status_by.ensures;
       totals = c.in-Ok.ensures.totals;
-      line = c.in_ok-line.ensures ∙ ap (λ t. last_line t course.turns course.ending) c.as_slice.ensures ∙ c.in-Ok.ensures.line;
+      line = c.in_ok-line.ensures ∙ ap (λ t. last_line t course.turns course.ending) c.as_slice.ensures
+          ∙ c.in-Ok.ensures.line;
     }

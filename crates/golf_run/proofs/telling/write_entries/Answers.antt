@@ -5,7 +5,9 @@ use Rattle.golf_run.proofs.telling.write_entries.Goals as goal
 
 pub returns-in_err-write_entry : goal.returns-in_err-write_entry
 returns-in_err-write_entry g c =
-    loop-cut (λ k e. entry_line e ∷ []) (λ k es. map entry_line es) (λ k. refl) (λ k e es. refl) c.args.entries.now c.loop-entry.entry-index _ _ c.loop-entry-test.true c.loop-entry.invariant.written c.loop-entry.invariant.steady
+    loop-cut (λ k e. entry_line e ∷ []) (λ k es. map entry_line es) (λ k. refl)
+    (λ k e es. refl) c.args.entries.now c.loop-entry.entry-index _ _ c.loop-entry-test.true
+    c.loop-entry.invariant.written c.loop-entry.invariant.steady
     (record {
       fault = c.in_err-write_entry.field-0.0;
       outcome = c.write_entry.result;
@@ -17,6 +19,8 @@ returns-in_err-write_entry g c =
 
 pub loop-entry-preserved : goal.loop-entry-preserved
 loop-entry-preserved g c = record {
-  written = loop-next (λ k e. entry_line e ∷ []) (λ k es. map entry_line es) (λ k. refl) (λ k e es. refl) c.args.entries.now c.loop-entry.entry-index _ _ _ _ c.loop-entry-test.true c.loop-entry.invariant.written c.in_ok-write_entry.ensures.0;
+  written = loop-next (λ k e. entry_line e ∷ []) (λ k es. map entry_line es) (λ k. refl)
+      (λ k e es. refl) c.args.entries.now c.loop-entry.entry-index _ _ _ _ c.loop-entry-test.true
+      c.loop-entry.invariant.written c.in_ok-write_entry.ensures.0;
   steady = c.in_ok-write_entry.ensures.1 ∙ c.loop-entry.invariant.steady;
 }

@@ -7,6 +7,7 @@ use Rattle.golf_run.proofs.telling.write_entries.Given as goal
 -- the first lines stand
 abbrev pub invariant-loop-entry : goal.invariant-loop-entry
 invariant-loop-entry g l = record {
-  written : Appends (g.E.Sink.written l.fn.err) (g.E.Sink.written l.err) (joined (map entry_line (take l.entry-index l.entries)));
+  written : Appends (g.E.Sink.written l.fn.err) (g.E.Sink.written l.err)
+      (joined (map entry_line (take l.entry-index l.entries)));
   steady : g.E.Sink.faults l.err ≡ g.E.Sink.faults l.fn.err;
 }

@@ -14,14 +14,19 @@ returns-in_err-write_sleeper g c =
     let why = c.args.why.now in
     let k = c.loop-sleeper.sleeper in
     let here = ap (λ o. map reached_line (reached_at why.graph k o)) (at-is why.asleep k) in
-    let within : k < length why.asleep = omega (arith, c.requires.entries, c.loop-sleeper-test.true, c.sleepers-sleeper-end.ensures) in
-    loop-cut (λ n o. map reached_line (reached_at why.graph n o)) (λ n os. map reached_line (reached_from why.graph n os)) (λ n. refl) (λ n o os. map-append reached_line (reached_at why.graph n o) (reached_from why.graph (n + 1) os))
+    let within : k < length why.asleep = omega
+    (arith, c.requires.entries, c.loop-sleeper-test.true, c.sleepers-sleeper-end.ensures) in
+    loop-cut (λ n o. map reached_line (reached_at why.graph n o))
+    (λ n os. map reached_line (reached_from why.graph n os)) (λ n. refl)
+    (λ n o os. map-append reached_line (reached_at why.graph n o) (reached_from why.graph (n + 1) os))
     why.asleep k None _ within c.loop-sleeper.invariant.written c.loop-sleeper.invariant.steady
     (record {
       fault = c.in_err-write_sleeper.field-0.0;
       outcome = c.write_sleeper.result;
       was = c.in_err-write_sleeper.was;
-      written = subst (λ ls. HasWritten c.write_sleeper.result ls (g.E.Sink.written c.loop-sleeper.err) (g.E.Sink.written c.write_sleeper.new.err) (g.E.Sink.faults c.loop-sleeper.err) (g.E.Sink.faults c.write_sleeper.new.err)) here c.write_sleeper.ensures;
+      written = subst (λ ls. HasWritten c.write_sleeper.result ls (g.E.Sink.written c.loop-sleeper.err)
+          (g.E.Sink.written c.write_sleeper.new.err) (g.E.Sink.faults c.loop-sleeper.err)
+          (g.E.Sink.faults c.write_sleeper.new.err)) here c.write_sleeper.ensures;
       failed = c.from_residual.ensures.0;
       same = c.from_residual.ensures.1;
     })
@@ -31,11 +36,18 @@ loop-sleeper-preserved g c =
     let why = c.args.why.now in
     let k = c.loop-sleeper.sleeper in
     let here = ap (λ o. map reached_line (reached_at why.graph k o)) (at-is why.asleep k) in
-    let within : k < length why.asleep = omega (arith, c.requires.entries, c.loop-sleeper-test.true, c.sleepers-sleeper-end.ensures) in
-    let w = subst (λ ls. HasWritten c.write_sleeper.result ls (g.E.Sink.written c.loop-sleeper.err) (g.E.Sink.written c.write_sleeper.new.err) (g.E.Sink.faults c.loop-sleeper.err) (g.E.Sink.faults c.write_sleeper.new.err)) here c.write_sleeper.ensures in
-    let done = subst (λ r. HasWritten r (map reached_line (reached_at why.graph k (get_or why.asleep k None))) (g.E.Sink.written c.loop-sleeper.err) (g.E.Sink.written c.write_sleeper.new.err) (g.E.Sink.faults c.loop-sleeper.err) (g.E.Sink.faults c.write_sleeper.new.err)) c.in_ok-write_sleeper.was w in
+    let within : k < length why.asleep = omega
+    (arith, c.requires.entries, c.loop-sleeper-test.true, c.sleepers-sleeper-end.ensures) in
+    let w = subst (λ ls. HasWritten c.write_sleeper.result ls (g.E.Sink.written c.loop-sleeper.err)
+    (g.E.Sink.written c.write_sleeper.new.err) (g.E.Sink.faults c.loop-sleeper.err)
+    (g.E.Sink.faults c.write_sleeper.new.err)) here c.write_sleeper.ensures in
+    let done = subst (λ r. HasWritten r (map reached_line (reached_at why.graph k (get_or why.asleep k None)))
+    (g.E.Sink.written c.loop-sleeper.err) (g.E.Sink.written c.write_sleeper.new.err)
+    (g.E.Sink.faults c.loop-sleeper.err) (g.E.Sink.faults c.write_sleeper.new.err)) c.in_ok-write_sleeper.was w in
     record {
-      written = loop-next (λ n o. map reached_line (reached_at why.graph n o)) (λ n os. map reached_line (reached_from why.graph n os)) (λ n. refl) (λ n o os. map-append reached_line (reached_at why.graph n o) (reached_from why.graph (n + 1) os))
+      written = loop-next (λ n o. map reached_line (reached_at why.graph n o))
+          (λ n os. map reached_line (reached_from why.graph n os)) (λ n. refl)
+          (λ n o os. map-append reached_line (reached_at why.graph n o) (reached_from why.graph (n + 1) os))
           why.asleep k None _ _ _ within c.loop-sleeper.invariant.written done.0;
       steady = done.1 ∙ c.loop-sleeper.invariant.steady;
     }
@@ -43,7 +55,10 @@ loop-sleeper-preserved g c =
 pub returns : goal.returns
 returns g c =
     let why = c.args.why.now in
-    let all : length why.asleep ≤ c.loop-sleeper.sleeper = omega (arith, c.requires.entries, c.loop-sleeper-test.false, c.sleepers-sleeper-end.ensures) in (
-      subst (λ os. Appends (g.E.Sink.written c.args.err.now) (g.E.Sink.written c.loop-sleeper.err) (joined (map reached_line (reached_from why.graph 0 os)))) (take_all c.loop-sleeper.sleeper why.asleep all) c.loop-sleeper.invariant.written,
+    let all : length why.asleep ≤ c.loop-sleeper.sleeper =
+    omega (arith, c.requires.entries, c.loop-sleeper-test.false, c.sleepers-sleeper-end.ensures) in (
+      subst (λ os. Appends (g.E.Sink.written c.args.err.now) (g.E.Sink.written c.loop-sleeper.err)
+          (joined (map reached_line (reached_from why.graph 0 os))))
+          (take_all c.loop-sleeper.sleeper why.asleep all) c.loop-sleeper.invariant.written,
       c.loop-sleeper.invariant.steady,
     )

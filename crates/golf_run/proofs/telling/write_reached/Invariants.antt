@@ -8,6 +8,7 @@ use Rattle.golf_run.proofs.telling.write_reached.Given as goal
 -- the lines of the first sleepers stand
 abbrev pub invariant-loop-sleeper : goal.invariant-loop-sleeper
 invariant-loop-sleeper g l = record {
-  written : Appends (g.E.Sink.written l.fn.err) (g.E.Sink.written l.err) (joined (map reached_line (reached_from l.why.graph 0 (take l.sleeper l.why.asleep))));
+  written : Appends (g.E.Sink.written l.fn.err) (g.E.Sink.written l.err)
+      (joined (map reached_line (reached_from l.why.graph 0 (take l.sleeper l.why.asleep))));
   steady : g.E.Sink.faults l.err ≡ g.E.Sink.faults l.fn.err;
 }

@@ -18,4 +18,6 @@ returns-in_err-write_report g c =
 pub returns : goal.returns
 returns g c =
     let r = c.args.report.now in
-    written-after c.write_why.result (report_lines r) (explained_lines r.number c.args.why.now) _ _ _ _ c.in_ok-write_report.ensures.0 c.in_ok-write_report.ensures.1 c.write_why.ensures
+    written-after c.write_why.result (report_lines r)
+    (explained_lines r.number c.args.why.now) _ _ _ _ c.in_ok-write_report.ensures.0 c.in_ok-write_report.ensures.1
+    c.write_why.ensures

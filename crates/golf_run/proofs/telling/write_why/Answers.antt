@@ -11,15 +11,30 @@ use Rattle.golf_run.proofs.telling.write_why.Goals as goal
 pub returns-in_err-write_all : goal.returns-in_err-write_all
 returns-in_err-write_all g c =
     let e = c.in-Some.why.now in
-    let here : explained_lines c.args.number (Some e) ≡ explained_lines c.args.number c.args.why.now = ap (explained_lines c.args.number) c.in-Some.ensures.value in
-    subst (λ ls. HasWritten c.from_residual-in_err-write_all.result ls (g.E.Sink.written c.args.err.now) (g.E.Sink.written c.write_all.new.sink) (g.E.Sink.faults c.args.err.now) (g.E.Sink.faults c.write_all.new.sink)) here
-    (line-broken c.from_residual-in_err-write_all.result (certificate_line c.args.number e.places) (map reached_line (reached_from e.graph 0 e.asleep)) _ _ _ _ c.from_residual-in_err-write_all.ensures.0 c.from_residual-in_err-write_all.ensures.1
-    (subst (WritesPrefix (g.E.Sink.written c.args.err.now) (g.E.Sink.written c.write_all.new.sink)) (c.as_slice.ensures ∙ c.in_ok-line.ensures ∙ ap (certificate_line c.args.number) c.places.ensures) c.in_err-write_all.ensures.prefix) c.in_err-write_all.ensures.cause.failed)
+    let here : explained_lines c.args.number (Some e) ≡ explained_lines c.args.number c.args.why.now =
+    ap (explained_lines c.args.number) c.in-Some.ensures.value in
+    subst (λ ls. HasWritten c.from_residual-in_err-write_all.result ls (g.E.Sink.written c.args.err.now)
+    (g.E.Sink.written c.write_all.new.sink) (g.E.Sink.faults c.args.err.now) (g.E.Sink.faults c.write_all.new.sink))
+    here
+    (line-broken c.from_residual-in_err-write_all.result (certificate_line c.args.number e.places)
+    (map reached_line (reached_from e.graph 0 e.asleep)) _ _ _ _ c.from_residual-in_err-write_all.ensures.0
+    c.from_residual-in_err-write_all.ensures.1
+    (subst (WritesPrefix (g.E.Sink.written c.args.err.now) (g.E.Sink.written c.write_all.new.sink))
+    (c.as_slice.ensures ∙ c.in_ok-line.ensures ∙ ap (certificate_line c.args.number) c.places.ensures)
+    c.in_err-write_all.ensures.prefix) c.in_err-write_all.ensures.cause.failed)
 
 pub returns : goal.returns
 returns g c =
     let e = c.in-Some.why.now in
-    let here : explained_lines c.args.number (Some e) ≡ explained_lines c.args.number c.args.why.now = ap (explained_lines c.args.number) c.in-Some.ensures.value in
-    let line = subst (Appends (g.E.Sink.written c.args.err.now) (g.E.Sink.written c.write_all.new.sink)) (c.as_slice.ensures ∙ c.in_ok-line.ensures ∙ ap (certificate_line c.args.number) c.places.ensures) c.in_ok-write_all.ensures.ok in
-    subst (λ ls. HasWritten c.write_reached.result ls (g.E.Sink.written c.args.err.now) (g.E.Sink.written c.write_reached.new.err) (g.E.Sink.faults c.args.err.now) (g.E.Sink.faults c.write_reached.new.err)) here
-    (written-after c.write_reached.result (certificate_line c.args.number e.places ∷ []) (map reached_line (reached_from e.graph 0 e.asleep)) _ _ _ _ (one-line (certificate_line c.args.number e.places) _ _ line) c.in_ok-write_all.ensures.cause.steady c.write_reached.ensures)
+    let here : explained_lines c.args.number (Some e) ≡ explained_lines c.args.number c.args.why.now =
+    ap (explained_lines c.args.number) c.in-Some.ensures.value in
+    let line = subst (Appends (g.E.Sink.written c.args.err.now) (g.E.Sink.written c.write_all.new.sink))
+    (c.as_slice.ensures ∙ c.in_ok-line.ensures ∙ ap (certificate_line c.args.number) c.places.ensures)
+    c.in_ok-write_all.ensures.ok in
+    subst (λ ls. HasWritten c.write_reached.result ls (g.E.Sink.written c.args.err.now)
+    (g.E.Sink.written c.write_reached.new.err) (g.E.Sink.faults c.args.err.now)
+    (g.E.Sink.faults c.write_reached.new.err)) here
+    (written-after c.write_reached.result (certificate_line c.args.number e.places ∷ [])
+    (map reached_line (reached_from e.graph 0 e.asleep)) _ _ _ _
+    (one-line (certificate_line c.args.number e.places) _ _ line) c.in_ok-write_all.ensures.cause.steady
+    c.write_reached.ensures)

@@ -8,10 +8,12 @@ use Rattle.golf_run.proofs.turns.go_through.Given as goal
 abbrev pub invariant-loop-book : goal.invariant-loop-book
 invariant-loop-book g l = record {
   going : IsGoing l.code l.fn.options (coming_left l.coming) l.coming.events.done l.state l.book l.totals
-      (sinks (g.O.Sink.written l.fn.out) (g.O.Sink.faults l.fn.out) (g.E.Sink.written l.fn.err) (g.E.Sink.faults l.fn.err))
+      (sinks (g.O.Sink.written l.fn.out) (g.O.Sink.faults l.fn.out) (g.E.Sink.written l.fn.err)
+      (g.E.Sink.faults l.fn.err))
       (sinks (g.O.Sink.written l.out) (g.O.Sink.faults l.out) (g.E.Sink.written l.err) (g.E.Sink.faults l.err));
   steady : IsSteady
-      (sinks (g.O.Sink.written l.fn.out) (g.O.Sink.faults l.fn.out) (g.E.Sink.written l.fn.err) (g.E.Sink.faults l.fn.err))
+      (sinks (g.O.Sink.written l.fn.out) (g.O.Sink.faults l.fn.out) (g.E.Sink.written l.fn.err)
+      (g.E.Sink.faults l.fn.err))
       (sinks (g.O.Sink.written l.out) (g.O.Sink.faults l.out) (g.E.Sink.written l.err) (g.E.Sink.faults l.err));
 }
 

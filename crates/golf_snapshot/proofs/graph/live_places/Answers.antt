@@ -11,12 +11,17 @@ use Rattle.golf_snapshot.proofs.graph.live_places.Goals as goal
 pub returns-clause-roots : goal.returns-clause-roots
 returns-clause-roots c =
     let s = c.args.state.now in
-    four-pieces s.objects c.new-roots.result (refs s.globals) (queue_refs s.queue) (awake_refs s.goroutines) (refs_where (has_finaliser s) s.objects)
+    four-pieces s.objects c.new-roots.result (refs s.globals) (queue_refs s.queue) (awake_refs s.goroutines)
+    (refs_where (has_finaliser s) s.objects)
     (c.in_ok-add_values.ensures
-    ∙ ap (λ (h : NumberedObjects). c.new-roots.result ++ ranks h.objects (refs c.globals.result.now)) c.heap.ensures.objects
+    ∙ ap (λ (h : NumberedObjects). c.new-roots.result ++ ranks h.objects (refs c.globals.result.now))
+    c.heap.ensures.objects
     ∙ ap (λ (vs : List Value). c.new-roots.result ++ ranks s.objects (refs vs)) c.globals.ensures)
     (c.in_ok-add_queue.ensures
-    ∙ ap (λ (h : NumberedObjects). c.add_values.new.nodes ++ ranks h.objects (queue_refs c.queue.result.now)) c.heap-2.ensures.objects
+    ∙ ap (λ (h : NumberedObjects). c.add_values.new.nodes ++ ranks h.objects (queue_refs c.queue.result.now))
+    c.heap-2.ensures.objects
     ∙ ap (λ (qs : List Queued). c.add_values.new.nodes ++ ranks s.objects (queue_refs qs)) c.queue.ensures)
     c.in_ok-sleepers.ensures.nodes c.in_ok-add_finalised.ensures
-    ∙ ap (λ (old : List ℕ). old ++ ranks s.objects (refs s.globals ++ (queue_refs s.queue ++ (awake_refs s.goroutines ++ refs_where (has_finaliser s) s.objects)))) c.new-roots.ensures
+    ∙ ap (λ (old : List ℕ). old ++ ranks s.objects
+    (refs s.globals ++ (queue_refs s.queue ++ (awake_refs s.goroutines ++ refs_where (has_finaliser s) s.objects))))
+    c.new-roots.ensures

@@ -5,5 +5,8 @@ use Rattle.golf_snapshot.proofs.graph.parts_of.Goals as goal
 
 pub returns-clause-parts : goal.returns-clause-parts
 returns-clause-parts c =
-    parts-made c.args.state.now c.heap-heap.result.now.objects c.in_ok-numbers.field-0 c.in_ok-children.field-0 c.in_ok-finalised.field-0 c.args.roots c.args.sleepers (ap (λ (h : NumberedObjects). h.objects) c.heap-heap.ensures.objects) c.in_ok-numbers.ensures c.in_ok-children.ensures
+    parts-made c.args.state.now c.heap-heap.result.now.objects c.in_ok-numbers.field-0 c.in_ok-children.field-0
+    c.in_ok-finalised.field-0 c.args.roots c.args.sleepers
+    (ap (λ (h : NumberedObjects). h.objects) c.heap-heap.ensures.objects) c.in_ok-numbers.ensures
+    c.in_ok-children.ensures
     c.in_ok-finalised.ensures

@@ -5,4 +5,5 @@ use Rattle.golf_snapshot.proofs.nodes.add_finalised.Given as goal
 
 -- the nodes so far
 abbrev pub invariant-loop-rank : goal.invariant-loop-rank
-invariant-loop-rank l = l.nodes ≡ l.fn.nodes ++ ranks l.state.objects (refs_where (has_finaliser l.state) (take l.rank l.state.objects))
+invariant-loop-rank l = l.nodes ≡ l.fn.nodes
+    ++ ranks l.state.objects (refs_where (has_finaliser l.state) (take l.rank l.state.objects))

@@ -7,7 +7,9 @@ pub loop-rank-preserved : goal.loop-rank-preserved
 loop-rank-preserved c =
     let objects = c.args.heap.now.objects in
     let e = entry-of-key objects c.loop-rank.rank c.at.result.0 c.at.ensures in
-    map-next number_of objects c.loop-rank.rank (c.at.result.0, e.0) c.loop-rank.numbers c.push.new.self e.1 c.loop-rank.invariant c.in_ok-push.ensures.ok
+    map-next number_of objects c.loop-rank.rank
+    (c.at.result.0, e.0) c.loop-rank.numbers c.push.new.self e.1 c.loop-rank.invariant c.in_ok-push.ensures.ok
 
 pub returns : goal.returns
-returns c = map-done number_of c.args.heap.now.objects c.loop-rank.rank c.loop-rank.numbers (omega arith) c.loop-rank.invariant
+returns c = map-done number_of c.args.heap.now.objects c.loop-rank.rank c.loop-rank.numbers
+    (omega arith) c.loop-rank.invariant

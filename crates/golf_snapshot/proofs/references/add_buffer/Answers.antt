@@ -9,6 +9,9 @@ returns c =
     let older = c.as_slices.result.0.now in
     let newer = c.as_slices.result.1.now in
     on_ok_weaker c.add_values-2.result
-    (λ e. e ∙ ap (λ l. l ++ ValuesNodes objects newer) c.in_ok-add_values.ensures ∙ append_assoc c.args.nodes.now (ValuesNodes objects older) (ValuesNodes objects newer)
-    ∙ ap (λ l. c.args.nodes.now ++ l) (sym (gather-append (ValueNodes objects) (ValuesNodes objects) refl (values-cons objects) older newer) ∙ ap (ValuesNodes objects) c.as_slices.ensures))
+    (λ e. e ∙ ap (λ l. l ++ ValuesNodes objects newer) c.in_ok-add_values.ensures
+    ∙ append_assoc c.args.nodes.now (ValuesNodes objects older) (ValuesNodes objects newer)
+    ∙ ap (λ l. c.args.nodes.now ++ l) (sym
+    (gather-append (ValueNodes objects) (ValuesNodes objects) refl (values-cons objects) older newer)
+    ∙ ap (ValuesNodes objects) c.as_slices.ensures))
     c.add_values-2.ensures

@@ -8,5 +8,7 @@ loop-at-init c = past-end c.args.nodes.now (ValuesNodes c.args.heap.now.objects)
 pub loop-at-preserved : goal.loop-at-preserved
 loop-at-preserved c =
     let objects = c.args.heap.now.objects in
-    one-back (ValueNodes objects) (ValuesNodes objects) refl (values-cons objects) c.args.nodes.now c.loop-at.nodes c.add_value.new.nodes c.args.values.now c.loop-at.at _ (omega (arith, c.loop-at-test.true)) (omega (arith, c.loop-at.auto.at)) c.loop-at.invariant
+    one-back (ValueNodes objects) (ValuesNodes objects) refl
+    (values-cons objects) c.args.nodes.now c.loop-at.nodes c.add_value.new.nodes c.args.values.now c.loop-at.at _
+    (omega (arith, c.loop-at-test.true)) (omega (arith, c.loop-at.auto.at)) c.loop-at.invariant
     c.in_ok-add_value.ensures

@@ -4,4 +4,5 @@ use Rattle.golf_snapshot.proofs.retained.add_finalised_rows.Given as goal
 
 -- the nodes so far
 abbrev pub invariant-loop-node : goal.invariant-loop-node
-invariant-loop-node l = l.nodes ≡ l.fn.nodes ++ finalised_rows (take l.node l.graph.finalised) (take l.node l.graph.children)
+invariant-loop-node l = l.nodes ≡ l.fn.nodes
+    ++ finalised_rows (take l.node l.graph.finalised) (take l.node l.graph.children)

@@ -12,20 +12,24 @@ without_sleepers-requires c =
     let s = c.args.state.now in
     let gone : List ℕ = map (λ g. g.0) c.args.gone.now in
     subst (λ (p : GraphParts). AreNodes p c.in_ok-roots.roots) (sym c.requires.live)
-    (subst (λ (l : List ℕ). AreNodes (live_parts s) l) (sym c.in_ok-roots.ensures.roots) (sources-in_range s (c.in_ok-roots.ensures.numbered c.requires.whole) c.requires.whole gone))
+    (subst (λ (l : List ℕ). AreNodes (live_parts s) l) (sym c.in_ok-roots.ensures.roots)
+    (sources-in_range s (c.in_ok-roots.ensures.numbered c.requires.whole) c.requires.whole gone))
 
 pub returns-clause-graph : goal.returns-clause-graph
 returns-clause-graph c =
     let s = c.args.state.now in
     c.without_sleepers.ensures
-    ∙ ap (λ (p : GraphParts). let g : GraphParts = record p { roots = c.in_ok-roots.roots; sleepers = [] } in g) c.requires.live
-    ∙ ap (λ (l : List ℕ). let g : GraphParts = record (live_parts s) { roots = l; sleepers = [] } in g) c.in_ok-roots.ensures.roots
+    ∙ ap (λ (p : GraphParts). let g : GraphParts = record p { roots = c.in_ok-roots.roots; sleepers = [] } in g)
+    c.requires.live
+    ∙ ap (λ (l : List ℕ). let g : GraphParts = record (live_parts s) { roots = l; sleepers = [] } in g)
+    c.in_ok-roots.ensures.roots
 
 pub returns-clause-reached : goal.returns-clause-reached
 returns-clause-reached c =
     let s = c.args.state.now in
     let gone : List ℕ = map (λ g. g.0) c.args.gone.now in
-    subst (λ (g : GraphParts). ReachesAlike g s gone) (sym (returns-clause-graph c)) (retained-graph s gone (c.in_ok-roots.ensures.numbered c.requires.whole) c.requires.whole)
+    subst (λ (g : GraphParts). ReachesAlike g s gone) (sym (returns-clause-graph c))
+    (retained-graph s gone (c.in_ok-roots.ensures.numbered c.requires.whole) c.requires.whole)
 
 pub returns-clause-numbered : goal.returns-clause-numbered
 returns-clause-numbered c = c.in_ok-roots.ensures.numbered c.requires.whole

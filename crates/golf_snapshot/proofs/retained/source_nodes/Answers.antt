@@ -16,13 +16,20 @@ pub returns-clause-roots : goal.returns-clause-roots
 returns-clause-roots c =
     let s = c.args.state.now in
     let test : ℕ → Bool = λ g. not (is_in g (map (λ h. h.0) c.args.gone.now)) in
-    four-pieces s.objects c.new-roots.result (refs s.globals) (queue_refs s.queue) (goroutine_refs_where test s.goroutines) (refs_where (has_finaliser s) s.objects)
+    four-pieces s.objects c.new-roots.result (refs s.globals) (queue_refs s.queue)
+    (goroutine_refs_where test s.goroutines) (refs_where (has_finaliser s) s.objects)
     (c.in_ok-add_values.ensures
-    ∙ ap (λ (h : NumberedObjects). c.new-roots.result ++ ranks h.objects (refs c.globals.result.now)) c.heap.ensures.objects
+    ∙ ap (λ (h : NumberedObjects). c.new-roots.result ++ ranks h.objects (refs c.globals.result.now))
+    c.heap.ensures.objects
     ∙ ap (λ (vs : List Value). c.new-roots.result ++ ranks s.objects (refs vs)) c.globals.ensures)
     (c.in_ok-add_queue.ensures
-    ∙ ap (λ (h : NumberedObjects). c.add_values.new.nodes ++ ranks h.objects (queue_refs c.queue.result.now)) c.heap-2.ensures.objects
+    ∙ ap (λ (h : NumberedObjects). c.add_values.new.nodes ++ ranks h.objects (queue_refs c.queue.result.now))
+    c.heap-2.ensures.objects
     ∙ ap (λ (qs : List Queued). c.add_values.new.nodes ++ ranks s.objects (queue_refs qs)) c.queue.ensures)
     c.in_ok-add_others.ensures
-    (c.in_ok-add_finalised_rows.ensures ∙ ap (λ (l : List ℕ). c.add_others.new.nodes ++ l) (ap (λ (p : GraphParts). finalised_rows p.finalised p.children) c.requires.live ∙ rows-ranks s.objects (has_finaliser s) s.objects))
-    ∙ ap (λ (old : List ℕ). old ++ ranks s.objects (refs s.globals ++ (queue_refs s.queue ++ (goroutine_refs_where test s.goroutines ++ refs_where (has_finaliser s) s.objects)))) c.new-roots.ensures
+    (c.in_ok-add_finalised_rows.ensures ∙ ap (λ (l : List ℕ). c.add_others.new.nodes ++ l)
+    (ap (λ (p : GraphParts). finalised_rows p.finalised p.children) c.requires.live
+    ∙ rows-ranks s.objects (has_finaliser s) s.objects))
+    ∙ ap (λ (old : List ℕ). old ++ ranks s.objects
+    (refs s.globals ++ (queue_refs s.queue
+    ++ (goroutine_refs_where test s.goroutines ++ refs_where (has_finaliser s) s.objects)))) c.new-roots.ensures

@@ -4,4 +4,5 @@ use Rattle.golf_state.proofs.ClearingLaws.{without-mask}
 use Rattle.golf_state.proofs.clearing.clear_frame.Goals as goal
 
 pub returns-in_default : goal.returns-in_default
-returns-in_default c = without-mask c.args.code.now (frame_view c.args.frame.now) c.in-No.is (sym c.in_default.is ∙ c.mask_at.ensures)
+returns-in_default c = without-mask c.args.code.now (frame_view c.args.frame.now) c.in-No.is
+    (sym c.in_default.is ∙ c.mask_at.ensures)

@@ -2,4 +2,5 @@ use Rattle.golf_state.proofs.Tops.{top_changed}
 use Rattle.golf_state.proofs.frames.unwind.Goals as goal
 
 pub returns-then-not-is_empty : goal.returns-then-not-is_empty
-returns-then-not-is_empty c = top_changed c.args.frames.now c.top_mut.result.now c.unwind_frame.new.frame _ c.top_mut.ensures.value c.unwind_frame.ensures
+returns-then-not-is_empty c = top_changed c.args.frames.now c.top_mut.result.now c.unwind_frame.new.frame _
+    c.top_mut.ensures.value c.unwind_frame.ensures

@@ -10,5 +10,6 @@ returns-clause-blocked c =
     let g = c.args.acting.goroutine.0 in
     let s = c.args.state.now in
     on_ok_weaker c.block.result
-    (λ h. ap (is_blocked g) h ∙ blocks-there g c.args.kind c.args.acting.line c.args.waits c.args.target c.args.taken s (runs-is g c.args.acting.after s c.requires))
+    (λ h. ap (is_blocked g) h ∙ blocks-there g c.args.kind c.args.acting.line c.args.waits c.args.target c.args.taken s
+    (runs-is g c.args.acting.after s c.requires))
     c.block.ensures.ok

@@ -25,7 +25,8 @@ frames_mut-frames-requires c =
     let st = c.requires in
     let vs = Value.Ref (record { 0 = c.in_ok-number.number }) ∷ [] in
     let act : Actor → List Change = λ a. stands a (went after 0 vs a.frame) in
-    let now = failed c.make.result c.proceed_with.new.state c.make.new.self c.if-is_err.ensures.value c.make.ensures.err ∙ c.in_ok-proceed_with.ensures.ok ∙ does-is g after s st act c.args.acting.line in
+    let now = failed c.make.result c.proceed_with.new.state c.make.new.self c.if-is_err.ensures.value c.make.ensures.err
+    ∙ c.in_ok-proceed_with.ensures.ok ∙ does-is g after s st act c.args.acting.line in
     ap is_running_in (found-after g after s st (went after 0 vs st.frame) c.args.acting.line c.make.new.self now)
 
 pub returns-then-is_err-clause-err : goal.returns-then-is_err-clause-err
@@ -37,10 +38,14 @@ returns-then-is_err-clause-err c =
     let vs = Value.Ref (record { 0 = c.in_ok-number.number }) ∷ [] in
     let act : Actor → List Change = λ a. stands a (went after 0 vs a.frame) in
     let f = went after 0 vs st.frame in
-    let now = failed c.make.result c.proceed_with.new.state c.make.new.self c.if-is_err.ensures.value c.make.ensures.err ∙ c.in_ok-proceed_with.ensures.ok ∙ does-is g after s st act c.args.acting.line in
+    let now = failed c.make.result c.proceed_with.new.state c.make.new.self c.if-is_err.ensures.value c.make.ensures.err
+    ∙ c.in_ok-proceed_with.ensures.ok ∙ does-is g after s st act c.args.acting.line in
     let back : c.saturating_sub.result ≡ st.frame.at = omega (arith, c.saturating_sub.ensures, st.next) in
     let frames : frame_views c.advance.new.frames ≡ st.frame ∷ st.callers =
     c.advance.ensures
-    ∙ ap (on_top (went c.saturating_sub.result 1 [])) (c.frames_mut-frames.ensures.value ∙ ap frames_in (found-after g after s st f c.args.acting.line c.make.new.self now))
+    ∙ ap (on_top (went c.saturating_sub.result 1 []))
+    (c.frames_mut-frames.ensures.value ∙ ap frames_in
+    (found-after g after s st f c.args.acting.line c.make.new.self now))
     ∙ ap (λ n. went n 1 [] f ∷ st.callers) back in
-    taken-back g after s st f c.args.acting.line c.make.new.self (frame_views c.advance.new.frames) c.frames_mut-frames.ensures.rises now frames
+    taken-back g after s st f c.args.acting.line c.make.new.self
+    (frame_views c.advance.new.frames) c.frames_mut-frames.ensures.rises now frames

@@ -8,4 +8,5 @@ pub returns-then-is_running : goal.returns-then-is_running
 returns-then-is_running c =
     let r = c.args.goroutine.now in
     no_frames c.is_empty.result r.frames c.is_empty.ensures
-    ∙ sym (ap (λ (b : Bool). b && not (not_empty (frame_views r.frames))) (sym c.is_running.ensures ∙ c.if-is_running.true))
+    ∙ sym (ap (λ (b : Bool). b && not (not_empty (frame_views r.frames)))
+    (sym c.is_running.ensures ∙ c.if-is_running.true))

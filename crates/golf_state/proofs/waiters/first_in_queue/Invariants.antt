@@ -6,4 +6,5 @@ use Rattle.golf_state.proofs.waiters.first_in_queue.Given as goal
 
 -- none of those so far waits there
 abbrev pub invariant-loop-holder : goal.invariant-loop-holder
-invariant-loop-holder l = first_held l.object.0 l.side (plain_entries l.roster.places) (held l.queue) ≡ first_held l.object.0 l.side (plain_entries l.roster.places) (held (drop l.holder-index l.queue))
+invariant-loop-holder l = first_held l.object.0 l.side (plain_entries l.roster.places) (held l.queue)
+    ≡ first_held l.object.0 l.side (plain_entries l.roster.places) (held (drop l.holder-index l.queue))

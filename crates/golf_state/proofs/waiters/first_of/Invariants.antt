@@ -10,7 +10,8 @@ use Rattle.golf_state.proofs.waiters.first_of.Given as goal
 abbrev pub invariant-loop-at : goal.invariant-loop-at
 invariant-loop-at l = record {
   within : l.at ≤ length l.places;
-  best : (rest : List (ℕ × GoroutineView)) → l.fn.later ≡ option_map waiting_of (first l.object.0 l.side rest) → l.best ≡ option_map waiting_of (first l.object.0 l.side (drop l.at (plain_entries l.places) ++ rest));
+  best : (rest : List (ℕ × GoroutineView)) → l.fn.later ≡ option_map waiting_of (first l.object.0 l.side rest)
+      → l.best ≡ option_map waiting_of (first l.object.0 l.side (drop l.at (plain_entries l.places) ++ rest));
 }
 
 abbrev pub decreases-loop-at : goal.decreases-loop-at

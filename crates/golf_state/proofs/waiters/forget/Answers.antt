@@ -6,9 +6,11 @@ use Rattle.golf_state.specs.Left.{leaves_where}
 use Rattle.golf_state.proofs.waiters.forget.Goals as goal
 
 pub returns-in-Some : goal.returns-in-Some
-returns-in-Some c = subst (λ (o : Option GoroutineView). IsWithout (leaves_where c.args.g.0 o) c.args.queues.now c.leave_queues.new.queues) c.in-Some.ensures c.leave_queues.ensures
+returns-in-Some c = subst (λ (o : Option GoroutineView). IsWithout
+    (leaves_where c.args.g.0 o) c.args.queues.now c.leave_queues.new.queues) c.in-Some.ensures c.leave_queues.ensures
 
 pub returns-in_default : goal.returns-in_default
 returns-in_default c =
-    subst (λ (o : Option GoroutineView). IsWithout (leaves_where c.args.g.0 o) c.args.queues.now c.args.queues.now) c.in_default.ensures
+    subst (λ (o : Option GoroutineView). IsWithout (leaves_where c.args.g.0 o) c.args.queues.now c.args.queues.now)
+    c.in_default.ensures
     (without-none (leaves_where c.args.g.0 None) c.args.queues.now (λ k h. refl))

@@ -9,6 +9,8 @@ returns-clause-count c =
     let o = c.args.object.0 in
     let gs = c.args.state.now.goroutines in
     c.readers_before.ensures.count ∙ elim c.match-below.branch [
-      | in-Some w ↦ ap (λ (n : ℕ). readers_next (Some n) o gs) w.bound-is ∙ ap (λ m. readers_next m o gs) (sym w.in-Some.is)
-      | in-None w ↦ ap (λ (n : ℕ). readers_next (Some n) o gs) w.bound-is ∙ all-counted _ o gs w.ticket_bound-bound.ensures ∙ ap (λ m. readers_next m o gs) (sym w.in-None.is)
+      | in-Some w ↦ ap (λ (n : ℕ). readers_next (Some n) o gs) w.bound-is
+          ∙ ap (λ m. readers_next m o gs) (sym w.in-Some.is)
+      | in-None w ↦ ap (λ (n : ℕ). readers_next (Some n) o gs) w.bound-is
+          ∙ all-counted _ o gs w.ticket_bound-bound.ensures ∙ ap (λ m. readers_next m o gs) (sym w.in-None.is)
     ]

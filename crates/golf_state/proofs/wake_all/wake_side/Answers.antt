@@ -7,12 +7,22 @@ loop-holder-preserved-in-Some-wakening c =
     let s = c.loop-holder.state in
     let o = c.args.object.0 in
     let how = c.args.how in
-    let step = stepped c.loop-holder.before o c.args.side how s c.wake.new.self c.in-Some.holder c.in-Some-wakening.wakening
-    (record { rises = c.in-Some.ensures.rises; last = c.in-Some.ensures.last; below = c.loop-holder.invariant.below }) c.in-Some-wakening.ensures c.wake.ensures in
-    record { woken = woken-more o how c.args.state.now s c.wake.new.self c.loop-holder.invariant.woken step.woken; below = step.below }
+    let step = stepped c.loop-holder.before o c.args.side how s c.wake.new.self c.in-Some.holder
+    c.in-Some-wakening.wakening
+    (record { rises = c.in-Some.ensures.rises; last = c.in-Some.ensures.last; below = c.loop-holder.invariant.below })
+    c.in-Some-wakening.ensures c.wake.ensures in
+    record {
+      woken = woken-more o how c.args.state.now s c.wake.new.self c.loop-holder.invariant.woken step.woken;
+      below = step.below;
+    }
 
 pub loop-holder-preserved : goal.loop-holder-preserved
 loop-holder-preserved c = record {
   woken = c.loop-holder.invariant.woken;
-  below = passed c.loop-holder.before c.args.object.0 c.args.side c.args.how c.loop-holder.state.goroutines c.in-Some.holder (record { rises = c.in-Some.ensures.rises; last = c.in-Some.ensures.last; below = c.loop-holder.invariant.below }) (sym c.in_default-wakening.ensures);
+  below = passed c.loop-holder.before c.args.object.0 c.args.side c.args.how c.loop-holder.state.goroutines
+      c.in-Some.holder (record {
+        rises = c.in-Some.ensures.rises;
+        last = c.in-Some.ensures.last;
+        below = c.loop-holder.invariant.below;
+      }) (sym c.in_default-wakening.ensures);
 }

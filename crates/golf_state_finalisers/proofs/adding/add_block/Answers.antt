@@ -13,8 +13,11 @@ returns-clause-blocks c =
     let pair : List (ℕ × ℕ) = (g, c.args.function) ∷ [] in
     let b : Block = record { top = g; pairs = c.push.new.self } in
     let limit : g < 2 ^ 32 = omega (arith, c.ranges.object.fits) in
-    let one : b.pairs.items ≡ pair = c.in_ok-push.ensures.items ∙ ap (λ (ps : List (ℕ × ℕ)). ps ++ pair) c.new-pairs.ensures.items in
-    subst (AreBlocks 0) (sym c.in_ok-push-2.ensures.items) (blocks-push 0 bs b c.requires.blocks c.requires.below (omega arith) (λ l h. block-one l g c.args.function b h limit refl one))
+    let one : b.pairs.items ≡ pair = c.in_ok-push.ensures.items
+    ∙ ap (λ (ps : List (ℕ × ℕ)). ps ++ pair) c.new-pairs.ensures.items in
+    subst (AreBlocks 0) (sym c.in_ok-push-2.ensures.items)
+    (blocks-push 0 bs b c.requires.blocks c.requires.below (omega arith)
+    (λ l h. block-one l g c.args.function b h limit refl one))
 
 pub returns-clause-filled : goal.returns-clause-filled
 returns-clause-filled c =
@@ -22,6 +25,7 @@ returns-clause-filled c =
     let g = c.args.object in
     let pair : List (ℕ × ℕ) = (g, c.args.function) ∷ [] in
     let b : Block = record { top = g; pairs = c.push.new.self } in
-    let one : b.pairs.items ≡ pair = c.in_ok-push.ensures.items ∙ ap (λ (ps : List (ℕ × ℕ)). ps ++ pair) c.new-pairs.ensures.items in
+    let one : b.pairs.items ≡ pair = c.in_ok-push.ensures.items
+    ∙ ap (λ (ps : List (ℕ × ℕ)). ps ++ pair) c.new-pairs.ensures.items in
     let some : is_filled b ≡ true = ap (λ (ps : List (ℕ × ℕ)). not_empty ps) one in
     subst AreFilled (sym c.in_ok-push-2.ensures.items) (filled-append bs (b ∷ []) c.requires.filled (some, tt))

@@ -2,7 +2,7 @@ use Rattle.std.proofs.Common.{rules, arith, ltb}
 use Rattle.std.specs.List.Sorted.{IsNonDecreasingBy}
 use Rattle.std.proofs.lemmas.Bool.{ltb-true, ltb-false}
 use Rattle.std.proofs.lemmas.List.Sorted.{IsPartitionedBy-ltb, IsPartitionPoint-from_clause}
-use Rattle.golf_state_goroutines.proofs.Keyed.{sorted-keyed, rank-keyed}
+use Rattle.golf_heap.proofs.Keyed.{sorted-keyed, rank-keyed}
 use Rattle.golf_state_finalisers.specs.declared.blocks.Block.{Block}
 use Rattle.golf_state_finalisers.proofs.BlockLaws.{blocks-rise}
 use Rattle.golf_state_finalisers.proofs.blocks.block_of.Goals as goal
@@ -11,9 +11,12 @@ pub returns : goal.returns
 returns c =
     let bs = c.args.blocks.now in
     let k = c.args.object in
-    let order : IsNonDecreasingBy (λ (b : Block). b.top) bs = sorted-keyed (λ (b : Block). b.top) (λ (b : Block). b) 0 bs (blocks-rise 0 bs c.requires) in
+    let order : IsNonDecreasingBy (λ (b : Block). b.top) bs =
+    sorted-keyed (λ (b : Block). b.top) (λ (b : Block). b) 0 bs (blocks-rise 0 bs c.requires) in
     let parted = IsPartitionedBy-ltb (λ (b : Block). b.top) bs k order in
-    let point = IsPartitionPoint-from_clause (λ (b : Block). ltb b.top k) bs c.partition_point.result c.partition_point.ensures.partitioned parted (λ a r q h. search rules) in
+    let point = IsPartitionPoint-from_clause
+    (λ (b : Block). ltb b.top k) bs c.partition_point.result c.partition_point.ensures.partitioned parted
+    (λ a r q h. search rules) in
     rank-keyed (λ (b : Block). b.top) (λ (b : Block). b) k c.partition_point.result bs c.partition_point.ensures.bound
     (λ m d h. ltb-true _ k (point.0 m d (omega arith) h))
     (λ d h. ltb-false _ k (point.1 c.partition_point.result d (omega arith) h))

@@ -11,6 +11,10 @@ loop-at-preserved c =
     let i : ℕ = c.loop-at.at in
     let within : i < length fs = omega (arith, c.loop-at-test.true, c.requires) in
     elim c.if-not-stays-at.branch [
-      | then-not-stays-at+in_ok-push w ↦ rw w.entries-is (queued-next start stays fs i _ c.loop-at.entries w.push.new.self c.loop-at-test.true within w.if-not-stays-at.true c.loop-at.invariant w.in_ok-push.ensures.ok)
-      | else-not-stays-at w ↦ rw w.entries-is (queued-same start stays fs i c.loop-at.entries c.loop-at-test.true within w.if-not-stays-at.false c.loop-at.invariant)
+      | then-not-stays-at+in_ok-push w ↦ rw w.entries-is
+          (queued-next start stays fs i _ c.loop-at.entries w.push.new.self c.loop-at-test.true within
+          w.if-not-stays-at.true c.loop-at.invariant w.in_ok-push.ensures.ok)
+      | else-not-stays-at w ↦ rw w.entries-is
+          (queued-same start stays fs i c.loop-at.entries c.loop-at-test.true within w.if-not-stays-at.false
+          c.loop-at.invariant)
     ]

@@ -8,5 +8,6 @@ use Rattle.golf_state_finalisers.proofs.collecting.unflagged_in.Given as goal
 abbrev pub invariant-loop-at : goal.invariant-loop-at
 invariant-loop-at l = record {
   flags : length l.rest ≡ length (pairs_in (drop l.at l.blocks));
-  entries : l.entries ++ queued (left_out l.rest (pairs_in (drop l.at l.blocks))) ≡ queued (left_out l.stays (pairs_in l.blocks));
+  entries : l.entries ++ queued (left_out l.rest (pairs_in (drop l.at l.blocks))) ≡ queued
+      (left_out l.stays (pairs_in l.blocks));
 }

@@ -11,7 +11,9 @@ returns c =
     let k = c.args.object in
     let order : IsNonDecreasingBy (λ (e : ℕ × ℕ). e.0) es = sorted 0 es c.requires in
     let parted = IsPartitionedBy-ltb (λ (e : ℕ × ℕ). e.0) es k order in
-    let point = IsPartitionPoint-from_clause (λ (e : ℕ × ℕ). ltb e.0 k) es c.partition_point.result c.partition_point.ensures.partitioned parted (λ a r q h. search rules) in
+    let point = IsPartitionPoint-from_clause
+    (λ (e : ℕ × ℕ). ltb e.0 k) es c.partition_point.result c.partition_point.ensures.partitioned parted
+    (λ a r q h. search rules) in
     rank-is k c.partition_point.result es c.partition_point.ensures.bound
     (λ m d h. ltb-true _ k (point.0 m d (omega arith) h))
     (λ d h. ltb-false _ k (point.1 c.partition_point.result d (omega arith) h))

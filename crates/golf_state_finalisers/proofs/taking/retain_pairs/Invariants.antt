@@ -10,5 +10,6 @@ invariant-loop-at l = record {
   len : length l.blocks.items ≡ length l.fn.blocks.items;
   same : drop l.at l.blocks.items ≡ drop l.at l.fn.blocks.items;
   flags : length l.rest ≡ length (pairs_in (drop l.at l.fn.blocks.items));
-  pairs : pairs_in (take l.at l.blocks.items) ++ kept l.rest (pairs_in (drop l.at l.fn.blocks.items)) ≡ kept l.stays (pairs_in l.fn.blocks.items);
+  pairs : pairs_in (take l.at l.blocks.items)
+      ++ kept l.rest (pairs_in (drop l.at l.fn.blocks.items)) ≡ kept l.stays (pairs_in l.fn.blocks.items);
 }

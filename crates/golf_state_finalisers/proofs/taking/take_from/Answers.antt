@@ -1,4 +1,5 @@
-use Rattle.std.proofs.Common.{◌≡◌, ℕ, ◌+◌, ◌<◌, ◌==◌, not, List, length, Some, refl, sym, ap, ◌∙◌, subst, arith, slice_get}
+use Rattle.std.proofs.Common.{◌≡◌, ℕ, ◌+◌, ◌<◌, ◌==◌, not, List, length, Some, refl, sym, ap, ◌∙◌, subst, arith}
+use Rattle.std.proofs.Common.{slice_get}
 use Rattle.std.proofs.lemmas.List.{take-set, drop-set-lt}
 use Rattle.std.proofs.lemmas.Option.{slice_get_read}
 use Rattle.golf_heap.specs.Objects.{rank}
@@ -15,7 +16,8 @@ returns-then-at-len-clause-pairs c =
     let bs = c.args.blocks.now.items in
     let g = c.args.object in
     let i = c.block_of-at.result in
-    let at : i ≡ rank g (keyed_blocks bs) = c.block_of-at.ensures ∙ ap (λ (cs : List Block). rank g (keyed_blocks cs)) c.as_slice.ensures.value in
+    let at : i ≡ rank g (keyed_blocks bs) = c.block_of-at.ensures
+    ∙ ap (λ (cs : List Block). rank g (keyed_blocks cs)) c.as_slice.ensures.value in
     let tops = all-tops bs i g at (omega (arith, c.if-at-len.true, c.len.ensures, c.args.blocks.now.ok.0)) in
     sym (only-under g (pairs_in bs) (tops-below g 0 bs c.requires.blocks tops))
 
@@ -24,7 +26,8 @@ part-gone-requires c =
     let bs = c.args.blocks.now.items in
     let g = c.args.object in
     let i = c.block_of-at.result in
-    let at : i ≡ rank g (keyed_blocks bs) = c.block_of-at.ensures ∙ ap (λ (cs : List Block). rank g (keyed_blocks cs)) c.as_slice.ensures.value in
+    let at : i ≡ rank g (keyed_blocks bs) = c.block_of-at.ensures
+    ∙ ap (λ (cs : List Block). rank g (keyed_blocks cs)) c.as_slice.ensures.value in
     let within : i < length bs = omega (arith, c.if-at-len.false, c.len.ensures, c.args.blocks.now.ok.0) in
     let b = c.index_mut.result.now in
     let here : slice_get bs i ≡ Some b = slice_get_read bs (length bs) i b refl within c.index_mut.ensures.value in
@@ -36,20 +39,24 @@ close_at-requires-clause-blocks c =
     let bs = c.args.blocks.now.items in
     let g = c.args.object in
     let i = c.block_of-at.result in
-    let at : i ≡ rank g (keyed_blocks bs) = c.block_of-at.ensures ∙ ap (λ (cs : List Block). rank g (keyed_blocks cs)) c.as_slice.ensures.value in
+    let at : i ≡ rank g (keyed_blocks bs) = c.block_of-at.ensures
+    ∙ ap (λ (cs : List Block). rank g (keyed_blocks cs)) c.as_slice.ensures.value in
     let within : i < length bs = omega (arith, c.if-at-len.false, c.len.ensures, c.args.blocks.now.ok.0) in
     let b = c.index_mut.result.now in
     let here : slice_get bs i ≡ Some b = slice_get_read bs (length bs) i b refl within c.index_mut.ensures.value in
     let s : Sides bs i g b = sides bs i g b c.requires.blocks at here in
     let n = c.part-gone.new.block in
-    blocks-set 0 i bs b n c.requires.blocks here (λ l is. block-only (λ h. not (h == g)) l b n is c.part-gone.ensures.top c.part-gone.ensures.pairs) c.part-gone.ensures.top
+    blocks-set 0 i bs b n c.requires.blocks here
+    (λ l is. block-only (λ h. not (h == g)) l b n is c.part-gone.ensures.top c.part-gone.ensures.pairs)
+    c.part-gone.ensures.top
 
 pub close_at-requires-clause-before : goal.close_at-requires-clause-before
 close_at-requires-clause-before c =
     let bs = c.args.blocks.now.items in
     let g = c.args.object in
     let i = c.block_of-at.result in
-    let at : i ≡ rank g (keyed_blocks bs) = c.block_of-at.ensures ∙ ap (λ (cs : List Block). rank g (keyed_blocks cs)) c.as_slice.ensures.value in
+    let at : i ≡ rank g (keyed_blocks bs) = c.block_of-at.ensures
+    ∙ ap (λ (cs : List Block). rank g (keyed_blocks cs)) c.as_slice.ensures.value in
     let within : i < length bs = omega (arith, c.if-at-len.false, c.len.ensures, c.args.blocks.now.ok.0) in
     let b = c.index_mut.result.now in
     let here : slice_get bs i ≡ Some b = slice_get_read bs (length bs) i b refl within c.index_mut.ensures.value in
@@ -62,7 +69,8 @@ close_at-requires-clause-after c =
     let bs = c.args.blocks.now.items in
     let g = c.args.object in
     let i = c.block_of-at.result in
-    let at : i ≡ rank g (keyed_blocks bs) = c.block_of-at.ensures ∙ ap (λ (cs : List Block). rank g (keyed_blocks cs)) c.as_slice.ensures.value in
+    let at : i ≡ rank g (keyed_blocks bs) = c.block_of-at.ensures
+    ∙ ap (λ (cs : List Block). rank g (keyed_blocks cs)) c.as_slice.ensures.value in
     let within : i < length bs = omega (arith, c.if-at-len.false, c.len.ensures, c.args.blocks.now.ok.0) in
     let b = c.index_mut.result.now in
     let here : slice_get bs i ≡ Some b = slice_get_read bs (length bs) i b refl within c.index_mut.ensures.value in
@@ -75,7 +83,8 @@ returns-clause-pairs c =
     let bs = c.args.blocks.now.items in
     let g = c.args.object in
     let i = c.block_of-at.result in
-    let at : i ≡ rank g (keyed_blocks bs) = c.block_of-at.ensures ∙ ap (λ (cs : List Block). rank g (keyed_blocks cs)) c.as_slice.ensures.value in
+    let at : i ≡ rank g (keyed_blocks bs) = c.block_of-at.ensures
+    ∙ ap (λ (cs : List Block). rank g (keyed_blocks cs)) c.as_slice.ensures.value in
     let within : i < length bs = omega (arith, c.if-at-len.false, c.len.ensures, c.args.blocks.now.ok.0) in
     let b = c.index_mut.result.now in
     let here : slice_get bs i ≡ Some b = slice_get_read bs (length bs) i b refl within c.index_mut.ensures.value in
@@ -88,7 +97,8 @@ returns-clause-count c =
     let bs = c.args.blocks.now.items in
     let g = c.args.object in
     let i = c.block_of-at.result in
-    let at : i ≡ rank g (keyed_blocks bs) = c.block_of-at.ensures ∙ ap (λ (cs : List Block). rank g (keyed_blocks cs)) c.as_slice.ensures.value in
+    let at : i ≡ rank g (keyed_blocks bs) = c.block_of-at.ensures
+    ∙ ap (λ (cs : List Block). rank g (keyed_blocks cs)) c.as_slice.ensures.value in
     let within : i < length bs = omega (arith, c.if-at-len.false, c.len.ensures, c.args.blocks.now.ok.0) in
     let b = c.index_mut.result.now in
     let here : slice_get bs i ≡ Some b = slice_get_read bs (length bs) i b refl within c.index_mut.ensures.value in

@@ -13,5 +13,6 @@ returns-then-block-key c =
     let bs = c.args.blocks.now in
     let n = c.args.key in
     let b = c.in_ok-block.block.now in
-    let here = slice_get-map (λ (b : Block). (b.key, b)) bs n ∙ ap (option_map (λ (b : Block). (b.key, b))) (item-at bs n c.in_ok-block.block c.in_ok-block.ensures.lookup) in
+    let here = slice_get-map (λ (b : Block). (b.key, b)) bs n
+    ∙ ap (option_map (λ (b : Block). (b.key, b))) (item-at bs n c.in_ok-block.block c.in_ok-block.ensures.lookup) in
     sym (rank-here n (keyed_blocks bs) (b.key, b) (blocks-rise 0 bs c.requires) here c.if-block-key.true)

@@ -14,7 +14,9 @@ pub put_in-requires-clause-room : goal.put_in-requires-clause-room
 put_in-requires-clause-room c =
     let b = c.args.block.now in
     let g = c.args.number in
-    let room = in-room (b.key * 256) (b.key * 256 + 256) g (numbers b.running.items) c.requires.block.running c.requires.none (at-least g b.key c.requires.key) (at-most g b.key c.requires.key) in
+    let room = in-room (b.key * 256) (b.key * 256 + 256) g
+    (numbers b.running.items) c.requires.block.running c.requires.none (at-least g b.key c.requires.key)
+    (at-most g b.key c.requires.key) in
     omega (arith, room, numbers-length b.running.items, b.running.ok.0, c.requires.block.room)
 
 pub put_in-requires-clause-rises : goal.put_in-requires-clause-rises
@@ -28,7 +30,10 @@ returns-clause-block c =
     let g = c.args.number in
     record {
       places = c.requires.block.places;
-      running = subst (RisesIn (b.key * 256) (b.key * 256 + 256)) (sym c.put_in.ensures.all) (in-placed (b.key * 256) (b.key * 256 + 256) g (numbers b.running.items) c.requires.block.running c.requires.none (at-least g b.key c.requires.key) (at-most g b.key c.requires.key));
+      running = subst (RisesIn (b.key * 256) (b.key * 256 + 256)) (sym c.put_in.ensures.all)
+          (in-placed (b.key * 256) (b.key * 256 + 256) g
+          (numbers b.running.items) c.requires.block.running c.requires.none (at-least g b.key c.requires.key)
+          (at-most g b.key c.requires.key));
       room = omega (arith, c.put_in.ensures.room, c.requires.block.room);
       limit = c.requires.block.limit;
     }
@@ -36,4 +41,10 @@ returns-clause-block c =
 pub returns-clause-count : goal.returns-clause-count
 returns-clause-count c =
     let b = c.args.block.now in
-    omega (arith, numbers-length b.running.items, numbers-length c.put_in.new.goroutines.items, placed-length c.args.number (numbers b.running.items), ap (λ (xs : List ℕ). length xs) c.put_in.ensures.all)
+    omega (
+      arith,
+      numbers-length b.running.items,
+      numbers-length c.put_in.new.goroutines.items,
+      placed-length c.args.number (numbers b.running.items),
+      ap (λ (xs : List ℕ). length xs) c.put_in.ensures.all,
+    )

@@ -27,7 +27,8 @@ returns-in_err-place c =
     let ps = c.as_slice.result.now in
     let here = item-at bs i c.in_ok-block.block c.in_ok-block.ensures.lookup in
     rw c.from_residual-in_err-place.ensures
-    (sym (past bs i j c.args.number c.in_ok-block.block.now ps c.requires c.far_place-at.ensures here c.as_slice.ensures.value (no_item-at ps j c.in_err-place.ensures.lookup)))
+    (sym (past bs i j c.args.number c.in_ok-block.block.now ps c.requires c.far_place-at.ensures here
+    c.as_slice.ensures.value (no_item-at ps j c.in_err-place.ensures.lookup)))
 
 pub returns-then-place-number : goal.returns-then-place-number
 returns-then-place-number c =
@@ -37,7 +38,9 @@ returns-then-place-number c =
     let ps = c.as_slice.result.now in
     let here = item-at bs i c.in_ok-block.block c.in_ok-block.ensures.lookup in
     ap (λ (r : Goroutine). Some (goroutine_view r)) c.get-then-place-number.ensures
-    ∙ sym (found bs i j c.args.number c.in_ok-block.block.now ps c.requires c.far_place-at.ensures here c.as_slice.ensures.value c.in_ok-place.place.now (item-at ps j c.in_ok-place.place c.in_ok-place.ensures.lookup) c.if-place-number.true)
+    ∙ sym (found bs i j c.args.number c.in_ok-block.block.now ps c.requires c.far_place-at.ensures here
+    c.as_slice.ensures.value c.in_ok-place.place.now
+    (item-at ps j c.in_ok-place.place c.in_ok-place.ensures.lookup) c.if-place-number.true)
 
 pub returns-else-place-number : goal.returns-else-place-number
 returns-else-place-number c =
@@ -46,4 +49,6 @@ returns-else-place-number c =
     let j = c.far_place-at.result.1 in
     let ps = c.as_slice.result.now in
     let here = item-at bs i c.in_ok-block.block c.in_ok-block.ensures.lookup in
-    sym (other bs i j c.args.number c.in_ok-block.block.now ps c.requires c.far_place-at.ensures here c.as_slice.ensures.value c.in_ok-place.place.now (item-at ps j c.in_ok-place.place c.in_ok-place.ensures.lookup) c.if-place-number.false)
+    sym (other bs i j c.args.number c.in_ok-block.block.now ps c.requires c.far_place-at.ensures here
+    c.as_slice.ensures.value c.in_ok-place.place.now
+    (item-at ps j c.in_ok-place.place c.in_ok-place.ensures.lookup) c.if-place-number.false)

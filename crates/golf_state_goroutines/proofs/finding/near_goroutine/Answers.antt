@@ -12,5 +12,6 @@ returns-then-place-number c =
     let j = c.in_ok-at.index in
     let ps = c.as_slice.result.now in
     let here = item-at bs i c.in_ok-block.block c.in_ok-block.ensures.lookup in
-    found bs i j c.args.number c.in_ok-block.block.now ps c.requires c.in_ok-at.ensures here c.as_slice.ensures.value c.in_ok-place.place.now (item-at ps j c.in_ok-place.place c.in_ok-place.ensures.lookup) c.if-place-number.true
+    found bs i j c.args.number c.in_ok-block.block.now ps c.requires c.in_ok-at.ensures here c.as_slice.ensures.value
+    c.in_ok-place.place.now (item-at ps j c.in_ok-place.place c.in_ok-place.ensures.lookup) c.if-place-number.true
     ∙ sym (ap (λ (r : Goroutine). Some (goroutine_view r)) c.get-then-place-number.ensures)

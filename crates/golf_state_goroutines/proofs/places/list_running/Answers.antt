@@ -14,14 +14,17 @@ loop-place-preserved c =
     let i = c.loop-place.place-index in
     let p = c.place-item.result in
     let here = entry-at gs i p c.loop-place-test.true c.place-item.is in
-    let test : c.is_running.result ≡ is_running p.goroutine.mode = c.is_running.ensures ∙ ap (λ (r : Goroutine). is_running r.mode) c.get.ensures in
+    let test : c.is_running.result ≡ is_running p.goroutine.mode = c.is_running.ensures
+    ∙ ap (λ (r : Goroutine). is_running r.mode) c.get.ensures in
     elim c.if-is_running.branch [
       | then-is_running w ↦
           let same = ap (λ r. numbers r.items) w.running-is in
           let len = ap vec_len w.running-is in
           let cap = ap vec_capacity w.running-is in
           record {
-            running = same ∙ w.add_last.ensures.all ∙ ap (λ (ns : List ℕ). ns ++ p.number ∷ []) c.loop-place.invariant.running ∙ running-more i (plain_entries gs) _ here (sym test ∙ w.if-is_running.true);
+            running = same ∙ w.add_last.ensures.all
+                ∙ ap (λ (ns : List ℕ). ns ++ p.number ∷ []) c.loop-place.invariant.running
+                ∙ running-more i (plain_entries gs) _ here (sym test ∙ w.if-is_running.true);
             few = omega (arith, len, w.add_last.ensures.len, c.loop-place.invariant.few);
             room = omega (arith, cap, w.add_last.ensures.room, c.loop-place.invariant.room);
           }
@@ -30,7 +33,8 @@ loop-place-preserved c =
           let len = ap vec_len w.running-is in
           let cap = ap vec_capacity w.running-is in
           record {
-            running = same ∙ c.loop-place.invariant.running ∙ running-same i (plain_entries gs) _ here (sym test ∙ w.if-is_running.false);
+            running = same ∙ c.loop-place.invariant.running
+                ∙ running-same i (plain_entries gs) _ here (sym test ∙ w.if-is_running.false);
             few = omega (arith, len, c.loop-place.invariant.few);
             room = omega (arith, cap, c.loop-place.invariant.room);
           }

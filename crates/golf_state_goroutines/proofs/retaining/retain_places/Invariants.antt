@@ -11,6 +11,7 @@ invariant-loop-at l = record {
   len : length l.blocks.items ≡ length l.fn.blocks.items;
   same : drop l.at l.blocks.items ≡ drop l.at l.fn.blocks.items;
   flags : length l.rest ≡ length (places_in (drop l.at l.fn.blocks.items));
-  places : places_in (take l.at l.blocks.items) ++ kept l.rest (places_in (drop l.at l.fn.blocks.items)) ≡ kept l.stays (places_in l.fn.blocks.items);
+  places : places_in (take l.at l.blocks.items)
+      ++ kept l.rest (places_in (drop l.at l.fn.blocks.items)) ≡ kept l.stays (places_in l.fn.blocks.items);
   running : running_in (take l.at l.blocks.items) ≡ running_of (plain_entries (places_in (take l.at l.blocks.items)));
 }

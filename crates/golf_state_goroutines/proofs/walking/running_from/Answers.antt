@@ -1,4 +1,5 @@
-use Rattle.std.proofs.Common.{◌≡◌, ℕ, zero, suc, ◌+◌, ◌<◌, List, [], ◌∷◌, length, get_or, Some, refl, sym, ap, ◌∙◌, arith, slice_get}
+use Rattle.std.proofs.Common.{◌≡◌, ℕ, zero, suc, ◌+◌, ◌<◌, List, [], ◌∷◌, length, get_or, Some, refl, sym, ap, ◌∙◌}
+use Rattle.std.proofs.Common.{arith, slice_get}
 use Rattle.std.proofs.lemmas.Option.{slice_get_read, slice_get_past}
 use Rattle.golf_base.specs.declared.ids.GoroutineId.{GoroutineId}
 use Rattle.golf_state_goroutines.specs.Blocks.{numbers, running_in, runs_before}
@@ -7,7 +8,8 @@ use Rattle.golf_state_goroutines.proofs.Gathers.{gather-get, gather-all, gather-
 use Rattle.golf_state_goroutines.proofs.BlockLaws.{numbers-length}
 use Rattle.golf_state_goroutines.proofs.walking.running_from.Goals as goal
 
-read : (xs : List GoroutineId) (i : ℕ) (d : GoroutineId) → i < length xs → Some (get_or xs i d).0 ≡ slice_get (numbers xs) i
+read : (xs : List GoroutineId) (i : ℕ) (d : GoroutineId) → i < length xs
+    → Some (get_or xs i d).0 ≡ slice_get (numbers xs) i
 read [] i d l = absurd (omega (arith, l))
 read (x ∷ xs) zero d l = refl
 read (x ∷ xs) (suc i) d l = read xs i d (omega (arith, l))
@@ -19,8 +21,15 @@ returns-then-rest-running c =
     let b = c.index-blocks-at.result in
     let xs = c.as_slice-running.result.now in
     let here = slice_get_read bs (length bs) i b refl c.loop-at-test.true c.index-blocks-at.is in
-    let same : xs ≡ b.running.items = c.as_slice-running.ensures.value ∙ ap (λ (w : Block). w.running.items) (sym c.index-blocks-at.is) in
-    let l : c.loop-at.rest < length (numbers b.running.items) = omega (arith, c.if-rest-running.true, ap (λ (ys : List GoroutineId). length ys) same, numbers-length b.running.items) in
+    let same : xs ≡ b.running.items = c.as_slice-running.ensures.value
+    ∙ ap (λ (w : Block). w.running.items) (sym c.index-blocks-at.is) in
+    let l : c.loop-at.rest < length (numbers b.running.items) =
+    omega (
+      arith,
+      c.if-rest-running.true,
+      ap (λ (ys : List GoroutineId). length ys) same,
+      numbers-length b.running.items,
+    ) in
     read xs c.loop-at.rest _ c.if-rest-running.true
     ∙ ap (λ (ys : List GoroutineId). slice_get (numbers ys) c.loop-at.rest) same
     ∙ sym (gather-get (λ (b : Block). numbers b.running.items) bs i c.loop-at.rest b here l)
@@ -29,8 +38,10 @@ returns-then-rest-running c =
 pub returns : goal.returns
 returns c =
     let bs = c.args.blocks.now in
-    let all = ap (λ (xs : List ℕ). length xs) (gather-all (λ (b : Block). numbers b.running.items) bs c.loop-at.at (omega (arith, c.loop-at-test.false))) in
-    sym (slice_get_past (running_in bs) (runs_before bs c.args.start + c.args.k) (omega (arith, all, c.loop-at.invariant)))
+    let all = ap (λ (xs : List ℕ). length xs)
+    (gather-all (λ (b : Block). numbers b.running.items) bs c.loop-at.at (omega (arith, c.loop-at-test.false))) in
+    sym (slice_get_past (running_in bs) (runs_before bs c.args.start + c.args.k)
+    (omega (arith, all, c.loop-at.invariant)))
 
 pub loop-at-preserved : goal.loop-at-preserved
 loop-at-preserved c =
@@ -39,6 +50,14 @@ loop-at-preserved c =
     let b = c.index-blocks-at.result in
     let xs = c.as_slice-running.result.now in
     let here = slice_get_read bs (length bs) i b refl c.loop-at-test.true c.index-blocks-at.is in
-    let same : xs ≡ b.running.items = c.as_slice-running.ensures.value ∙ ap (λ (w : Block). w.running.items) (sym c.index-blocks-at.is) in
+    let same : xs ≡ b.running.items = c.as_slice-running.ensures.value
+    ∙ ap (λ (w : Block). w.running.items) (sym c.index-blocks-at.is) in
     let step = gather-next (λ (b : Block). numbers b.running.items) bs i b here in
-    omega (arith, step, numbers-length b.running.items, ap (λ (ys : List GoroutineId). length ys) same, c.if-rest-running.false, c.loop-at.invariant)
+    omega (
+      arith,
+      step,
+      numbers-length b.running.items,
+      ap (λ (ys : List GoroutineId). length ys) same,
+      c.if-rest-running.false,
+      c.loop-at.invariant,
+    )

@@ -9,4 +9,5 @@ use Rattle.golf_state_queues.proofs.holders.narrow.Goals as goal
 pub returns : goal.returns
 returns c =
     let gs : List ℕ = keys (plain_entries c.args.roster.now.places) in
-    filter_same _ (λ (h : TicketHolder). is_in h.goroutine.0 gs) _ (λ x b f' k. search rules) _ _ c.retain.ensures.filtered
+    filter_same _ (λ (h : TicketHolder). is_in h.goroutine.0 gs) _
+    (λ x b f' k. search rules) _ _ c.retain.ensures.filtered

@@ -9,5 +9,7 @@ use Rattle.golf_state_queues.proofs.queues.narrow_all.Given as goal
 abbrev pub invariant-loop-at : goal.invariant-loop-at
 invariant-loop-at l = record {
   size : length l.queues.items ≡ length l.initial.queues.items;
-  queues : wait_queues_of l.queues.items ≡ changed_to (λ (e : ℕ × List (ℕ × ℕ)). (e.0, among (keys (plain_entries l.roster.places)) e.1)) l.at (wait_queues_of l.initial.queues.items);
+  queues : wait_queues_of l.queues.items ≡ changed_to
+      (λ (e : ℕ × List (ℕ × ℕ)). (e.0, among (keys (plain_entries l.roster.places)) e.1)) l.at
+      (wait_queues_of l.initial.queues.items);
 }

@@ -4,16 +4,20 @@ use Rattle.std.proofs.lemmas.Bool.{ltb-true, ltb-false}
 use Rattle.std.proofs.lemmas.List.Sorted.{IsPartitionedBy-ltb, IsPartitionPoint-from_clause}
 use Rattle.golf_state_queues.specs.declared.queues.Queue.{Queue}
 use Rattle.golf_state_queues.specs.WaitQueues.{key, held}
-use Rattle.golf_state_queues.proofs.Keyed.{sorted-keyed, rank-keyed}
+use Rattle.golf_heap.proofs.Keyed.{sorted-keyed, rank-keyed}
 use Rattle.golf_state_queues.proofs.queues.rank_of.Goals as goal
 
 pub returns-clause-place : goal.returns-clause-place
 returns-clause-place c =
     let hs = c.args.queues.now in
     let k = c.args.key in
-    let order : IsNonDecreasingBy (λ (h : Queue). key h.object.0 h.side) hs = sorted-keyed (λ (h : Queue). key h.object.0 h.side) (λ (h : Queue). held h.holders) 0 hs c.requires in
+    let order : IsNonDecreasingBy (λ (h : Queue). key h.object.0 h.side) hs =
+    sorted-keyed (λ (h : Queue). key h.object.0 h.side) (λ (h : Queue). held h.holders) 0 hs c.requires in
     let parted = IsPartitionedBy-ltb (λ (h : Queue). key h.object.0 h.side) hs k order in
-    let point = IsPartitionPoint-from_clause (λ (h : Queue). ltb (key h.object.0 h.side) k) hs c.partition_point.result c.partition_point.ensures.partitioned parted (λ a r q h. search rules) in
-    rank-keyed (λ (h : Queue). key h.object.0 h.side) (λ (h : Queue). held h.holders) k c.partition_point.result hs c.partition_point.ensures.bound
+    let point = IsPartitionPoint-from_clause
+    (λ (h : Queue). ltb (key h.object.0 h.side) k) hs c.partition_point.result c.partition_point.ensures.partitioned
+    parted (λ a r q h. search rules) in
+    rank-keyed (λ (h : Queue). key h.object.0 h.side)
+    (λ (h : Queue). held h.holders) k c.partition_point.result hs c.partition_point.ensures.bound
     (λ m d h. ltb-true _ k (point.0 m d (omega arith) h))
     (λ d h. ltb-false _ k (point.1 c.partition_point.result d (omega arith) h))

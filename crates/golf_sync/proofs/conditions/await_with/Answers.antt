@@ -26,9 +26,13 @@ hand_over-requires c =
     let s = c.args.state.now in
     let g = c.args.acting.goroutine.0 in
     let after = c.args.acting.after in
-    let act : Actor → List Change = λ a. blocks a (went after 1 [] a.frame) WaitKind.Condition (bare_wait c.args.condition.0 Side.Cond ∷ []) in
-    let b = beside-put g after s c.requires c.block_on.new.state _ (ap (λ (t : State). t.goroutines) (c.in_ok-block_on.ensures.ok ∙ does-is g after s c.requires act c.args.acting.line)) in
-    handed-ready s (first c.args.mutex.0 Side.Lock s.goroutines) c.first_waiter-waiting.result c.first_waiter-waiting.ensures.first c.first_waiter-waiting.ensures.blocked c.block_on.new.state b
+    let act : Actor → List Change = λ a. blocks a (went after 1 [] a.frame) WaitKind.Condition
+    (bare_wait c.args.condition.0 Side.Cond ∷ []) in
+    let b = beside-put g after s c.requires c.block_on.new.state _
+    (ap (λ (t : State). t.goroutines) (c.in_ok-block_on.ensures.ok
+    ∙ does-is g after s c.requires act c.args.acting.line)) in
+    handed-ready s (first c.args.mutex.0 Side.Lock s.goroutines) c.first_waiter-waiting.result
+    c.first_waiter-waiting.ensures.first c.first_waiter-waiting.ensures.blocked c.block_on.new.state b
 
 pub returns-clause-ok : goal.returns-clause-ok
 returns-clause-ok c =
@@ -42,16 +46,25 @@ returns-clause-ok c =
     let now = c.in_ok-block_on.ensures.ok ∙ does-is g after s c.requires act c.args.acting.line in
     let b = beside-put g after s c.requires c.block_on.new.state _ (ap (λ (t : State). t.goroutines) now) in
     let e =
-    c.hand_over.ensures ∙ handed-is s m c.first_waiter-waiting.result c.first_waiter-waiting.ensures.first c.first_waiter-waiting.ensures.blocked c.block_on.new.state b c.args.mutex.0
+    c.hand_over.ensures ∙ handed-is s m c.first_waiter-waiting.result c.first_waiter-waiting.ensures.first
+    c.first_waiter-waiting.ensures.blocked c.block_on.new.state b c.args.mutex.0
     ∙ ap (apply_all (hands_over c.args.mutex.0 m)) now
-    ∙ handed-swap g s WaitKind.Condition c.args.acting.line waits (standing A (went after 1 [] c.requires.frame)) c.args.mutex.0 m (apart-some g after s c.requires m c.first_waiter-waiting.ensures.blocked) in
-    let append = apply_all-append (hands_over c.args.mutex.0 m) (blocks A (next c.requires.frame (drop 1 c.requires.frame.operands)) WaitKind.Condition waits) s in
+    ∙ handed-swap g s WaitKind.Condition c.args.acting.line waits
+    (standing A (went after 1 [] c.requires.frame)) c.args.mutex.0 m
+    (apart-some g after s c.requires m c.first_waiter-waiting.ensures.blocked) in
+    let append = apply_all-append (hands_over c.args.mutex.0 m)
+    (blocks A (next c.requires.frame (drop 1 c.requires.frame.operands)) WaitKind.Condition waits) s in
     let stays =
-    ap (is_blocked g) (c.hand_over.ensures ∙ handed-is s m c.first_waiter-waiting.result c.first_waiter-waiting.ensures.first c.first_waiter-waiting.ensures.blocked c.block_on.new.state b c.args.mutex.0)
-    ∙ blocked-handed g c.args.mutex.0 m c.block_on.new.state (apart-some g after s c.requires m c.first_waiter-waiting.ensures.blocked) c.in_ok-block_on.ensures.blocked in
-    let by : Actor → List Change = λ a. at_mutex (awaits_by a (drop 1 a.frame.operands) s c.args.condition.0 c.args.mutex.0) (find c.args.mutex.0 s.objects) in
+    ap (is_blocked g) (c.hand_over.ensures
+    ∙ handed-is s m c.first_waiter-waiting.result c.first_waiter-waiting.ensures.first
+    c.first_waiter-waiting.ensures.blocked c.block_on.new.state b c.args.mutex.0)
+    ∙ blocked-handed g c.args.mutex.0 m c.block_on.new.state
+    (apart-some g after s c.requires m c.first_waiter-waiting.ensures.blocked) c.in_ok-block_on.ensures.blocked in
+    let by : Actor → List Change = λ a. at_mutex
+    (awaits_by a (drop 1 a.frame.operands) s c.args.condition.0 c.args.mutex.0) (find c.args.mutex.0 s.objects) in
     let f : FrameView = next c.requires.frame (drop 1 c.requires.frame.operands) in
     let is : by A ≡ hands_over c.args.mutex.0 m ++ blocks A f WaitKind.Condition waits = grind (arith, common_steps) in
     let comes : outcome_of (does_by by g c.args.acting.line (find g s.goroutines)) ≡ Outcome.Blocked =
-    ap (λ (o : Option GoroutineView). outcome_of (does_by by g c.args.acting.line o)) c.requires.found ∙ ap outcome_of is ∙ blocks-behind c.args.mutex.0 m A f WaitKind.Condition waits in
+    ap (λ (o : Option GoroutineView). outcome_of (does_by by g c.args.acting.line o)) c.requires.found
+    ∙ ap outcome_of is ∙ blocks-behind c.args.mutex.0 m A f WaitKind.Condition waits in
     ((grind (arith, common_steps, e, append), stays), λ stay. comes)

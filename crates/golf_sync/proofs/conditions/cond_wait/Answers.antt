@@ -23,7 +23,20 @@ returns-in-To-clause-ok c =
     let line = c.args.acting.line in
     let st = c.requires in
     let o = c.in-To.object.0 in
-    let on : Actor → List Change = λ a. at_condition (λ m. at_reference a (λ p. at_mutex (awaits_by a (drop 1 a.frame.operands) s o p) (find p s.objects)) m) (find o s.objects) in
-    let k = one-operand st.frame.operands c.in-Some.condition (sym c.in-Some.is ∙ c.last_operand.ensures ∙ ap (λ (vs : List Value). slice_get vs 0) (operands-is g after s st)) in
-    let is : on (actor_of st line) ≡ awaits (actor_of st line) s = grind (arith, common_steps, k.1, is-reference c.in-Some.condition c.in-To.object (sym c.reference_in.ensures ∙ c.in-To.is)) in
-    IfOk-weaker c.await_at.result _ _ (λ outcome h. comes-same outcome on (λ a. awaits a s) g line s c.await_at.new.state (acts-same g after line s st on (λ a. awaits a s) is) h) c.await_at.ensures.ok
+    let on : Actor → List Change = λ a. at_condition
+    (λ m. at_reference a (λ p. at_mutex (awaits_by a (drop 1 a.frame.operands) s o p) (find p s.objects)) m)
+    (find o s.objects) in
+    let k = one-operand st.frame.operands c.in-Some.condition
+    (sym c.in-Some.is ∙ c.last_operand.ensures
+    ∙ ap (λ (vs : List Value). slice_get vs 0) (operands-is g after s st)) in
+    let is : on (actor_of st line) ≡ awaits (actor_of st line) s =
+    grind (
+      arith,
+      common_steps,
+      k.1,
+      is-reference c.in-Some.condition c.in-To.object
+          (sym c.reference_in.ensures ∙ c.in-To.is),
+    ) in
+    IfOk-weaker c.await_at.result _ _ (λ outcome h. comes-same outcome on
+    (λ a. awaits a s) g line s c.await_at.new.state (acts-same g after line s st on (λ a. awaits a s) is) h)
+    c.await_at.ensures.ok

@@ -23,13 +23,15 @@ pub pass_on-requires-clause-blocked : goal.pass_on-requires-clause-blocked
 pass_on-requires-clause-blocked c =
     let s = c.loop-waiting.state in
     let m = first c.args.condition.0 Side.Cond s.goroutines in
-    served-blocked s m c.in-Some.waiting (served-from s m c.in-Some.waiting c.in-Some.ensures.first c.in-Some.ensures.blocked) s (beside-same s s refl)
+    served-blocked s m c.in-Some.waiting (served-from s m c.in-Some.waiting c.in-Some.ensures.first
+    c.in-Some.ensures.blocked) s (beside-same s s refl)
 
 pub pass_on-requires-clause-tickets : goal.pass_on-requires-clause-tickets
 pass_on-requires-clause-tickets c =
     let s = c.loop-waiting.state in
     let o = c.args.condition.0 in
-    let w = served-from s (first o Side.Cond s.goroutines) c.in-Some.waiting c.in-Some.ensures.first c.in-Some.ensures.blocked in
+    let w = served-from s (first o Side.Cond s.goroutines) c.in-Some.waiting c.in-Some.ensures.first
+    c.in-Some.ensures.blocked in
     let rest = notified-some true o s.goroutines w.waiter w.is in
     omega (arith, c.loop-waiting.invariant.tickets, ap (λ (ws : List Waiter). length ws) rest.1)
 
@@ -37,29 +39,60 @@ pub loop-waiting-smaller : goal.loop-waiting-smaller
 loop-waiting-smaller c =
     let s = c.loop-waiting.state in
     let o = c.args.condition.0 in
-    let w = served-from s (first o Side.Cond s.goroutines) c.in-Some.waiting c.in-Some.ensures.first c.in-Some.ensures.blocked in
+    let w = served-from s (first o Side.Cond s.goroutines) c.in-Some.waiting c.in-Some.ensures.first
+    c.in-Some.ensures.blocked in
     let rest = notified-some true o s.goroutines w.waiter w.is in
-    let p = passed o c.args.mutex.0 s w.waiter rest.0 (find w.waiter.number s.goroutines) (find c.args.mutex.0 s.objects) (record { rises = c.in-Some.ensures.rises; goroutine = w.found; object = refl; mutex = c.loop-waiting.invariant.mutex; first = rest.1 }) in
-    let e = c.pass_on.ensures ∙ ap (λ (x : Waiting). pass_on x.goroutine.0 c.args.mutex.0 (find x.goroutine.0 s.goroutines) (find c.args.mutex.0 s.objects) s) w.told in
-    omega (arith, ap (λ (ws : List Waiter). length ws) rest.1, ap (λ (t : State). length (waiters o Side.Cond t.goroutines)) e, ap (λ (ws : List Waiter). length ws) p.waiters)
+    let p = passed o c.args.mutex.0 s w.waiter rest.0 (find w.waiter.number s.goroutines)
+    (find c.args.mutex.0 s.objects) (record {
+      rises = c.in-Some.ensures.rises;
+      goroutine = w.found;
+      object = refl;
+      mutex = c.loop-waiting.invariant.mutex;
+      first = rest.1;
+    }) in
+    let e = c.pass_on.ensures ∙ ap (λ (x : Waiting). pass_on x.goroutine.0 c.args.mutex.0
+    (find x.goroutine.0 s.goroutines) (find c.args.mutex.0 s.objects) s) w.told in
+    omega (
+      arith,
+      ap (λ (ws : List Waiter). length ws) rest.1,
+      ap (λ (t : State). length (waiters o Side.Cond t.goroutines)) e,
+      ap (λ (ws : List Waiter). length ws) p.waiters,
+    )
 
 pub loop-waiting-preserved : goal.loop-waiting-preserved
 loop-waiting-preserved c =
     let s = c.loop-waiting.state in
     let o = c.args.condition.0 in
     let m = c.args.mutex.0 in
-    let w = served-from s (first o Side.Cond s.goroutines) c.in-Some.waiting c.in-Some.ensures.first c.in-Some.ensures.blocked in
+    let w = served-from s (first o Side.Cond s.goroutines) c.in-Some.waiting c.in-Some.ensures.first
+    c.in-Some.ensures.blocked in
     let rest = notified-some true o s.goroutines w.waiter w.is in
-    let p = passed o m s w.waiter rest.0 (find w.waiter.number s.goroutines) (find m s.objects) (record { rises = c.in-Some.ensures.rises; goroutine = w.found; object = refl; mutex = c.loop-waiting.invariant.mutex; first = rest.1 }) in
+    let p = passed o m s w.waiter rest.0 (find w.waiter.number s.goroutines) (find m s.objects)
+    (record {
+      rises = c.in-Some.ensures.rises;
+      goroutine = w.found;
+      object = refl;
+      mutex = c.loop-waiting.invariant.mutex;
+      first = rest.1;
+    }) in
     let t = pass_on w.waiter.number m (find w.waiter.number s.goroutines) (find m s.objects) s in
-    let e = c.pass_on.ensures ∙ ap (λ (x : Waiting). pass_on x.goroutine.0 m (find x.goroutine.0 s.goroutines) (find m s.objects) s) w.told in
+    let e = c.pass_on.ensures ∙ ap (λ (x : Waiting). pass_on x.goroutine.0 m (find x.goroutine.0 s.goroutines)
+    (find m s.objects) s) w.told in
     record {
       all =
           ap (λ (u : State). apply_all (passes_on m (waiters o Side.Cond u.goroutines)) u) e
           ∙ ap (λ (ws : List Waiter). apply_all (passes_on m ws) t) p.waiters
           ∙ sym (ap (λ (ws : List Waiter). apply_all (passes_on m ws) s) rest.1)
           ∙ c.loop-waiting.invariant.all;
-      tickets = omega (arith, c.loop-waiting.invariant.tickets, ap (λ (ws : List Waiter). length ws) rest.1, ap (λ (u : State). length (waiters o Side.Cond u.goroutines)) e, ap (λ (ws : List Waiter). length ws) p.waiters, ap (λ (u : State). u.next_ticket) e, p.tickets);
+      tickets = omega (
+        arith,
+        c.loop-waiting.invariant.tickets,
+        ap (λ (ws : List Waiter). length ws) rest.1,
+        ap (λ (u : State). length (waiters o Side.Cond u.goroutines)) e,
+        ap (λ (ws : List Waiter). length ws) p.waiters,
+        ap (λ (u : State). u.next_ticket) e,
+        p.tickets,
+      );
       mutex = ap (λ (u : State). is_some (mutex_of (find m u.objects))) e ∙ p.mutex;
     }
 
@@ -67,5 +100,7 @@ pub returns : goal.returns
 returns c =
     let s = c.loop-waiting.state in
     let o = c.args.condition.0 in
-    let none = none-of (first o Side.Cond s.goroutines) c.first_waiter.result c.first_waiter.ensures.first (ap is_some c.in_default.is) in
-    sym (ap (λ (ws : List Waiter). apply_all (passes_on c.args.mutex.0 ws) s) (notified-none true o s.goroutines none)) ∙ c.loop-waiting.invariant.all
+    let none = none-of (first o Side.Cond s.goroutines) c.first_waiter.result c.first_waiter.ensures.first
+    (ap is_some c.in_default.is) in
+    sym (ap (λ (ws : List Waiter). apply_all (passes_on c.args.mutex.0 ws) s) (notified-none true o s.goroutines none))
+    ∙ c.loop-waiting.invariant.all

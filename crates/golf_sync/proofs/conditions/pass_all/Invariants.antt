@@ -11,7 +11,8 @@ use Rattle.golf_sync.proofs.conditions.pass_all.Given as goal
 -- once those who still wait are passed on, all are
 abbrev pub invariant-loop-waiting : goal.invariant-loop-waiting
 invariant-loop-waiting l = record {
-  all : apply_all (passes_on l.mutex.0 (waiters l.condition.0 Side.Cond l.state.goroutines)) l.state ≡ apply_all (passes_on l.mutex.0 (waiters l.condition.0 Side.Cond l.initial.state.goroutines)) l.initial.state;
+  all : apply_all (passes_on l.mutex.0 (waiters l.condition.0 Side.Cond l.state.goroutines)) l.state ≡ apply_all
+      (passes_on l.mutex.0 (waiters l.condition.0 Side.Cond l.initial.state.goroutines)) l.initial.state;
   tickets : l.state.next_ticket + length (waiters l.condition.0 Side.Cond l.state.goroutines) < 2 ^ 64;
   mutex : IsSome (mutex_of (find l.mutex.0 l.state.objects));
 }

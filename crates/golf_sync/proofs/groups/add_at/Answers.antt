@@ -22,11 +22,17 @@ returns-then-count-eq0 c =
     let s = c.args.state.now in
     let st = c.requires in
     let o = c.args.group.0 in
-    let act : Actor → List Change = λ a. at_group (λ n. counts a (drop 2 a.frame.operands) o (sum n c.args.delta)) (find o s.objects) in
+    let act : Actor → List Change = λ a. at_group (λ n. counts a (drop 2 a.frame.operands) o (sum n c.args.delta))
+    (find o s.objects) in
     let h : FrameView = next st.frame (drop 2 st.frame.operands) in
     let x : Object = Object.Group (sum c.in-Some.count c.args.delta) in
     let rest : List Change = Change.WakeAll o Waking.AtZero ∷ [] in
-    let is : act (actor_of st c.args.acting.line) ≡ Change.Replace o x ∷ (stands (actor_of st c.args.acting.line) h ++ rest) = grind (arith, common_steps) in (
-      (grind (arith, common_steps), ap (runs g) c.wake_all.ensures ∙ runs-all g c.args.group.0 (waking_of k.AtZero) c.proceed.new.state c.proceed.ensures.runs),
+    let is : act (actor_of st c.args.acting.line) ≡ Change.Replace o x
+    ∷ (stands (actor_of st c.args.acting.line) h ++ rest) = grind (arith, common_steps) in (
+      (
+        grind (arith, common_steps),
+        ap (runs g) c.wake_all.ensures
+            ∙ runs-all g c.args.group.0 (waking_of k.AtZero) c.proceed.new.state c.proceed.ensures.runs,
+      ),
       done-replacing g c.args.acting.after c.args.acting.line s st act h rest refl refl o x is,
     )

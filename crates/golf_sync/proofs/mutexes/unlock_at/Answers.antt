@@ -22,22 +22,34 @@ hand_over-requires c =
     let s = c.args.state.now in
     let g = c.args.acting.goroutine.0 in
     let after = c.args.acting.after in
-    let b = beside-put g after s c.requires c.proceed.new.state _ (ap (λ (t : State). t.goroutines) (c.proceed.ensures.state ∙ does-is g after s c.requires (λ a. stands a (went after 1 [] a.frame)) c.args.acting.line)) in
-    handed-ready s (first c.args.mutex.0 Side.Lock s.goroutines) c.first_waiter-waiting.result c.first_waiter-waiting.ensures.first c.first_waiter-waiting.ensures.blocked c.proceed.new.state b
+    let b = beside-put g after s c.requires c.proceed.new.state _
+    (ap (λ (t : State). t.goroutines) (c.proceed.ensures.state
+    ∙ does-is g after s c.requires (λ a. stands a (went after 1 [] a.frame)) c.args.acting.line)) in
+    handed-ready s (first c.args.mutex.0 Side.Lock s.goroutines) c.first_waiter-waiting.result
+    c.first_waiter-waiting.ensures.first c.first_waiter-waiting.ensures.blocked c.proceed.new.state b
 
 pub returns : goal.returns
 returns c =
     let s = c.args.state.now in
     let g = c.args.acting.goroutine.0 in
     let after = c.args.acting.after in
-    let b = beside-put g after s c.requires c.proceed.new.state _ (ap (λ (t : State). t.goroutines) (c.proceed.ensures.state ∙ does-is g after s c.requires (λ a. stands a (went after 1 [] a.frame)) c.args.acting.line)) in
-    let e = c.hand_over.ensures ∙ handed-is s (first c.args.mutex.0 Side.Lock s.goroutines) c.first_waiter-waiting.result c.first_waiter-waiting.ensures.first c.first_waiter-waiting.ensures.blocked c.proceed.new.state b c.args.mutex.0 in
+    let b = beside-put g after s c.requires c.proceed.new.state _
+    (ap (λ (t : State). t.goroutines) (c.proceed.ensures.state
+    ∙ does-is g after s c.requires (λ a. stands a (went after 1 [] a.frame)) c.args.acting.line)) in
+    let e = c.hand_over.ensures ∙ handed-is s
+    (first c.args.mutex.0 Side.Lock s.goroutines) c.first_waiter-waiting.result c.first_waiter-waiting.ensures.first
+    c.first_waiter-waiting.ensures.blocked c.proceed.new.state b c.args.mutex.0 in
     let st = c.requires in
     let o = c.args.mutex.0 in
     let m = first o Side.Lock s.goroutines in
     let act : Actor → List Change = λ a. at_mutex (unlocks_by a (drop 1 a.frame.operands) s o) (find o s.objects) in
     let h : FrameView = next st.frame (drop 1 st.frame.operands) in
-    let is : act (actor_of st c.args.acting.line) ≡ stands (actor_of st c.args.acting.line) h ++ hands_over o m = grind (arith, common_steps) in (
-      (grind (arith, common_steps, e), ap (runs g) c.hand_over.ensures ∙ runs-handed g c.args.mutex.0 c.first_waiter-waiting.result c.proceed.new.state c.proceed.ensures.runs),
+    let is : act (actor_of st c.args.acting.line) ≡ stands (actor_of st c.args.acting.line) h ++ hands_over o m =
+    grind (arith, common_steps) in (
+      (
+        grind (arith, common_steps, e),
+        ap (runs g) c.hand_over.ensures
+            ∙ runs-handed g c.args.mutex.0 c.first_waiter-waiting.result c.proceed.new.state c.proceed.ensures.runs,
+      ),
       done-standing g after c.args.acting.line s st act h (hands_over o m) refl (hands-free o m) is,
     )

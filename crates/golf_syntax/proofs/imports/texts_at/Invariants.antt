@@ -7,7 +7,8 @@ use Rattle.golf_syntax.proofs.imports.texts_at.Given as goal
 -- the paths so far, and those that are read next, are what is read
 abbrev pub invariant-paths : goal.invariant-paths
 invariant-paths l = record {
-  rest : list_at text_at punctuations.Semicolon punctuations.CloseParen l.fn.tokens ≡ many_at text_at punctuations.Semicolon punctuations.CloseParen l.paths l.left;
+  rest : list_at text_at punctuations.Semicolon punctuations.CloseParen l.fn.tokens
+      ≡ many_at text_at punctuations.Semicolon punctuations.CloseParen l.paths l.left;
   within : length l.left ≤ length l.fn.tokens;
 }
 

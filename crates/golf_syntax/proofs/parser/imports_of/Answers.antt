@@ -6,9 +6,12 @@ use Rattle.golf_syntax.proofs.parser.imports_of.Goals as goal
 
 pub returns-in_default-2 : goal.returns-in_default-2
 returns-in_default-2 c =
-    imports-end c.segments.imports c.args.tokens.now c.segments.left.now c.in-Some.segment.now c.in-Some.behind.now c.segments.invariant c.in-Some.ensures.value (sym c.in_ok-import.ensures ∙ c.in_default-2.is)
+    imports-end c.segments.imports c.args.tokens.now c.segments.left.now c.in-Some.segment.now c.in-Some.behind.now
+    c.segments.invariant c.in-Some.ensures.value (sym c.in_ok-import.ensures ∙ c.in_default-2.is)
 
 pub segments-preserved : goal.segments-preserved
 segments-preserved c =
-    subst (λ xs. Spells (closed (map print_import xs)) c.args.tokens.now c.in-Some.behind.now) (sym c.in_ok-push.ensures.ok)
-    (import-more c.segments.imports c.in-Some-2.import c.args.tokens.now c.segments.left.now c.in-Some.segment.now c.in-Some.behind.now c.segments.invariant c.in-Some.ensures.value (sym c.in_ok-import.ensures ∙ c.in-Some-2.is))
+    subst (λ xs. Spells (closed (map print_import xs)) c.args.tokens.now c.in-Some.behind.now)
+    (sym c.in_ok-push.ensures.ok)
+    (import-more c.segments.imports c.in-Some-2.import c.args.tokens.now c.segments.left.now c.in-Some.segment.now
+    c.in-Some.behind.now c.segments.invariant c.in-Some.ensures.value (sym c.in_ok-import.ensures ∙ c.in-Some-2.is))

@@ -12,7 +12,8 @@ split_at-requires c =
 pub returns-clause-value : goal.returns-clause-value
 returns-clause-value c =
     let some : 0 < length c.args.tokens.now = grind (arith, common_steps) in
-    cut-is c.args.tokens.now c.split_at.result.0.now c.split_at.result.1.now c.front_length.result c.front_length.ensures some c.split_at.ensures.front c.split_at.ensures.back
+    cut-is c.args.tokens.now c.split_at.result.0.now c.split_at.result.1.now c.front_length.result
+    c.front_length.ensures some c.split_at.ensures.front c.split_at.ensures.back
 
 pub returns-clause-shorter : goal.returns-clause-shorter
 returns-clause-shorter c =

@@ -8,4 +8,6 @@ pub returns-in-None-clause-value : goal.returns-in-None-clause-value
 returns-in-None-clause-value c = stmt-none c.args.tokens.now c.in-None.ensures.cases
 
 pub returns-in-Some-clause-value : goal.returns-in-Some-clause-value
-returns-in-Some-clause-value c = subst (λ (x : Found). IfOk c.kind_move.result (λ o. moved o ≡ x)) (stmt-split c.in-Some.first.now c.in-Some.behind.now c.args.tokens.now c.in-Some.ensures.cases.0) c.kind_move.ensures.value
+returns-in-Some-clause-value c = subst (λ (x : Found). IfOk c.kind_move.result (λ o. moved o ≡ x))
+    (stmt-split c.in-Some.first.now c.in-Some.behind.now c.args.tokens.now c.in-Some.ensures.cases.0)
+    c.kind_move.ensures.value

@@ -10,7 +10,9 @@ loop-left-preserved c =
     let less = c.in-Some.ensures.smaller in
     let low = c.loop-left.invariant.smaller in
     record {
-      down = down c.loop-left.waiting c.push.new.self inner inner.now refl c.in_ok-push.ensures.ok left_of c.args.e.now c.in-Some.left.now c.loop-left.invariant.down (sym c.in-Some.ensures.is);
-      within = deeper c.loop-left.waiting c.push.new.self inner inner.now refl c.in_ok-push.ensures.ok size-Expr (size-Expr c.args.e.now) c.loop-left.invariant.within low;
+      down = down c.loop-left.waiting c.push.new.self inner inner.now refl c.in_ok-push.ensures.ok left_of c.args.e.now
+          c.in-Some.left.now c.loop-left.invariant.down (sym c.in-Some.ensures.is);
+      within = deeper c.loop-left.waiting c.push.new.self inner inner.now refl c.in_ok-push.ensures.ok size-Expr
+          (size-Expr c.args.e.now) c.loop-left.invariant.within low;
       smaller = omega (arith, less, low);
     }

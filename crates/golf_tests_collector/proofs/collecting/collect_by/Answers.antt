@@ -10,6 +10,7 @@ collect-requires-clause-whole g c = λ κs within. leads-whole c.args.code.now c
 
 pub returns : goal.returns
 returns g c =
-    collected-or c.collect.result c.args.code.now c.args.state.now c.collect.new.state c.args.options.recover c.args.options.sets_finalisers c.requires.leads
+    collected-or c.collect.result c.args.code.now c.args.state.now c.collect.new.state c.args.options.recover
+    c.args.options.sets_finalisers c.requires.leads
     (None-if_not_some _ (sym (c.is_some-over.ensures ∙ ap is_some c.ending.ensures) ∙ c.if-over.false))
     c.requires.sets c.collect.ensures.state c.collect.ensures.err_state

@@ -13,7 +13,8 @@ made c =
       no_first = ap frame_views c.new-first.ensures;
       no_second = ap frame_views c.new-second.ensures;
       no_buffer = c.new-buffer.ensures;
-      one_wait = c.in_ok-push.ensures.ok ∙ ap (λ (ws : List Wait). ws ++ receive_from c.in_ok-channel.channel.0 ∷ []) c.new-waits.ensures;
+      one_wait = c.in_ok-push.ensures.ok ∙ ap
+          (λ (ws : List Wait). ws ++ receive_from c.in_ok-channel.channel.0 ∷ []) c.new-waits.ensures;
       opened = c.in_ok-state.ensures;
       channel = c.in_ok-channel.ensures.ok;
       object = c.in_ok-channel.ensures.number;

@@ -9,6 +9,8 @@ loop-node-preserved c =
     let P : ℕ → Type 0 = λ p. p < c.args.count in
     let nodes = c.args.nodes.now in
     let x : ℕ = get_or nodes c.loop-node.node-index 0 in (
-      c.in_ok-push.ensures.ok ∙ ap (λ (l : List ℕ). l ++ x ∷ []) c.loop-node.invariant.0 ∙ sym (take_more nodes c.loop-node.node-index 0 (omega arith)),
-      subst (Every P) (sym c.in_ok-push.ensures.ok) (Every-push P c.loop-node.list x c.loop-node.invariant.1 (omega arith)),
+      c.in_ok-push.ensures.ok ∙ ap (λ (l : List ℕ). l ++ x ∷ []) c.loop-node.invariant.0
+          ∙ sym (take_more nodes c.loop-node.node-index 0 (omega arith)),
+      subst (Every P) (sym c.in_ok-push.ensures.ok)
+          (Every-push P c.loop-node.list x c.loop-node.invariant.1 (omega arith)),
     )

@@ -4,8 +4,11 @@ use Rattle.golf_why.proofs.Asleep.{asleep_among, asleep-more}
 use Rattle.golf_why.proofs.explanation.asleep.Goals as goal
 
 pub loop-sleeper-preserved : goal.loop-sleeper-preserved
-loop-sleeper-preserved c = asleep-more c.args.state.now c.args.graph.now.sleepers c.loop-sleeper.sleeper c.goroutine_of.result c.loop-sleeper.entries c.push.new.self c.goroutine_of.ensures c.loop-sleeper.invariant
+loop-sleeper-preserved c = asleep-more c.args.state.now c.args.graph.now.sleepers c.loop-sleeper.sleeper
+    c.goroutine_of.result c.loop-sleeper.entries c.push.new.self c.goroutine_of.ensures c.loop-sleeper.invariant
     (c.in_ok-push.ensures.ok ∙ ap (λ o. c.loop-sleeper.entries ++ o ∷ []) c.entry.ensures)
 
 pub returns : goal.returns
-returns c = c.loop-sleeper.invariant ∙ ap (asleep_among c.args.state.now) (take_all c.loop-sleeper.sleeper c.args.graph.now.sleepers (omega (arith, c.loop-sleeper-test.false, c.sleepers-sleeper-end.ensures)))
+returns c = c.loop-sleeper.invariant ∙ ap (asleep_among c.args.state.now)
+    (take_all c.loop-sleeper.sleeper c.args.graph.now.sleepers
+    (omega (arith, c.loop-sleeper-test.false, c.sleepers-sleeper-end.ensures)))

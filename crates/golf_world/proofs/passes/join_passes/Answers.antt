@@ -15,7 +15,8 @@ join_seat-requires g c =
       o.ensures.table ∙ sym c.requires.named,
       ap (λ (m : Me (Unit {0}) View). m.1) o.ensures.view,
       omega (arith, c.requires.word),
-      joins_as c.args.table.now.shared.key k.id k.me o.result.id o.result.me.0 g.W.WorldName.passes k.me.0.held c.args.keeper.me.0.seen k.me.0.earlier i.joined.view,
+      joins_as c.args.table.now.shared.key k.id k.me o.result.id o.result.me.0 g.W.WorldName.passes k.me.0.held
+          c.args.keeper.me.0.seen k.me.0.earlier i.joined.view,
     )
 
 pub loop-pass-preserved : goal.loop-pass-preserved
@@ -23,7 +24,8 @@ loop-pass-preserved g c =
     let i = c.loop-pass.invariant in
     record {
       table = c.join_seat.ensures.0 ∙ i.table;
-      joined = joins_next c.pop.new.self c.in-Some.pass i.joined c.in-Some.ensures c.into_seat-seat.ensures.view c.join_seat.ensures.2;
+      joined = joins_next c.pop.new.self c.in-Some.pass i.joined c.in-Some.ensures c.into_seat-seat.ensures.view
+          c.join_seat.ensures.2;
     }
 
 pub returns-clause-passes : goal.returns-clause-passes
@@ -31,4 +33,6 @@ returns-clause-passes g c =
     let h = c.args.keeper.me.0.seen in
     let all : List Pass = c.args.passes in
     let me = c.loop-pass.keeper.me in
-    joins_all g.W.WorldName.passes h all me (subst (λ (l : List Pass). HasJoined g.W.WorldName.passes h all l me) c.in_default.ensures.0 c.loop-pass.invariant.joined)
+    joins_all g.W.WorldName.passes h all me
+    (subst (λ (l : List Pass). HasJoined g.W.WorldName.passes h all l me) c.in_default.ensures.0
+    c.loop-pass.invariant.joined)

@@ -1,4 +1,5 @@
-use Rattle.std.proofs.Common.{◌≡◌, ℕ, ◌+◌, ◌-◌, ◌∷◌, ◌++◌, [], length, List, Some, slice_get, refl, sym, ap, ◌∙◌, subst, arith, length-append}
+use Rattle.std.proofs.Common.{◌≡◌, ℕ, ◌+◌, ◌-◌, ◌∷◌, ◌++◌, [], length, List, Some, slice_get, refl, sym, ap, ◌∙◌, subst}
+use Rattle.std.proofs.Common.{arith, length-append}
 use Rattle.atomic_table.specs.Table.{Me}
 use Rattle.golf_world.specs.declared.rule.View.{View}
 use Rattle.golf_world.specs.Rule.{idle_passes, left_view}
@@ -12,8 +13,13 @@ split_seat-seat-requires g c =
     let n : ℕ = c.loop-number.number in
     let passes : ℕ = c.args.passes in
     let i = c.loop-number.invariant in
-    let first = c.loop-number.first in
-    (i.table ∙ c.requires.seat, omega (arith, c.requires.word), splits_as c.args.table.now.shared.key first.id first.me passes n [] (idle_passes (n + 1) (passes - (n + 1))) [] [] (i.view ∙ ap (λ (v : View). (v, [])) (keeper_from-next n passes c.loop-number-test.true)))
+    let first = c.loop-number.first in (
+      i.table ∙ c.requires.seat,
+      omega (arith, c.requires.word),
+      splits_as c.args.table.now.shared.key first.id first.me passes n []
+          (idle_passes (n + 1) (passes - (n + 1))) [] []
+          (i.view ∙ ap (λ (v : View). (v, [])) (keeper_from-next n passes c.loop-number-test.true)),
+    )
 
 pub loop-number-preserved : goal.loop-number-preserved
 loop-number-preserved g c =
@@ -26,7 +32,9 @@ loop-number-preserved g c =
     let new = c.new.ensures in
     record {
       table = c.split_seat-seat.ensures.0 ∙ i.table;
-      view = c.split_seat-seat.ensures.2 ∙ ap (λ (m : Me (Unit {0}) View). (left_view m.0, m.1)) i.view ∙ ap (λ (v : View). (v, [])) (keeper_from-left n passes (keeper_from n passes) c.loop-number-test.true refl);
+      view = c.split_seat-seat.ensures.2 ∙ ap (λ (m : Me (Unit {0}) View). (left_view m.0, m.1)) i.view
+          ∙ ap (λ (v : View). (v, [])) (keeper_from-left n passes (keeper_from n passes) c.loop-number-test.true refl);
       count = omega (arith, ap length ok, length-append list (p ∷ []), i.count);
-      passes = λ k q at. new_push list n p (sym i.count) (new.number, new.seen, new.mine) i.passes k q (subst (λ (l : List Pass). slice_get l k ≡ Some q) ok at);
+      passes = λ k q at. new_push list n p (sym i.count) (new.number, new.seen, new.mine) i.passes k q
+          (subst (λ (l : List Pass). slice_get l k ≡ Some q) ok at);
     }

@@ -13,8 +13,10 @@ returns-then-is_done g c =
     let same : g.W.WorldName.code ≡ c.args.code = sym c.requires.code in
     let done = c.is_done.ensures in
     let code : Code = c.args.code in
-    let state : c.close-state.result.0 ≡ real_run code (turns es) false = c.close-state.ensures.state ∙ ap (λ (k : Code). after k es) same ∙ after-is code es in
-    let reports : c.close-state.result.1.reports ≡ real_reports code (turns es) false = c.close-state.ensures.reports ∙ ap (λ (k : Code). reports_after k es) same ∙ reports-is code es in
+    let state : c.close-state.result.0 ≡ real_run code (turns es) false = c.close-state.ensures.state
+    ∙ ap (λ (k : Code). after k es) same ∙ after-is code es in
+    let reports : c.close-state.result.1.reports ≡ real_reports code (turns es) false = c.close-state.ensures.reports
+    ∙ ap (λ (k : Code). reports_after k es) same ∙ reports-is code es in
     let agree = real-runs code false (turns es) in
     record {
       state = state;
@@ -22,7 +24,9 @@ returns-then-is_done g c =
       prints = ap (λ (s : State). s.output) state ∙ agree.0;
       ends = ap ending state ∙ agree.1;
       tells = reports ∙ agree.2;
-      history = subst (λ (y : Code × ℕ). IsHistory y.0 y.1 es) (λ i. (same i, sym c.requires.passes i)) c.close-state.ensures.history;
+      history = subst (λ (y : Code × ℕ). IsHistory y.0 y.1 es)
+          (λ i. (same i, sym c.requires.passes i)) c.close-state.ensures.history;
       few = c.close-state.ensures.few;
-      whole = λ goes. let all = done c.if-is_done.true goes in omega (arith, c.close-state.ensures.few, all, ap length c.as_slice.ensures);
+      whole = λ goes. let all = done c.if-is_done.true goes in omega
+          (arith, c.close-state.ensures.few, all, ap length c.as_slice.ensures);
     }

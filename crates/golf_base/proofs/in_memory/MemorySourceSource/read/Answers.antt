@@ -12,6 +12,16 @@ returns-clause-bytes c =
     let rest : c.split_at.result.1.now ≡ drop s.at s.bytes = c.split_at.ensures.back ∙ ap (drop s.at) same in
     let long : length c.split_at.result.1.now ≡ length s.bytes - s.at = ap length rest ∙ length-drop s.at s.bytes in
     let is = c.copy_from_slice.ensures.after in (
-      sym left ∙ gives s.bytes s.at c.min-count.result c.copy_from_slice.new.self _ (is ∙ ap (take c.min-count.result) rest) (omega (arith, c.min.ensures, c.min-count.ensures, long)),
-      λ zero room. nil_from_length _ (simp length-drop (omega (arith, c.min.ensures, c.min-count.ensures, long, c.copy_from_slice.ensures.len, length-append c.copy_from_slice.new.self (drop c.min-count.result c.args.into.now), length-drop c.min-count.result c.args.into.now))),
+      sym left ∙ gives s.bytes s.at c.min-count.result c.copy_from_slice.new.self _
+          (is ∙ ap (take c.min-count.result) rest) (omega (arith, c.min.ensures, c.min-count.ensures, long)),
+      λ zero room. nil_from_length _ (simp length-drop
+          (omega (
+            arith,
+            c.min.ensures,
+            c.min-count.ensures,
+            long,
+            c.copy_from_slice.ensures.len,
+            length-append c.copy_from_slice.new.self (drop c.min-count.result c.args.into.now),
+            length-drop c.min-count.result c.args.into.now,
+          ))),
     )

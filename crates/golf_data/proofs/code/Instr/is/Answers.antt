@@ -8,7 +8,16 @@ returns-then-eq-2 c =
     elim c.if-eq.branch [
       | then-eq w ↦
           same-but-choice c.args.self.now c.args.other.now c.have_same_choice.result
-          (record { left = c.kind_of.result; right = c.kind_of-2.result; answer = c.eq.result; left_is = c.kind_of.ensures; right_is = c.kind_of-2.ensures; compared = c.eq.ensures; same = w.if-eq.true })
+          (record {
+            left = c.kind_of.result;
+            right = c.kind_of-2.result;
+            answer = c.eq.result;
+            left_is = c.kind_of.ensures;
+            right_is = c.kind_of-2.ensures;
+            compared = c.eq.ensures;
+            same =
+                w.if-eq.true;
+          })
           (record {
             left = w.payload_of.result;
             right = w.payload_of-then-eq.result;

@@ -5,7 +5,9 @@ use Rattle.golf_data.proofs.Clears.{all-zeros, now-zero, zero-stays}
 use Rattle.golf_data.proofs.slots.Slots.clear_all.Goals as goal
 
 pub returns-then-self : goal.returns-then-self
-returns-then-self c = sym c.self.view_is ∙ zero-stays c.self.inside.is_cleared c.self.inside.values c.self.invariant.1 c.if-self.true ∙ ap (cleared_slots (λ i. false)) c.self.view_is
+returns-then-self c = sym c.self.view_is
+    ∙ zero-stays c.self.inside.is_cleared c.self.inside.values c.self.invariant.1 c.if-self.true
+    ∙ ap (cleared_slots (λ i. false)) c.self.view_is
 
 pub invariant_of-self : goal.invariant_of-self
 invariant_of-self c =

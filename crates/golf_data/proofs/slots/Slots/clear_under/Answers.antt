@@ -13,13 +13,15 @@ invariant_of-self c =
     let low : zeros < 2 ^ 64 = assumption c.self.ranges in
     let word = dead c.args.mask zeros c.ranges.mask.fits low in (
       subst (AreZeros (bit_or zeros word)) (sym c.clear_bits.ensures) (more-zeros zeros word vs c.self.invariant.0),
-      subst (AreAllZero c.self.inside.is_cleared) (sym c.clear_bits.ensures) (still-zero (stays_but word) c.self.inside.is_cleared vs c.self.invariant.1),
+      subst (AreAllZero c.self.inside.is_cleared) (sym c.clear_bits.ensures)
+          (still-zero (stays_but word) c.self.inside.is_cleared vs c.self.invariant.1),
     )
 
 pub returns-then-dead-ne0 : goal.returns-then-dead-ne0
 returns-then-dead-ne0 c =
     let low : c.self.inside.zeros < 2 ^ 64 = assumption c.self.ranges in
-    c.clear_bits.ensures ∙ under-is c.args.mask c.self.inside.zeros c.ranges.mask.fits low c.self.inside.values c.self.invariant.0 ∙ ap (cleared_slots (stays_under (Some c.args.mask))) c.self.view_is
+    c.clear_bits.ensures ∙ under-is c.args.mask c.self.inside.zeros c.ranges.mask.fits low c.self.inside.values
+    c.self.invariant.0 ∙ ap (cleared_slots (stays_under (Some c.args.mask))) c.self.view_is
 
 pub returns-else-dead-ne0 : goal.returns-else-dead-ne0
 returns-else-dead-ne0 c =

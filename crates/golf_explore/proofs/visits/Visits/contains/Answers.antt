@@ -15,6 +15,7 @@ returns-then-branch c =
     let visit : Visit = c.in-Some.visit.now in
     let found = c.in-Some.ensures.lookup.3 in
     let within : at < length visits = found.0 in
-    let is : In (silent visit.state) (states visits) = get-In visits at visit (slice_get-get_or visits at visit within ∙ ap Some (sym (found.1 visit))) in
+    let is : In (silent visit.state) (states visits) =
+    get-In visits at visit (slice_get-get_or visits at visit within ∙ ap Some (sym (found.1 visit))) in
     λ yes. subst (λ (vs : List Visit). In (silent c.args.state.now) (states vs)) c.as_slice.ensures
     (subst (λ (s : State). In s (states visits)) (c.in_ok-is.ensures.0 c.if-branch.true) is)

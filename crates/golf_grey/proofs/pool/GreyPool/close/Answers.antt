@@ -10,23 +10,42 @@ use Rattle.golf_grey.proofs.pool.GreyPool.close.Goals as goal
 
 pub absorb_row-requires-clause-more : goal.absorb_row-requires-clause-more
 absorb_row-requires-clause-more c =
-    let some_hand : 0 < length c.args.hands = omega (arith, c.loop-row.invariant.2, c.in-Some.ensures.len, c.loop-row.rows.ok.0, c.requires.0) in
+    let some_hand : 0 < length c.args.hands =
+    omega (arith, c.loop-row.invariant.2, c.in-Some.ensures.len, c.loop-row.rows.ok.0, c.requires.0) in
     let h = exists_at c.args.hands 0 some_hand in
     let fits = c.requires.1 0 h.0 h.1 in
-    omega (arith, fits.parts, h.0.live, c.loop-row.invariant.2, c.in-Some.ensures.len, c.loop-row.rows.ok.0, c.len-more.ensures)
+    omega (
+      arith,
+      fits.parts,
+      h.0.live,
+      c.loop-row.invariant.2,
+      c.in-Some.ensures.len,
+      c.loop-row.rows.ok.0,
+      c.len-more.ensures,
+    )
 
 pub absorb_row-requires-clause-row : goal.absorb_row-requires-clause-row
-absorb_row-requires-clause-row c = c.loop-row.invariant.1 (length c.pop.new.self.items) c.in-Some.row (at_end c.loop-row.rows.items c.pop.new.self.items c.in-Some.row _ c.in-Some.ensures.items refl)
+absorb_row-requires-clause-row c = c.loop-row.invariant.1 (length c.pop.new.self.items) c.in-Some.row
+    (at_end c.loop-row.rows.items c.pop.new.self.items c.in-Some.row _ c.in-Some.ensures.items refl)
 
 pub loop-row-preserved : goal.loop-row-preserved
 loop-row-preserved c =
     let e = c.absorb_row.ensures in
-    let more : c.len-more.result ≡ length c.pop.new.self.items = omega (arith, c.len-more.ensures, c.pop.new.self.ok.0) in (
-      subst (λ (k : ℕ). IsStage c.args.self.thieves.items (all_parts - k) (length c.args.self.thieves.items) c.absorb_row.new.owners.items) more e.stage,
-      (λ k r d. c.loop-row.invariant.1 k r (longer c.loop-row.rows.items c.pop.new.self.items c.in-Some.row c.in-Some.ensures.items k r d)),
+    let more : c.len-more.result ≡ length c.pop.new.self.items =
+    omega (arith, c.len-more.ensures, c.pop.new.self.ok.0) in (
+      subst (λ (k : ℕ). IsStage c.args.self.thieves.items (all_parts - k)
+          (length c.args.self.thieves.items) c.absorb_row.new.owners.items) more e.stage,
+      (λ k r d. c.loop-row.invariant.1 k r (longer c.loop-row.rows.items c.pop.new.self.items c.in-Some.row
+          c.in-Some.ensures.items k r d)),
       omega (arith, c.loop-row.invariant.2, c.in-Some.ensures.len, c.loop-row.rows.ok.0, c.pop.new.self.ok.0),
       (λ f. e.pushed f ∙ c.loop-row.invariant.3 f),
-      λ f. omega (arith, e.taken f, c.loop-row.invariant.4 f, sum_by_push (λ (r : Vec GreyPass). row_weight f r.items) c.pop.new.self.items c.in-Some.row, ap (rows_weight f) c.in-Some.ensures.items),
+      λ f. omega (
+        arith,
+        e.taken f,
+        c.loop-row.invariant.4 f,
+        sum_by_push (λ (r : Vec GreyPass). row_weight f r.items) c.pop.new.self.items c.in-Some.row,
+        ap (rows_weight f) c.in-Some.ensures.items,
+      ),
     )
 
 pub drain_all-places-requires-clause-owners : goal.drain_all-places-requires-clause-owners
@@ -49,4 +68,13 @@ pub returns-clause-all : goal.returns-clause-all
 returns-clause-all c = λ f.
     let left = c.drain_all-places.ensures in
     let none : length c.loop-row.rows.items ≡ 0 = omega (arith, c.in_default.ensures.cases.0, c.loop-row.rows.ok.0) in
-    omega (arith, left.2 (λ _. f), left_all f left.0 c.drain_all-places.result left.1, c.loop-row.invariant.3 (λ _. f), c.loop-row.invariant.4 (λ _. f), c.take_apart-owners.ensures.pushed (λ _. f), c.take_apart-owners.ensures.taken (λ _. f), no_rows (λ _. f) c.loop-row.rows.items none)
+    omega (
+      arith,
+      left.2 (λ _. f),
+      left_all f left.0 c.drain_all-places.result left.1,
+      c.loop-row.invariant.3 (λ _. f),
+      c.loop-row.invariant.4 (λ _. f),
+      c.take_apart-owners.ensures.pushed (λ _. f),
+      c.take_apart-owners.ensures.taken (λ _. f),
+      no_rows (λ _. f) c.loop-row.rows.items none,
+    )

@@ -9,7 +9,8 @@ invariant-loop-row l =
     × AllRows l.thieves.items l.rows.items
     × (length l.rows.items ≤ length l.thieves.items)
     × ((g : ℕ → ℕ → ℕ) → pushed_in g l.owners.items ≡ pushed_in g l.initial.owners.items)
-    × ((g : ℕ → ℕ → ℕ) → taken_in g l.owners.items + rows_weight g l.rows.items ≡ taken_in g l.initial.owners.items + rows_weight g l.initial.rows.items)
+    × ((g : ℕ → ℕ → ℕ) → taken_in g l.owners.items + rows_weight g l.rows.items ≡ taken_in g l.initial.owners.items
+    + rows_weight g l.initial.rows.items)
 
 abbrev pub decreases-loop-row : goal.decreases-loop-row
 decreases-loop-row l = vec_len l.rows

@@ -12,7 +12,8 @@ invariant-loop-own l =
     × (length l.thieves.items ≡ l.hands)
     × ((j : ℕ) (w : Owner) → get_elem? l.owners.items j ≡ some w → OwnerFits l.thieves.items l.capacity l.places j w)
     × AreNewRows l.thieves.items l.capacity l.places l.rows.items
-    × ((k : ℕ) (h : GreyHand) → get_elem? l.list.items k ≡ some h → IsHandIn l.thieves.items l.capacity l.places h × (h.number + k + 1 ≡ length l.thieves.items) × IsNewHand h)
+    × ((k : ℕ) (h : GreyHand) → get_elem? l.list.items k ≡ some h → IsHandIn l.thieves.items l.capacity l.places h
+    × (h.number + k + 1 ≡ length l.thieves.items) × IsNewHand h)
 
 abbrev pub decreases-loop-own : goal.decreases-loop-own
 decreases-loop-own l = length l.owners.items

@@ -17,7 +17,8 @@ pub returns-in-Some-clause-few : goal.returns-in-Some-clause-few
 returns-in-Some-clause-few c =
     let h = c.requires in
     let took = c.in-Some.ensures.rule in
-    taken_within c.args.self.now.thieves.items c.args.self.now.capacity c.args.self.now.places c.args.hand.now.number (worker_view c.pop_as.new.self).taken c.args.hand.now.passes.items h.row h.low
+    taken_within c.args.self.now.thieves.items c.args.self.now.capacity c.args.self.now.places c.args.hand.now.number
+    (worker_view c.pop_as.new.self).taken c.args.hand.now.passes.items h.row h.low
     (omega (arith, took.few, ap (λ (u : GreyView). length u.taken) took.view, h.knows.1)) h.row_knows h.unused
 
 pub returns-clause-hand : goal.returns-clause-hand
@@ -51,14 +52,20 @@ pub returns-clause-few : goal.returns-clause-few
 returns-clause-few c =
     let h = c.requires in
     let e = c.steal_all.ensures in
-    taken_within c.args.self.now.thieves.items c.args.self.now.capacity c.args.self.now.places c.args.hand.now.number (worker_view c.pop_as.new.self).taken c.steal_all.new.passes.items e.row h.low
-    (omega (arith, h.few, ap (λ (u : GreyView). length u.taken) c.in_default.ensures.rule.0)) (e.knows _ _ h.row_knows) (λ p at. h.unused p (sym e.unused ∙ at))
+    taken_within c.args.self.now.thieves.items c.args.self.now.capacity c.args.self.now.places c.args.hand.now.number
+    (worker_view c.pop_as.new.self).taken c.steal_all.new.passes.items e.row h.low
+    (omega (arith, h.few, ap (λ (u : GreyView). length u.taken) c.in_default.ensures.rule.0)) (e.knows _ _ h.row_knows)
+    (λ p at. h.unused p (sym e.unused ∙ at))
 
 pub returns-in-Some-clause-from : goal.returns-in-Some-clause-from
 returns-in-Some-clause-from c = (
   c.args.hand.now.number,
   c.requires.low,
-  λ g. omega (arith, ap (λ (u : GreyView). sum_by (g c.args.hand.now.number) u.taken) c.in-Some.ensures.rule.view, sum_by_push (g c.args.hand.now.number) (worker_view c.args.hand.now.own).taken c.in-Some.place),
+  λ g. omega (
+    arith,
+    ap (λ (u : GreyView). sum_by (g c.args.hand.now.number) u.taken) c.in-Some.ensures.rule.view,
+    sum_by_push (g c.args.hand.now.number) (worker_view c.args.hand.now.own).taken c.in-Some.place,
+  ),
 )
 
 pub returns-in-Some-clause-list : goal.returns-in-Some-clause-list
@@ -66,10 +73,22 @@ returns-in-Some-clause-list c = λ f.
     let old = worker_view c.args.hand.now.own in
     let new = worker_view c.pop_as.new.self in
     let passes = c.args.hand.now.passes.items in
-    omega (arith, list_weighs f new.taken passes, list_weighs f old.taken passes, ap (λ (u : GreyView). sum_by f u.taken) c.in-Some.ensures.rule.view, sum_by_push f old.taken c.in-Some.place)
+    omega (
+      arith,
+      list_weighs f new.taken passes,
+      list_weighs f old.taken passes,
+      ap (λ (u : GreyView). sum_by f u.taken) c.in-Some.ensures.rule.view,
+      sum_by_push f old.taken c.in-Some.place,
+    )
 
 pub returns-clause-list : goal.returns-clause-list
 returns-clause-list c = λ f.
     let old = worker_view c.args.hand.now.own in
     let new = worker_view c.pop_as.new.self in
-    omega (arith, list_weighs f new.taken c.steal_all.new.passes.items, list_weighs f old.taken c.args.hand.now.passes.items, ap (λ (u : GreyView). sum_by f u.taken) c.in_default.ensures.rule.0, c.steal_all.ensures.took.2 (λ _. f))
+    omega (
+      arith,
+      list_weighs f new.taken c.steal_all.new.passes.items,
+      list_weighs f old.taken c.args.hand.now.passes.items,
+      ap (λ (u : GreyView). sum_by f u.taken) c.in_default.ensures.rule.0,
+      c.steal_all.ensures.took.2 (λ _. f),
+    )

@@ -5,4 +5,5 @@ use Rattle.golf_mark.proofs.notes.Notes.add_all.Goals as goal
 
 pub returns-clause-noted : goal.returns-clause-noted
 returns-clause-noted c = λ p low h.
-    In-all (λ q. q < length c.args.self.now → IsSet c.loop-place.self q) c.args.places.now c.loop-place.place-index (omega arith) c.loop-place.invariant.noted p h low
+    In-all (λ q. q < length c.args.self.now → IsSet c.loop-place.self q) c.args.places.now c.loop-place.place-index
+    (omega arith) c.loop-place.invariant.noted p h low

@@ -6,5 +6,6 @@ abbrev pub invariant-loop-place : goal.invariant-loop-place
 invariant-loop-place l = record {
   size : length l.self ≡ length l.initial.self;
   kept : (p : ℕ) → IsSet l.initial.self p → IsSet l.self p;
-  noted : (k : ℕ) → k < l.place-index → get_or l.places k 0 < length l.initial.self → IsSet l.self (get_or l.places k 0);
+  noted : (k : ℕ) → k < l.place-index → get_or l.places k 0 < length l.initial.self
+      → IsSet l.self (get_or l.places k 0);
 }

@@ -11,9 +11,13 @@ loop-sleeper-preserved c =
     let One : ℕ → Type 0 = λ p. p ≡ c.args.nodes + s in
     record {
       gains = Gains-trans Kind c.args.self.now c.loop-sleeper.self c.claim.new.self c.loop-sleeper.invariant.gains
-          (Gains-into One Kind c.loop-sleeper.self c.claim.new.self (λ p e. (s, e, In-get_or c.args.sleepers.now c.loop-sleeper.sleeper-index 0 (omega arith))) c.claim.ensures.gains);
-      there = below_more _ _ (λ k h. Gains-keeps One c.loop-sleeper.self c.claim.new.self _ c.claim.ensures.gains (c.loop-sleeper.invariant.there k h)) c.claim.ensures.there;
+          (Gains-into One Kind c.loop-sleeper.self c.claim.new.self
+          (λ p e. (s, e, In-get_or c.args.sleepers.now c.loop-sleeper.sleeper-index 0 (omega arith)))
+          c.claim.ensures.gains);
+      there = below_more _ _ (λ k h. Gains-keeps One c.loop-sleeper.self c.claim.new.self _ c.claim.ensures.gains
+          (c.loop-sleeper.invariant.there k h)) c.claim.ensures.there;
     }
 
 pub returns-clause-there : goal.returns-clause-there
-returns-clause-there c = In-all (λ s. In (c.args.nodes + s) c.loop-sleeper.self.order) c.args.sleepers.now c.loop-sleeper.sleeper-index (omega arith) c.loop-sleeper.invariant.there
+returns-clause-there c = In-all (λ s. In (c.args.nodes + s) c.loop-sleeper.self.order) c.args.sleepers.now
+    c.loop-sleeper.sleeper-index (omega arith) c.loop-sleeper.invariant.there

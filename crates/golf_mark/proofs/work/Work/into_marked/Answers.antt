@@ -12,12 +12,23 @@ returns c =
     let bits = c.self.inside.bits.items in
     let nodes : ℕ = length c.args.sheet.flags in
     let P : ℕ → Type 0 = λ p. In p c.self.inside.order.items in
-    let places : nodes + length c.args.sheet.awake ≡ length bits = c.requires.places ∙ ap (λ (w : Working). w.places) (sym c.self.view_is) in
+    let places : nodes + length c.args.sheet.awake ≡ length bits = c.requires.places
+    ∙ ap (λ (w : Working). w.places) (sym c.self.view_is) in
     let low : nodes ≤ length bits = omega (arith, places) in
-    let front : c.split_at.result.0.now ≡ take nodes bits = c.split_at.ensures.front ∙ ap (λ (l : List Bool). take c.len.result l) c.as_slice.ensures.value ∙ ap (λ (n : ℕ). take n bits) c.len.ensures in
-    let back : c.split_at.result.1.now ≡ drop nodes bits = c.split_at.ensures.back ∙ ap (λ (l : List Bool). drop c.len.result l) c.as_slice.ensures.value ∙ ap (λ (n : ℕ). drop n bits) c.len.ensures in
-    let marked : Marked = record { flags = c.copied.result; order = c.numbers_of-order.result; awake = c.copied-2.result } in
-    rw (← c.self.view_is) (HasMarked-same nodes (length bits - nodes) (length c.args.sheet.awake) P P marked (omega (arith, places)) (λ p. (λ h. h, λ h. h))
+    let front : c.split_at.result.0.now ≡ take nodes bits = c.split_at.ensures.front
+    ∙ ap (λ (l : List Bool). take c.len.result l) c.as_slice.ensures.value
+    ∙ ap (λ (n : ℕ). take n bits) c.len.ensures in
+    let back : c.split_at.result.1.now ≡ drop nodes bits = c.split_at.ensures.back
+    ∙ ap (λ (l : List Bool). drop c.len.result l) c.as_slice.ensures.value
+    ∙ ap (λ (n : ℕ). drop n bits) c.len.ensures in
+    let marked : Marked = record {
+      flags = c.copied.result;
+      order = c.numbers_of-order.result;
+      awake = c.copied-2.result;
+    } in
+    rw (← c.self.view_is) (HasMarked-same nodes (length bits - nodes) (length c.args.sheet.awake) P P marked
+    (omega (arith, places)) (λ p. (λ h. h, λ h. h))
     (HasMarked-cut bits c.self.inside.order.items nodes marked low c.self.invariant.listed
     (c.copied.ensures ∙ front) (c.copied-2.ensures ∙ back) c.numbers_of-order.ensures.rising
-    (subst (λ (l : List Bool). (n : ℕ) → In n c.numbers_of-order.result ↔ IsSet l n) front c.numbers_of-order.ensures.members)))
+    (subst (λ (l : List Bool). (n : ℕ) → In n c.numbers_of-order.result ↔ IsSet l n) front
+    c.numbers_of-order.ensures.members)))

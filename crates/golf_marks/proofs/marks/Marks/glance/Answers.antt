@@ -16,14 +16,21 @@ load-found-requires c =
     let m = c.args.self.now in
     let s = c.args.seat.now in
     let p : ℕ = c.args.place in
-    let low : word_of p < word_count s.seat.me.0.graph = subst (λ (d : GraphParts). word_of p < word_count d) (sym c.requires.seat.graph) (omega (arith, c.requires.place)) in
-    let word : word_of p < m.table.shared.table_id.words = omega (arith, m.sized, c.requires.place) in
-    (c.requires.seat.table, word, glances m.table.shared.key m.table.shared.table_id.slots s.seat.id s.seat.me.0 s.seat.me.1 (word_of p) s.live low)
+    let low : word_of p < word_count s.seat.me.0.graph =
+    subst (λ (d : GraphParts). word_of p < word_count d) (sym c.requires.seat.graph)
+    (omega (arith, c.requires.place)) in
+    let word : word_of p < m.table.shared.table_id.words = omega (arith, m.sized, c.requires.place) in (
+      c.requires.seat.table,
+      word,
+      glances m.table.shared.key m.table.shared.table_id.slots s.seat.id s.seat.me.0
+          s.seat.me.1 (word_of p) s.live low,
+    )
 
 pub returns-clause-kept : goal.returns-clause-kept
 returns-clause-kept c = λ p h.
     let t = c.load-found.ensures.2.0 in
-    subst (λ (l : List ℕ). In p l) (sym (ap (λ (v : View). v.known) t.view)) (In-left p (known c.args.seat.now) (marked_in (word_of c.args.place) c.load-found.result) h)
+    subst (λ (l : List ℕ). In p l) (sym (ap (λ (v : View). v.known) t.view))
+    (In-left p (known c.args.seat.now) (marked_in (word_of c.args.place) c.load-found.result) h)
 
 pub returns-clause-there : goal.returns-clause-there
 returns-clause-there c = λ h.
@@ -31,7 +38,8 @@ returns-clause-there c = λ h.
     let n : ℕ = c.load-found.result in
     let t = c.load-found.ensures.2.0 in
     let one : bit_in p n ≡ 1 = sym c.bit.ensures ∙ eqb-true c.bit.result 1 h in
-    subst (λ (l : List ℕ). In p l) (sym (ap (λ (v : View). v.known) t.view)) (In-right p (known c.args.seat.now) (marked_in (word_of p) n) (all_told p n one))
+    subst (λ (l : List ℕ). In p l) (sym (ap (λ (v : View). v.known) t.view))
+    (In-right p (known c.args.seat.now) (marked_in (word_of p) n) (all_told p n one))
 
 pub returns-clause-unclaimed : goal.returns-clause-unclaimed
 returns-clause-unclaimed c = λ h.

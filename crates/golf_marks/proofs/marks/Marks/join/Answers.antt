@@ -7,5 +7,10 @@ join_seat-requires c =
     let m = c.args.self.now in
     let s = c.args.seat.now in
     let o = c.args.other in
-    let word : 0 < m.table.shared.table_id.words = omega (arith, m.sized) in
-    (c.requires.seat.table, c.requires.other.table, o.no_slot, word, merges m.table.shared.key s.seat.id s.seat.me.0 o.seat.id o.seat.me.0 s.live o.live)
+    let word : 0 < m.table.shared.table_id.words = omega (arith, m.sized) in (
+      c.requires.seat.table,
+      c.requires.other.table,
+      o.no_slot,
+      word,
+      merges m.table.shared.key s.seat.id s.seat.me.0 o.seat.id o.seat.me.0 s.live o.live,
+    )

@@ -8,4 +8,5 @@ use Rattle.golf_model.proofs.graph.Graph.parents.Goals as goal
 pub returns : goal.returns
 returns c =
     parents-inverse c.args.self.now c.nodes.result c.in_ok-rows.rows c.nodes.ensures.count
-    (subst (λ (g : GraphParts). IsInverseBelow (node_count g) c.nodes.result (row_of g.children) c.in_ok-rows.rows) c.self.view_is c.in_ok-rows.ensures)
+    (subst (λ (g : GraphParts). IsInverseBelow (node_count g) c.nodes.result (row_of g.children) c.in_ok-rows.rows)
+    c.self.view_is c.in_ok-rows.ensures)

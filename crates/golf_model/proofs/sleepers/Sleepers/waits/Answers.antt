@@ -7,7 +7,12 @@ use Rattle.golf_model.proofs.sleepers.Sleepers.waits.Goals as goal
 pub row-requires : goal.row-requires
 row-requires c =
     let s = c.self.inside in
-    omega (arith, c.self.invariant.0, sleeper-there s.goroutines s.waits s.references c.args.self.now c.args.at c.self.invariant.0 c.self.invariant.1 c.self.view_is c.requires)
+    omega (
+      arith,
+      c.self.invariant.0,
+      sleeper-there s.goroutines s.waits s.references c.args.self.now c.args.at
+          c.self.invariant.0 c.self.invariant.1 c.self.view_is c.requires,
+    )
 
 pub returns : goal.returns
 returns c =

@@ -9,7 +9,8 @@ use Rattle.golf_rows.proofs.Filling.{length-given, items-given, spare-there-item
 use Rattle.golf_rows.proofs.rooms.RoomyRows.add_to_all.Goals as goal
 
 pub add-requires : goal.add-requires
-add-requires c = has-room c.loop-number.self c.args.self.now c.args.numbers.now c.loop-number.number-index (omega arith) c.requires c.loop-number.invariant.room
+add-requires c = has-room c.loop-number.self c.args.self.now c.args.numbers.now c.loop-number.number-index
+    (omega arith) c.requires c.loop-number.invariant.room
 
 pub loop-number-preserved : goal.loop-number-preserved
 loop-number-preserved c =
@@ -21,11 +22,18 @@ loop-number-preserved c =
     let some = has-room old c.args.self.now numbers i (omega arith) c.requires c.loop-number.invariant.room in
     let items = λ (rows : List (Roomy ℕ)). map (λ (r : Roomy ℕ). r.items) rows in
     record {
-      size = ap (λ (rows : List (Roomy ℕ)). length rows) c.add.ensures ∙ length-given old n x ∙ c.loop-number.invariant.size;
-      room = λ k. ap (λ (rows : List (Roomy ℕ)). spare_at rows k + occurrences k (take (i + 1) numbers)) c.add.ensures ∙ spare-next old numbers i x (omega arith) some k ∙ c.loop-number.invariant.room k;
-      added = AddsTo-next x i numbers (items c.args.self.now) (items old) (items c.add.new.self) (omega arith) c.loop-number.invariant.added
-          (subst (λ (rows : List (List ℕ)). AddsTo (λ k. k ≡ n) x (items old) rows) (sym (ap items c.add.ensures ∙ items-given old n x)) (AddsTo-one (items old) x n (spare-there-items old n some)));
+      size = ap (λ (rows : List (Roomy ℕ)). length rows) c.add.ensures ∙ length-given old n x
+          ∙ c.loop-number.invariant.size;
+      room = λ k. ap (λ (rows : List (Roomy ℕ)). spare_at rows k + occurrences k (take (i + 1) numbers)) c.add.ensures
+          ∙ spare-next old numbers i x (omega arith) some k ∙ c.loop-number.invariant.room k;
+      added = AddsTo-next x i numbers (items c.args.self.now) (items old) (items c.add.new.self)
+          (omega arith) c.loop-number.invariant.added
+          (subst (λ (rows : List (List ℕ)). AddsTo (λ k. k ≡ n) x (items old) rows)
+          (sym (ap items c.add.ensures ∙ items-given old n x))
+          (AddsTo-one (items old) x n (spare-there-items old n some)));
     }
 
 pub returns-clause-added : goal.returns-clause-added
-returns-clause-added c = subst (λ (l : List ℕ). AddsTo (λ n. In n l) c.args.member (map (λ (r : Roomy ℕ). r.items) c.args.self.now) (map (λ (r : Roomy ℕ). r.items) c.loop-number.self)) (take_all c.loop-number.number-index c.args.numbers.now (omega arith)) c.loop-number.invariant.added
+returns-clause-added c = subst (λ (l : List ℕ). AddsTo (λ n. In n l) c.args.member
+    (map (λ (r : Roomy ℕ). r.items) c.args.self.now) (map (λ (r : Roomy ℕ). r.items) c.loop-number.self))
+    (take_all c.loop-number.number-index c.args.numbers.now (omega arith)) c.loop-number.invariant.added

@@ -9,5 +9,6 @@ abbrev pub invariant-loop-number : goal.invariant-loop-number
 invariant-loop-number l = record {
   size : length l.self ≡ length l.fn.self;
   room : (n : ℕ) → spare_at l.self n + occurrences n (take l.number-index l.numbers) ≡ spare_at l.fn.self n;
-  added : AddsTo (λ n. In n (take l.number-index l.numbers)) l.member (map (λ row. row.items) l.fn.self) (map (λ row. row.items) l.self);
+  added : AddsTo (λ n. In n (take l.number-index l.numbers)) l.member (map (λ row. row.items) l.fn.self)
+      (map (λ row. row.items) l.self);
 }

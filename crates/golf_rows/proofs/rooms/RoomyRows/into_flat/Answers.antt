@@ -11,5 +11,6 @@ pub returns : goal.returns
 returns c =
     let r = c.self.inside in
     c.of.ensures
-    ∙ full-rows 0 r.ends r.nexts r.members (length r.members) c.self.invariant.0 (subst (λ (rows : List (Roomy ℕ)). (n : ℕ) → spare_at rows n ≡ 0) (sym c.self.view_is) c.requires)
+    ∙ full-rows 0 r.ends r.nexts r.members (length r.members) c.self.invariant.0
+    (subst (λ (rows : List (Roomy ℕ)). (n : ℕ) → spare_at rows n ≡ 0) (sym c.self.view_is) c.requires)
     ∙ ap (map (λ (row : Roomy ℕ). row.items)) c.self.view_is

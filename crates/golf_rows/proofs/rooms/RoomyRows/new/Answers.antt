@@ -17,7 +17,8 @@ loop-room-preserved c =
     let nexts = c.in_ok-push.ensures.ok in
     let room-is : end - l.end ≡ room = omega (arith, is) in
     record {
-      lie = subst₂ (λ (es ns : List ℕ). AreRooms 0 es ns end) (sym ends) (sym nexts) (rooms-open 0 l.ends l.nexts l.end end end l.invariant.lie (omega (arith, is)) (omega arith));
+      lie = subst₂ (λ (es ns : List ℕ). AreRooms 0 es ns end) (sym ends) (sym nexts)
+          (rooms-open 0 l.ends l.nexts l.end end end l.invariant.lie (omega (arith, is)) (omega arith));
       last = ap (λ (es : List ℕ). get_or (0 ∷ es) (length es) 0) ends ∙ last-open 0 l.ends end;
       rows = λ members.
           ap₂ (λ (es ns : List ℕ). roomy_from 0 es ns members) ends nexts

@@ -6,12 +6,14 @@ pub returns-in_err-number : goal.returns-in_err-number
 returns-in_err-number c =
     let s = c.args.self.now in
     let none = c.in_err-number.ensures (s.turns - suc s.done) in
-    let both = events_none s.is_collection_next s.schedule c.next_number.new.self s.every s.done s.turns c.if-self.false c.if-self-2.false none.0 none.1 in
+    let both = events_none s.is_collection_next s.schedule c.next_number.new.self s.every s.done s.turns c.if-self.false
+    c.if-self-2.false none.0 none.1 in
     rw c.from_residual.ensures (both.0, both.1, refl)
 
 pub returns : goal.returns
 returns c =
     let s = c.args.self.now in (
-      events_turn s.schedule c.next_number.new.self s.every s.done s.turns c.if-self.false c.if-self-2.false (c.in_ok-number.ensures (s.turns - suc s.done)) c.is_due-self.ensures,
+      events_turn s.schedule c.next_number.new.self s.every s.done s.turns c.if-self.false c.if-self-2.false
+          (c.in_ok-number.ensures (s.turns - suc s.done)) c.is_due-self.ensures,
       refl,
     )

@@ -23,4 +23,5 @@ overflow_add-place c =
 pub returns : goal.returns
 returns c =
     let r = c.self.inside in
-    ap (λ (xs : List ℕ). slice_get xs c.args.place) (sym c.self.view_is) ∙ behind r.skipped c.args.place r.roster.now.running ∙ c.running_at.ensures
+    ap (λ (xs : List ℕ). slice_get xs c.args.place) (sym c.self.view_is)
+    ∙ behind r.skipped c.args.place r.roster.now.running ∙ c.running_at.ensures

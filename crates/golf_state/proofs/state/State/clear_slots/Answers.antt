@@ -26,8 +26,13 @@ invariant_of-self c =
     let found = lent-found gs g lent here k.rises in
     let mode : was.mode ≡ v.mode = sym c.clear_goroutine.ensures.mode in
     record {
-      kept = lent-kept gs g lent here k.rises x k (c.clear_goroutine.ensures.ready (lent-ready gs g lent here k.rises k.ready)) (k.running ∙ runs-same (plain_entries gs) g was v k.rises found (ap is_running mode));
-      enqueued = subst (λ (es : List (ℕ × GoroutineView)). AreEnqueued s.are_mutexes_enqueued es s.waiting s.next_ticket) (sym (lent-set gs g lent here k.rises x)) (enqueued-same s.are_mutexes_enqueued (plain_entries gs) s.waiting s.next_ticket g was v c.self.invariant.enqueued k.rises found mode);
+      kept = lent-kept gs g lent here k.rises x k
+          (c.clear_goroutine.ensures.ready (lent-ready gs g lent here k.rises k.ready))
+          (k.running ∙ runs-same (plain_entries gs) g was v k.rises found (ap is_running mode));
+      enqueued = subst (λ (es : List (ℕ × GoroutineView)). AreEnqueued s.are_mutexes_enqueued es s.waiting
+          s.next_ticket) (sym (lent-set gs g lent here k.rises x))
+          (enqueued-same s.are_mutexes_enqueued
+          (plain_entries gs) s.waiting s.next_ticket g was v c.self.invariant.enqueued k.rises found mode);
       finalisers = c.self.invariant.finalisers;
     }
 
@@ -40,7 +45,8 @@ returns-then-has c =
     let lent = c.get_mut.result.now in
     let here = c.get_mut.ensures.here in
     rw (← c.self.view_is)
-    (ap (λ (es : List (ℕ × GoroutineView)). record (plain_state s) { goroutines = es }) (lent-set gs g lent here k.rises c.clear_goroutine.new.goroutine)
+    (ap (λ (es : List (ℕ × GoroutineView)). record (plain_state s) { goroutines = es })
+    (lent-set gs g lent here k.rises c.clear_goroutine.new.goroutine)
     ∙ ap (λ (r : GoroutineView). become g r (plain_state s)) c.clear_goroutine.ensures.cleared
     ∙ tidied-clears c.args.code.now g (goroutine_view lent) (plain_state s) k.rises (lent-found gs g lent here k.rises))
 
@@ -49,4 +55,5 @@ returns-else-has c =
     let s = c.self.inside in
     let g = c.args.g.0 in
     let none = none-there c.has.result (find g (plain_entries s.roster.places)) c.has.ensures c.if-has.false in
-    rw (← c.self.view_is) (sym (ap (λ (o : Option GoroutineView). apply_all (clears c.args.code.now g o) (plain_state s)) none))
+    rw (← c.self.view_is) (sym (ap (λ (o : Option GoroutineView). apply_all (clears c.args.code.now g o)
+    (plain_state s)) none))

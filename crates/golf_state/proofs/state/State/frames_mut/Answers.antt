@@ -30,8 +30,12 @@ invariant_of-self-lent c = λ w.
     let found = lent-found gs g lent here k.rises in
     let running = lent-runs gs g lent here k.rises (ap (runs g) c.self.view_is ∙ c.requires) in
     record {
-      kept = lent-kept gs g lent here k.rises x k (running-ready lent.mode w running) (k.running ∙ runs-same (plain_entries gs) g (goroutine_view lent) (goroutine_view x) k.rises found refl);
-      enqueued = subst (λ (es : List (ℕ × GoroutineView)). AreEnqueued s.are_mutexes_enqueued es s.waiting s.next_ticket) (sym (lent-set gs g lent here k.rises x)) (enqueued-same s.are_mutexes_enqueued (plain_entries gs) s.waiting s.next_ticket g (goroutine_view lent) (goroutine_view x) c.self.invariant.enqueued k.rises found refl);
+      kept = lent-kept gs g lent here k.rises x k (running-ready lent.mode w running)
+          (k.running ∙ runs-same (plain_entries gs) g (goroutine_view lent) (goroutine_view x) k.rises found refl);
+      enqueued = subst (λ (es : List (ℕ × GoroutineView)). AreEnqueued s.are_mutexes_enqueued es s.waiting
+          s.next_ticket) (sym (lent-set gs g lent here k.rises x))
+          (enqueued-same s.are_mutexes_enqueued (plain_entries gs) s.waiting s.next_ticket g (goroutine_view lent)
+          (goroutine_view x) c.self.invariant.enqueued k.rises found refl);
       finalisers = c.self.invariant.finalisers;
     }
 
@@ -50,15 +54,18 @@ returns c =
             let x : Goroutine = record lent { frames = w } in
             let act : GoroutineView → State → State = λ r. become g (record r { frames = frame_views w }) in
             rw (← c.self.view_is)
-            (ap (λ (es : List (ℕ × GoroutineView)). record (plain_state s) { goroutines = es }) (lent-set gs g lent here k.rises x)
+            (ap (λ (es : List (ℕ × GoroutineView)). record (plain_state s) { goroutines = es })
+            (lent-set gs g lent here k.rises x)
             ∙ sym (ap (λ (o : Option GoroutineView). on_goroutine act o (plain_state s)) found)),
       ),
       record {
         writes_back = tt;
         value = rw (← c.self.view_is) (sym (ap frames_in found));
         same = rw (← c.self.view_is)
-            (ap (λ (o : Option GoroutineView). on_goroutine (λ r. become g (record r { frames = frames_in o })) o (plain_state s)) found
-            ∙ ap (λ (es : List (ℕ × GoroutineView)). record (plain_state s) { goroutines = es }) (put-same g 0 (goroutine_view lent) (plain_entries gs) k.rises found));
+            (ap (λ (o : Option GoroutineView). on_goroutine (λ r. become g (record r { frames = frames_in o })) o
+            (plain_state s)) found
+            ∙ ap (λ (es : List (ℕ × GoroutineView)). record (plain_state s) { goroutines = es })
+            (put-same g 0 (goroutine_view lent) (plain_entries gs) k.rises found));
         rises = rw (← c.self.view_is) k.rises;
       },
     )

@@ -10,5 +10,8 @@ returns-clause-last c =
     let s = c.self.inside in
     let o = c.args.object.0 in
     rw (← c.self.view_is)
-    (holder-below c.args.ticket o c.args.side (plain_entries s.roster.places) _ c.last_before.result c.holders.ensures.rises (c.self.invariant.enqueued.all o c.args.side (always-enqueued s.are_mutexes_enqueued c.args.side c.requires))
-    (subst (λ (es : List (ℕ × ℕ)). IsLastBefore c.args.ticket es c.last_before.result) c.holders.ensures.holders c.last_before.ensures))
+    (holder-below c.args.ticket o c.args.side
+    (plain_entries s.roster.places) _ c.last_before.result c.holders.ensures.rises
+    (c.self.invariant.enqueued.all o c.args.side (always-enqueued s.are_mutexes_enqueued c.args.side c.requires))
+    (subst (λ (es : List (ℕ × ℕ)). IsLastBefore c.args.ticket es c.last_before.result) c.holders.ensures.holders
+    c.last_before.ensures))

@@ -11,5 +11,7 @@ returns-else-running_count-lt2 c =
     let k = c.self.invariant.kept in
     let many = c.if-running_count-lt2.false in
     let all = ap (λ (xs : List ℕ). length xs) k.running in
-    let awake = one-awake s.queue (plain_entries s.roster.places) k.rises (omega (arith, many, c.running_count.ensures, all)) in
-    le-ltb c.running_count.result 2 many ∙ sym (ap not (ap (λ (t : State). not_empty (runnable t)) (sym c.self.view_is) ∙ awake))
+    let awake = one-awake s.queue (plain_entries s.roster.places) k.rises
+    (omega (arith, many, c.running_count.ensures, all)) in
+    le-ltb c.running_count.result 2 many ∙ sym
+    (ap not (ap (λ (t : State). not_empty (runnable t)) (sym c.self.view_is) ∙ awake))

@@ -27,17 +27,26 @@ invariant_of-self c =
     record {
       kept = subst (λ (r : Goroutines). AreKept r.places r.running s.next_goroutine) (sym c.take.ensures) (record {
         rises = subst (Rises 0) (sym (entries-left gs g)) (Rises-only 0 (λ h. not (h == g)) es k.rises);
-        below = subst (AllBelow s.next_goroutine) (sym (entries-left gs g)) (AllBelow-only s.next_goroutine (λ h. not (h == g)) es k.below);
-        zero = ap (λ (fs : List (ℕ × GoroutineView)). is_some (find 0 fs)) (entries-left gs g) ∙ there-left g 0 es c.requires k.zero;
+        below = subst (AllBelow s.next_goroutine) (sym (entries-left gs g))
+            (AllBelow-only s.next_goroutine (λ h. not (h == g)) es k.below);
+        zero = ap (λ (fs : List (ℕ × GoroutineView)). is_some (find 0 fs)) (entries-left gs g)
+            ∙ there-left g 0 es c.requires k.zero;
         running = ap (without g) k.running ∙ runs-left es g ∙ ap running_of (sym (entries-left gs g));
         few = omega (arith, fewer-left gs g, k.few);
         limit = k.limit;
         ready = ready-left gs g k.ready;
       });
-      enqueued = subst (λ (fs : List (ℕ × GoroutineView)). AreEnqueued s.are_mutexes_enqueued fs c.forget.new.queues s.next_ticket) (sym e) (enqueued-left s.are_mutexes_enqueued es s.waiting c.forget.new.queues s.next_ticket c.self.invariant.enqueued k.rises g (below-without (leaves_where g was) s.waiting c.forget.new.queues c.forget.ensures) (others-stay-where g was s.waiting c.forget.new.queues c.forget.ensures));
+      enqueued = subst (λ (fs : List (ℕ × GoroutineView)). AreEnqueued s.are_mutexes_enqueued fs c.forget.new.queues
+          s.next_ticket) (sym e) (enqueued-left s.are_mutexes_enqueued es s.waiting c.forget.new.queues s.next_ticket
+          c.self.invariant.enqueued k.rises g (below-without
+          (leaves_where g was) s.waiting c.forget.new.queues c.forget.ensures)
+          (others-stay-where g was s.waiting c.forget.new.queues c.forget.ensures));
       finalisers = c.self.invariant.finalisers;
     }
 
 pub returns : goal.returns
 returns c =
-    rw (← c.self.view_is) (ap (λ (es : List (ℕ × GoroutineView)). record (plain_state c.self.inside) { goroutines = es }) (ap (λ (r : Goroutines). plain_entries r.places) c.take.ensures ∙ entries-left c.self.inside.roster.places c.args.g.0))
+    rw (← c.self.view_is) (ap (λ (es : List (ℕ × GoroutineView)).
+    record (plain_state c.self.inside) { goroutines = es })
+    (ap (λ (r : Goroutines). plain_entries r.places) c.take.ensures
+    ∙ entries-left c.self.inside.roster.places c.args.g.0))

@@ -29,11 +29,13 @@ moved-ready m ticket (Mode.Blocked kind line waits old) fs r = r
 pub get_mut-goroutine-requires : goal.get_mut-goroutine-requires
 get_mut-goroutine-requires c =
     let g = c.args.g.0 in
-    blocked-there (find g (plain_entries c.self.inside.roster.places)) (ap (is_blocked g) c.self.view_is ∙ c.requires.blocked)
+    blocked-there (find g (plain_entries c.self.inside.roster.places))
+    (ap (is_blocked g) c.self.view_is ∙ c.requires.blocked)
 
 pub enter_for_mutex-self-inside-requires : goal.enter_for_mutex-self-inside-requires
 enter_for_mutex-self-inside-requires c =
-    below-without (leaves_in c.args.g.0 c.get_mut-goroutine.result.now.mode) c.self.inside.waiting c.leave_queues.new.queues c.leave_queues.ensures (c.self.inside.next_ticket + 1) c.self.invariant.enqueued.below
+    below-without (leaves_in c.args.g.0 c.get_mut-goroutine.result.now.mode) c.self.inside.waiting
+    c.leave_queues.new.queues c.leave_queues.ensures (c.self.inside.next_ticket + 1) c.self.invariant.enqueued.below
 
 pub invariant_of-self : goal.invariant_of-self
 invariant_of-self c =
@@ -48,14 +50,23 @@ invariant_of-self c =
     let was = goroutine_view lent in
     let w = goroutine_view x in
     let found = lent-found gs g lent here k.rises in
-    let same : is_running was.mode ≡ is_running w.mode = moved-same m s.next_ticket lent.mode ∙ ap is_running (sym c.move_mode.ensures) in
-    let ready : IsReadyIn x.mode x.frames = subst (λ (k : Mode). IsReadyIn k lent.frames) (sym c.move_mode.ensures) (moved-ready m s.next_ticket lent.mode lent.frames (lent-ready gs g lent here k.rises k.ready)) in
+    let same : is_running was.mode ≡ is_running w.mode = moved-same m s.next_ticket lent.mode
+    ∙ ap is_running (sym c.move_mode.ensures) in
+    let ready : IsReadyIn x.mode x.frames =
+    subst (λ (k : Mode). IsReadyIn k lent.frames) (sym c.move_mode.ensures)
+    (moved-ready m s.next_ticket lent.mode lent.frames (lent-ready gs g lent here k.rises k.ready)) in
     record {
-      kept = lent-kept gs g lent here k.rises x k ready (k.running ∙ runs-same (plain_entries gs) g was w k.rises found same);
-      enqueued = subst (λ (es : List (ℕ × GoroutineView)). AreEnqueued c.enter_for_mutex-self-inside.result es c.enter_for_mutex-self-inside.new.queues (s.next_ticket + 1)) (sym (lent-set gs g lent here k.rises x))
-          (enqueued-moved s.are_mutexes_enqueued (plain_entries gs) s.waiting c.enter_for_mutex-self-inside.new.queues s.next_ticket c.self.invariant.enqueued k.rises c.enter_for_mutex-self-inside.result g m was w lent.mode c.enter_for_mutex-self-inside.ensures.still found c.move_mode.ensures (record {
+      kept = lent-kept gs g lent here k.rises x k ready
+          (k.running ∙ runs-same (plain_entries gs) g was w k.rises found same);
+      enqueued = subst (λ (es : List (ℕ × GoroutineView)). AreEnqueued c.enter_for_mutex-self-inside.result es
+          c.enter_for_mutex-self-inside.new.queues (s.next_ticket + 1)) (sym (lent-set gs g lent here k.rises x))
+          (enqueued-moved s.are_mutexes_enqueued
+          (plain_entries gs) s.waiting c.enter_for_mutex-self-inside.new.queues s.next_ticket
+          c.self.invariant.enqueued k.rises c.enter_for_mutex-self-inside.result g m was w lent.mode
+          c.enter_for_mutex-self-inside.ensures.still found c.move_mode.ensures (record {
             below = c.enter_for_mutex-self-inside.ensures.below;
-            kept = λ j t h d l i. c.enter_for_mutex-self-inside.ensures.kept j t h l (others-stay g lent.mode s.waiting c.leave_queues.new.queues c.leave_queues.ensures j t h d i);
+            kept = λ j t h d l i. c.enter_for_mutex-self-inside.ensures.kept j t h l
+                (others-stay g lent.mode s.waiting c.leave_queues.new.queues c.leave_queues.ensures j t h d i);
             there = c.enter_for_mutex-self-inside.ensures.joins;
           }));
       finalisers = c.self.invariant.finalisers;
@@ -75,5 +86,8 @@ returns c =
     let base : State = record (plain_state s) { next_ticket = s.next_ticket + 1 } in
     rw (← c.self.view_is)
     (ap (λ (es : List (ℕ × GoroutineView)). record base { goroutines = es }) (lent-set gs g lent here k.rises x)
-    ∙ ap (λ (k : Mode). record base { goroutines = put g (record (goroutine_view lent) { mode = k }) (plain_entries gs) }) c.move_mode.ensures
+    ∙ ap (λ (k : Mode). record base {
+      goroutines = put g (record (goroutine_view lent) { mode = k })
+          (plain_entries gs);
+    }) c.move_mode.ensures
     ∙ sym (ap (λ (o : Option GoroutineView). on_goroutine act o (plain_state s)) (lent-found gs g lent here k.rises)))

@@ -10,14 +10,19 @@ use Rattle.golf_state.specs.Inside.{plain_state}
 use Rattle.golf_state_goroutines.specs.Places.{plain_entry, plain_entries}
 use Rattle.golf_state.specs.Ready.{AllReady}
 use Rattle.golf_state.specs.Enqueued.{AreEnqueued}
-use Rattle.golf_state_goroutines.specs.declared.places.Place.{Place}
+use Rattle.golf_state_goroutines.specs.declared.places.NumberedGoroutine.{NumberedGoroutine}
 use Rattle.golf_state.proofs.Retaining.{map-kept, kept-short, Rises-kept, AllBelow-kept, ready-kept}
 use Rattle.golf_state.proofs.Leaving.{enqueued-kept}
 use Rattle.golf_state_queues.specs.WaitQueues.{Keeps}
 use Rattle.golf_state.proofs.state.State.retain_goroutines.Goals as goal
 
 pub retain-requires : goal.retain-requires
-retain-requires c = omega (arith, c.requires.count, ap (λ (t : State). length t.goroutines) c.self.view_is, length-map c.self.inside.roster.places plain_entry)
+retain-requires c = omega (
+  arith,
+  c.requires.count,
+  ap (λ (t : State). length t.goroutines) c.self.view_is,
+  length-map c.self.inside.roster.places plain_entry,
+)
 
 pub invariant_of-self : goal.invariant_of-self
 invariant_of-self c =
@@ -27,21 +32,28 @@ invariant_of-self c =
     let ps = s.roster.places in
     let qs = c.retain.new.self.places in
     let es = plain_entries ps in
-    let e : plain_entries qs ≡ kept stays es = ap plain_entries c.retain.ensures.places ∙ map-kept plain_entry stays ps in
-    let fewer : length qs ≤ length ps = subst (λ (qs : List Place). length qs ≤ length ps) (sym c.retain.ensures.places) (kept-short stays ps) in
+    let e : plain_entries qs ≡ kept stays es = ap plain_entries c.retain.ensures.places
+    ∙ map-kept plain_entry stays ps in
+    let fewer : length qs ≤ length ps = subst (λ (qs : List NumberedGoroutine). length qs ≤ length ps)
+    (sym c.retain.ensures.places)
+    (kept-short stays ps) in
     record {
       kept = record {
         rises = subst (Rises 0) (sym e) (Rises-kept 0 stays es k.rises);
         below = subst (AllBelow s.next_goroutine) (sym e) (AllBelow-kept s.next_goroutine stays es k.below);
-        zero = ap (λ (fs : List (ℕ × GoroutineView)). is_some (find 0 fs)) e ∙ (ap (λ (t : State). is_some (find 0 (kept stays t.goroutines))) c.self.view_is ∙ c.requires.zero);
+        zero = ap (λ (fs : List (ℕ × GoroutineView)). is_some (find 0 fs)) e
+            ∙ (ap (λ (t : State). is_some (find 0 (kept stays t.goroutines))) c.self.view_is ∙ c.requires.zero);
         running = c.retain.ensures.running;
         few = omega (arith, fewer, k.few);
         limit = k.limit;
         ready = subst AllReady (sym c.retain.ensures.places) (ready-kept stays ps k.ready);
       };
-      enqueued = subst (λ (xs : List (ℕ × GoroutineView)). AreEnqueued s.are_mutexes_enqueued xs c.narrow_queues.new.queues s.next_ticket) (sym e)
-          (enqueued-kept s.are_mutexes_enqueued stays es s.waiting c.narrow_queues.new.queues s.next_ticket c.self.invariant.enqueued
-          (subst (λ (xs : List (ℕ × GoroutineView)). Keeps (λ t h. is_in h (keys xs) ≡ true) s.waiting c.narrow_queues.new.queues) e c.narrow_queues.ensures.kept)
+      enqueued = subst (λ (xs : List (ℕ × GoroutineView)). AreEnqueued s.are_mutexes_enqueued xs
+          c.narrow_queues.new.queues s.next_ticket) (sym e)
+          (enqueued-kept s.are_mutexes_enqueued stays es s.waiting c.narrow_queues.new.queues s.next_ticket
+          c.self.invariant.enqueued
+          (subst (λ (xs : List (ℕ × GoroutineView)). Keeps
+          (λ t h. is_in h (keys xs) ≡ true) s.waiting c.narrow_queues.new.queues) e c.narrow_queues.ensures.kept)
           c.narrow_queues.ensures.below);
       finalisers = c.self.invariant.finalisers;
     }
@@ -50,4 +62,5 @@ pub returns : goal.returns
 returns c =
     let s = c.self.inside in
     rw (← c.self.view_is)
-    (ap (λ (es : List (ℕ × GoroutineView)). record (plain_state s) { goroutines = es }) (ap plain_entries c.retain.ensures.places ∙ map-kept plain_entry c.args.stays.now s.roster.places))
+    (ap (λ (es : List (ℕ × GoroutineView)). record (plain_state s) { goroutines = es })
+    (ap plain_entries c.retain.ensures.places ∙ map-kept plain_entry c.args.stays.now s.roster.places))

@@ -17,20 +17,35 @@ new-requires-clause-few c =
     let s = c.self.inside in
     let k = c.self.invariant.kept in
     let all = ap (λ (xs : List ℕ). length xs) k.running in
-    omega (arith, all, running-few (plain_entries s.roster.places), length-map s.roster.places plain_entry, k.few, k.limit)
+    omega (
+      arith,
+      all,
+      running-few (plain_entries s.roster.places),
+      length-map s.roster.places plain_entry,
+      k.few,
+      k.limit,
+    )
 
 pub new-requires-else-has_no_call-clause-few : goal.new-requires-else-has_no_call-clause-few
 new-requires-else-has_no_call-clause-few c =
     let s = c.self.inside in
     let k = c.self.invariant.kept in
     let all = ap (λ (xs : List ℕ). length xs) k.running in
-    omega (arith, all, running-few (plain_entries s.roster.places), length-map s.roster.places plain_entry, k.few, k.limit)
+    omega (
+      arith,
+      all,
+      running-few (plain_entries s.roster.places),
+      length-map s.roster.places plain_entry,
+      k.few,
+      k.limit,
+    )
 
 pub returns-then-has_no_call-clause-all : goal.returns-then-has_no_call-clause-all
 returns-then-has_no_call-clause-all c =
     let s = c.self.inside in
     let k = c.self.invariant.kept in
-    let test = c.has_no_call.ensures ∙ ap (λ (qs : List Queued). not (not_empty qs) && starts_idle (plain_entries s.roster.places)) c.as_slice.ensures in
+    let test = c.has_no_call.ensures ∙ ap (λ (qs : List Queued). not (not_empty qs)
+    && starts_idle (plain_entries s.roster.places)) c.as_slice.ensures in
     rw (← c.self.view_is)
     (c.new.ensures ∙ drop-one s.roster.running ∙ ap behind_first k.running
     ∙ runs-idle s.queue (plain_entries s.roster.places) k.rises (sym test ∙ c.if-has_no_call.true))
@@ -39,6 +54,8 @@ pub returns-else-has_no_call-clause-all : goal.returns-else-has_no_call-clause-a
 returns-else-has_no_call-clause-all c =
     let s = c.self.inside in
     let k = c.self.invariant.kept in
-    let test = c.has_no_call.ensures ∙ ap (λ (qs : List Queued). not (not_empty qs) && starts_idle (plain_entries s.roster.places)) c.as_slice.ensures in
+    let test = c.has_no_call.ensures ∙ ap (λ (qs : List Queued). not (not_empty qs)
+    && starts_idle (plain_entries s.roster.places)) c.as_slice.ensures in
     rw (← c.self.view_is)
-    (c.new-else-has_no_call.ensures ∙ k.running ∙ runs-busy s.queue (plain_entries s.roster.places) k.rises (sym test ∙ c.if-has_no_call.false))
+    (c.new-else-has_no_call.ensures ∙ k.running
+    ∙ runs-busy s.queue (plain_entries s.roster.places) k.rises (sym test ∙ c.if-has_no_call.false))

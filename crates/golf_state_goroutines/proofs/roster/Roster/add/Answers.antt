@@ -1,4 +1,5 @@
-use Rattle.std.proofs.Common.{◌≡◌, ℕ, ◌+◌, ◌-◌, ◌*◌, ◌/◌, ◌<◌, ◌≤◌, List, [], ◌∷◌, ◌++◌, length, Some, Result, Ok, Err, OnErr, refl, sym, ap, ◌∙◌, subst, arith, slice_get, slice_set}
+use Rattle.std.proofs.Common.{◌≡◌, ℕ, ◌+◌, ◌-◌, ◌*◌, ◌/◌, ◌<◌, ◌≤◌, List, [], ◌∷◌, ◌++◌, length, Some, Result, Ok, Err}
+use Rattle.std.proofs.Common.{OnErr, refl, sym, ap, ◌∙◌, subst, arith, slice_get, slice_set}
 use Rattle.std.proofs.lemmas.Option.{slice_get_read, slice_get_within}
 use Rattle.std.proofs.lemmas.List.{length-append}
 use Rattle.golf_theory.specs.Maps.{keys, AllBelow}
@@ -6,7 +7,7 @@ use Rattle.golf_state_goroutines.specs.Places.{plain_entries}
 use Rattle.golf_state_goroutines.specs.Goroutines.{Goroutines, AllUnder}
 use Rattle.golf_state_goroutines.specs.Blocks.{numbers, places_in, running_in}
 use Rattle.golf_state_goroutines.specs.declared.blocks.Block.{Block}
-use Rattle.golf_state_goroutines.specs.declared.places.Place.{Place}
+use Rattle.golf_state_goroutines.specs.declared.places.NumberedGoroutine.{NumberedGoroutine}
 use Rattle.golf_state_goroutines.proofs.Gathers.{gather-same}
 use Rattle.golf_state_goroutines.proofs.PlaceLaws.{keys-length}
 use Rattle.golf_state_goroutines.proofs.BlockLaws.{numbers-length, below-under, under-below}
@@ -29,17 +30,23 @@ open-requires-clause-below c =
     let r = c.self.inside in
     let old = r.blocks.items in
     let g = c.args.place.number in
-    let below : AllBelow g (plain_entries (places_in old)) = subst (λ (w : Goroutines). AllBelow g (plain_entries w.places)) (sym c.self.view_is) c.requires.below in
-    let under : AllUnder g (running_in old) = subst (λ (w : Goroutines). AllUnder g w.running) (sym c.self.view_is) c.requires.under in
-    under-below (g / 256 * 256 + 256) (plain_entries (places_in old)) (under-more g (g / 256 * 256 + 256) (keys (plain_entries (places_in old))) (end-of g) (below-under g (plain_entries (places_in old)) below))
+    let below : AllBelow g (plain_entries (places_in old)) =
+    subst (λ (w : Goroutines). AllBelow g (plain_entries w.places)) (sym c.self.view_is) c.requires.below in
+    let under : AllUnder g (running_in old) =
+    subst (λ (w : Goroutines). AllUnder g w.running) (sym c.self.view_is) c.requires.under in
+    under-below (g / 256 * 256 + 256) (plain_entries (places_in old))
+    (under-more g (g / 256 * 256 + 256) (keys (plain_entries (places_in old))) (end-of g)
+    (below-under g (plain_entries (places_in old)) below))
 
 pub open-requires-clause-under : goal.open-requires-clause-under
 open-requires-clause-under c =
     let r = c.self.inside in
     let old = r.blocks.items in
     let g = c.args.place.number in
-    let below : AllBelow g (plain_entries (places_in old)) = subst (λ (w : Goroutines). AllBelow g (plain_entries w.places)) (sym c.self.view_is) c.requires.below in
-    let under : AllUnder g (running_in old) = subst (λ (w : Goroutines). AllUnder g w.running) (sym c.self.view_is) c.requires.under in
+    let below : AllBelow g (plain_entries (places_in old)) =
+    subst (λ (w : Goroutines). AllBelow g (plain_entries w.places)) (sym c.self.view_is) c.requires.below in
+    let under : AllUnder g (running_in old) =
+    subst (λ (w : Goroutines). AllUnder g w.running) (sym c.self.view_is) c.requires.under in
     under-more g (g / 256 * 256 + 256) (running_in old) (end-of g) under
 
 pub join-requires-clause-block : goal.join-requires-clause-block
@@ -47,8 +54,10 @@ join-requires-clause-block c =
     let r = c.self.inside in
     let old = r.blocks.items in
     let g = c.args.place.number in
-    let below : AllBelow g (plain_entries (places_in old)) = subst (λ (w : Goroutines). AllBelow g (plain_entries w.places)) (sym c.self.view_is) c.requires.below in
-    let under : AllUnder g (running_in old) = subst (λ (w : Goroutines). AllUnder g w.running) (sym c.self.view_is) c.requires.under in
+    let below : AllBelow g (plain_entries (places_in old)) =
+    subst (λ (w : Goroutines). AllBelow g (plain_entries w.places)) (sym c.self.view_is) c.requires.below in
+    let under : AllUnder g (running_in old) =
+    subst (λ (w : Goroutines). AllUnder g w.running) (sym c.self.view_is) c.requires.under in
     let bs = c.open.new.blocks.items in
     let ns = c.open.new.sums.items in
     let i = c.len-last.result - 1 in
@@ -66,8 +75,10 @@ join-requires-clause-key c =
     let r = c.self.inside in
     let old = r.blocks.items in
     let g = c.args.place.number in
-    let below : AllBelow g (plain_entries (places_in old)) = subst (λ (w : Goroutines). AllBelow g (plain_entries w.places)) (sym c.self.view_is) c.requires.below in
-    let under : AllUnder g (running_in old) = subst (λ (w : Goroutines). AllUnder g w.running) (sym c.self.view_is) c.requires.under in
+    let below : AllBelow g (plain_entries (places_in old)) =
+    subst (λ (w : Goroutines). AllBelow g (plain_entries w.places)) (sym c.self.view_is) c.requires.below in
+    let under : AllUnder g (running_in old) =
+    subst (λ (w : Goroutines). AllUnder g w.running) (sym c.self.view_is) c.requires.under in
     let bs = c.open.new.blocks.items in
     let ns = c.open.new.sums.items in
     let i = c.len-last.result - 1 in
@@ -86,8 +97,10 @@ join-requires-clause-below c =
     let r = c.self.inside in
     let old = r.blocks.items in
     let g = c.args.place.number in
-    let below : AllBelow g (plain_entries (places_in old)) = subst (λ (w : Goroutines). AllBelow g (plain_entries w.places)) (sym c.self.view_is) c.requires.below in
-    let under : AllUnder g (running_in old) = subst (λ (w : Goroutines). AllUnder g w.running) (sym c.self.view_is) c.requires.under in
+    let below : AllBelow g (plain_entries (places_in old)) =
+    subst (λ (w : Goroutines). AllBelow g (plain_entries w.places)) (sym c.self.view_is) c.requires.below in
+    let under : AllUnder g (running_in old) =
+    subst (λ (w : Goroutines). AllUnder g w.running) (sym c.self.view_is) c.requires.under in
     let bs = c.open.new.blocks.items in
     let ns = c.open.new.sums.items in
     let i = c.len-last.result - 1 in
@@ -98,16 +111,21 @@ join-requires-clause-below c =
     let within : i < length bs = omega (arith, end) in
     let b = c.index_mut.result.now in
     let here : slice_get bs i ≡ Some b = slice_get_read bs (length bs) i b refl within c.index_mut.ensures.value in
-    let all = subst (λ (ps : List Place). AllBelow g (plain_entries ps)) (sym c.in_ok-open.ensures.places) below in
-    under-below g (plain_entries b.places.items) (under-in (λ b. keys (plain_entries b.places.items)) bs i g b here (subst (AllUnder g) (keys-in bs) (below-under g (plain_entries (places_in bs)) all)))
+    let all = subst (λ (ps : List NumberedGoroutine). AllBelow g (plain_entries ps))
+    (sym c.in_ok-open.ensures.places) below in
+    under-below g (plain_entries b.places.items)
+    (under-in (λ b. keys (plain_entries b.places.items)) bs i g b here
+    (subst (AllUnder g) (keys-in bs) (below-under g (plain_entries (places_in bs)) all)))
 
 pub join-requires-clause-under : goal.join-requires-clause-under
 join-requires-clause-under c =
     let r = c.self.inside in
     let old = r.blocks.items in
     let g = c.args.place.number in
-    let below : AllBelow g (plain_entries (places_in old)) = subst (λ (w : Goroutines). AllBelow g (plain_entries w.places)) (sym c.self.view_is) c.requires.below in
-    let under : AllUnder g (running_in old) = subst (λ (w : Goroutines). AllUnder g w.running) (sym c.self.view_is) c.requires.under in
+    let below : AllBelow g (plain_entries (places_in old)) =
+    subst (λ (w : Goroutines). AllBelow g (plain_entries w.places)) (sym c.self.view_is) c.requires.below in
+    let under : AllUnder g (running_in old) =
+    subst (λ (w : Goroutines). AllUnder g w.running) (sym c.self.view_is) c.requires.under in
     let bs = c.open.new.blocks.items in
     let ns = c.open.new.sums.items in
     let i = c.len-last.result - 1 in
@@ -125,8 +143,10 @@ invariant_of-self-in_err-join c =
     let r = c.self.inside in
     let old = r.blocks.items in
     let g = c.args.place.number in
-    let below : AllBelow g (plain_entries (places_in old)) = subst (λ (w : Goroutines). AllBelow g (plain_entries w.places)) (sym c.self.view_is) c.requires.below in
-    let under : AllUnder g (running_in old) = subst (λ (w : Goroutines). AllUnder g w.running) (sym c.self.view_is) c.requires.under in
+    let below : AllBelow g (plain_entries (places_in old)) =
+    subst (λ (w : Goroutines). AllBelow g (plain_entries w.places)) (sym c.self.view_is) c.requires.below in
+    let under : AllUnder g (running_in old) =
+    subst (λ (w : Goroutines). AllUnder g w.running) (sym c.self.view_is) c.requires.under in
     let bs = c.open.new.blocks.items in
     let ns = c.open.new.sums.items in
     let i = c.len-last.result - 1 in
@@ -140,10 +160,15 @@ invariant_of-self-in_err-join c =
     let n = c.join.new.block in
     let same = ap (λ v. numbers v.items) c.in_err-join.ensures.err_running in
     record {
-      blocks = blocks-set 0 i bs b n c.in_ok-open.ensures.blocks here c.in_err-join.ensures.block c.in_err-join.ensures.key;
+      blocks = blocks-set 0 i bs b n c.in_ok-open.ensures.blocks here c.in_err-join.ensures.block
+          c.in_err-join.ensures.key;
       sums = sums-same bs ns i b n c.in_ok-open.ensures.sums here same;
-      runs = c.self.invariant.runs ∙ ap (λ (xs : List ℕ). length xs) (sym (gather-same (λ (b : Block). numbers b.running.items) bs i b n here same ∙ c.in_ok-open.ensures.running));
-      count = c.self.invariant.count ∙ ap (λ (ps : List Place). length ps) (sym (gather-same (λ (b : Block). b.places.items) bs i b n here c.in_err-join.ensures.err_places ∙ c.in_ok-open.ensures.places));
+      runs = c.self.invariant.runs ∙ ap (λ (xs : List ℕ). length xs)
+          (sym (gather-same (λ (b : Block). numbers b.running.items) bs i b n here same
+          ∙ c.in_ok-open.ensures.running));
+      count = c.self.invariant.count ∙ ap (λ (ps : List NumberedGoroutine). length ps)
+          (sym (gather-same (λ (b : Block). b.places.items) bs i b n here c.in_err-join.ensures.err_places
+          ∙ c.in_ok-open.ensures.places));
     }
 
 pub returns-in_err-join-clause-err : goal.returns-in_err-join-clause-err
@@ -151,8 +176,10 @@ returns-in_err-join-clause-err c =
     let r = c.self.inside in
     let old = r.blocks.items in
     let g = c.args.place.number in
-    let below : AllBelow g (plain_entries (places_in old)) = subst (λ (w : Goroutines). AllBelow g (plain_entries w.places)) (sym c.self.view_is) c.requires.below in
-    let under : AllUnder g (running_in old) = subst (λ (w : Goroutines). AllUnder g w.running) (sym c.self.view_is) c.requires.under in
+    let below : AllBelow g (plain_entries (places_in old)) =
+    subst (λ (w : Goroutines). AllBelow g (plain_entries w.places)) (sym c.self.view_is) c.requires.below in
+    let under : AllUnder g (running_in old) =
+    subst (λ (w : Goroutines). AllUnder g w.running) (sym c.self.view_is) c.requires.under in
     let bs = c.open.new.blocks.items in
     let ns = c.open.new.sums.items in
     let i = c.len-last.result - 1 in
@@ -168,7 +195,8 @@ returns-in_err-join-clause-err c =
     any-err c.from_residual-in_err-join.result _
     (rw (← c.self.view_is)
     (both (places_in (slice_set bs i n)) (places_in old) (running_in (slice_set bs i n)) (running_in old)
-    (gather-same (λ (b : Block). b.places.items) bs i b n here c.in_err-join.ensures.err_places ∙ c.in_ok-open.ensures.places)
+    (gather-same (λ (b : Block). b.places.items) bs i b n here c.in_err-join.ensures.err_places
+    ∙ c.in_ok-open.ensures.places)
     (gather-same (λ (b : Block). numbers b.running.items) bs i b n here same ∙ c.in_ok-open.ensures.running)))
 
 pub overflow_add-index_mut : goal.overflow_add-index_mut
@@ -176,8 +204,10 @@ overflow_add-index_mut c =
     let r = c.self.inside in
     let old = r.blocks.items in
     let g = c.args.place.number in
-    let below : AllBelow g (plain_entries (places_in old)) = subst (λ (w : Goroutines). AllBelow g (plain_entries w.places)) (sym c.self.view_is) c.requires.below in
-    let under : AllUnder g (running_in old) = subst (λ (w : Goroutines). AllUnder g w.running) (sym c.self.view_is) c.requires.under in
+    let below : AllBelow g (plain_entries (places_in old)) =
+    subst (λ (w : Goroutines). AllBelow g (plain_entries w.places)) (sym c.self.view_is) c.requires.below in
+    let under : AllUnder g (running_in old) =
+    subst (λ (w : Goroutines). AllUnder g w.running) (sym c.self.view_is) c.requires.under in
     let bs = c.open.new.blocks.items in
     let ns = c.open.new.sums.items in
     let i = c.len-last.result - 1 in
@@ -193,18 +223,29 @@ overflow_add-index_mut c =
     omega (arith, v, sum-few bs ns (i / 64) c.in_ok-open.ensures.sums, running-few bs c.in_ok-open.ensures.blocks)
 
 pub overflow_add-self : goal.overflow_add-self
-overflow_add-self c = omega (arith, c.self.invariant.runs, running-few c.self.inside.blocks.items c.self.invariant.blocks)
+overflow_add-self c = omega (
+  arith,
+  c.self.invariant.runs,
+  running-few c.self.inside.blocks.items c.self.invariant.blocks,
+)
 
 pub overflow_add-self-2 : goal.overflow_add-self-2
-overflow_add-self-2 c = omega (arith, c.self.invariant.count, keys-length (places_in c.self.inside.blocks.items), places-few c.self.inside.blocks.items c.self.invariant.blocks)
+overflow_add-self-2 c = omega (
+  arith,
+  c.self.invariant.count,
+  keys-length (places_in c.self.inside.blocks.items),
+  places-few c.self.inside.blocks.items c.self.invariant.blocks,
+)
 
 pub invariant_of-self-2 : goal.invariant_of-self-2
 invariant_of-self-2 c =
     let r = c.self.inside in
     let old = r.blocks.items in
     let g = c.args.place.number in
-    let below : AllBelow g (plain_entries (places_in old)) = subst (λ (w : Goroutines). AllBelow g (plain_entries w.places)) (sym c.self.view_is) c.requires.below in
-    let under : AllUnder g (running_in old) = subst (λ (w : Goroutines). AllUnder g w.running) (sym c.self.view_is) c.requires.under in
+    let below : AllBelow g (plain_entries (places_in old)) =
+    subst (λ (w : Goroutines). AllBelow g (plain_entries w.places)) (sym c.self.view_is) c.requires.below in
+    let under : AllUnder g (running_in old) =
+    subst (λ (w : Goroutines). AllUnder g w.running) (sym c.self.view_is) c.requires.under in
     let bs = c.open.new.blocks.items in
     let ns = c.open.new.sums.items in
     let i = c.len-last.result - 1 in
@@ -222,13 +263,15 @@ invariant_of-self-2 c =
     let swap2 = gather-swap (λ (b : Block). b.places.items) bs i b n here within in
     let one = ap (λ (xs : List ℕ). length xs) c.in_ok-join.ensures.running in
     let more = length-append (numbers b.running.items) (g ∷ []) in
-    let two = ap (λ (xs : List Place). length xs) c.in_ok-join.ensures.places in
+    let two = ap (λ (xs : List NumberedGoroutine). length xs) c.in_ok-join.ensures.places in
     let more2 = length-append b.places.items (c.args.place ∷ []) in
     let was = ap (λ (xs : List ℕ). length xs) c.in_ok-open.ensures.running in
-    let was2 = ap (λ (xs : List Place). length xs) c.in_ok-open.ensures.places in
+    let was2 = ap (λ (xs : List NumberedGoroutine). length xs) c.in_ok-open.ensures.places in
     record {
-      blocks = blocks-set 0 i bs b n c.in_ok-open.ensures.blocks here c.in_ok-join.ensures.block c.in_ok-join.ensures.key;
-      sums = sums-set bs ns i 1 0 (c.index_mut-2.result.now + 1) b n c.in_ok-open.ensures.sums here within (omega (arith, one, more, numbers-length b.running.items, numbers-length n.running.items)) (omega (arith, v));
+      blocks = blocks-set 0 i bs b n c.in_ok-open.ensures.blocks here c.in_ok-join.ensures.block
+          c.in_ok-join.ensures.key;
+      sums = sums-set bs ns i 1 0 (c.index_mut-2.result.now + 1) b n c.in_ok-open.ensures.sums here within
+          (omega (arith, one, more, numbers-length b.running.items, numbers-length n.running.items)) (omega (arith, v));
       runs = omega (arith, swap, one, more, was, c.self.invariant.runs);
       count = omega (arith, swap2, two, more2, was2, c.self.invariant.count);
     }
@@ -238,8 +281,10 @@ returns-clause-ok c =
     let r = c.self.inside in
     let old = r.blocks.items in
     let g = c.args.place.number in
-    let below : AllBelow g (plain_entries (places_in old)) = subst (λ (w : Goroutines). AllBelow g (plain_entries w.places)) (sym c.self.view_is) c.requires.below in
-    let under : AllUnder g (running_in old) = subst (λ (w : Goroutines). AllUnder g w.running) (sym c.self.view_is) c.requires.under in
+    let below : AllBelow g (plain_entries (places_in old)) =
+    subst (λ (w : Goroutines). AllBelow g (plain_entries w.places)) (sym c.self.view_is) c.requires.below in
+    let under : AllUnder g (running_in old) =
+    subst (λ (w : Goroutines). AllUnder g w.running) (sym c.self.view_is) c.requires.under in
     let bs = c.open.new.blocks.items in
     let ns = c.open.new.sums.items in
     let i = c.len-last.result - 1 in
@@ -252,6 +297,9 @@ returns-clause-ok c =
     let here : slice_get bs i ≡ Some b = slice_get_read bs (length bs) i b refl within c.index_mut.ensures.value in
     let n = c.join.new.block in
     rw (← c.self.view_is)
-    (both (places_in (slice_set bs i n)) (places_in old ++ c.args.place ∷ []) (running_in (slice_set bs i n)) (running_in old ++ g ∷ [])
-    (gather-last (λ (b : Block). b.places.items) bs i b n c.args.place here end c.in_ok-join.ensures.places ∙ ap (λ (ps : List Place). ps ++ c.args.place ∷ []) c.in_ok-open.ensures.places)
-    (gather-last (λ (b : Block). numbers b.running.items) bs i b n g here end c.in_ok-join.ensures.running ∙ ap (λ (xs : List ℕ). xs ++ g ∷ []) c.in_ok-open.ensures.running))
+    (both (places_in (slice_set bs i n)) (places_in old ++ c.args.place ∷ []) (running_in (slice_set bs i n))
+    (running_in old ++ g ∷ [])
+    (gather-last (λ (b : Block). b.places.items) bs i b n c.args.place here end c.in_ok-join.ensures.places
+    ∙ ap (λ (ps : List NumberedGoroutine). ps ++ c.args.place ∷ []) c.in_ok-open.ensures.places)
+    (gather-last (λ (b : Block). numbers b.running.items) bs i b n g here end c.in_ok-join.ensures.running
+    ∙ ap (λ (xs : List ℕ). xs ++ g ∷ []) c.in_ok-open.ensures.running))

@@ -12,7 +12,8 @@ returns-then-k-len c =
     let bs = c.self.inside.blocks.items in
     let b = c.in-Some.block.now in
     let k = c.args.k in
-    let here : slice_get bs 0 ≡ Some b = ap (λ (cs : List Block). slice_get cs 0) (sym c.as_slice.ensures.value) ∙ item-at c.as_slice.result.now 0 c.in-Some.block c.in-Some.ensures.item in
+    let here : slice_get bs 0 ≡ Some b = ap (λ (cs : List Block). slice_get cs 0) (sym c.as_slice.ensures.value)
+    ∙ item-at c.as_slice.result.now 0 c.in-Some.block c.in-Some.ensures.item in
     let l : k < length b.running.items = omega (arith, c.if-k-len.true, c.len.ensures, b.running.ok.0) in
     let m : k < length (numbers b.running.items) = omega (arith, l, numbers-length b.running.items) in
     let zero : 0 + k ≡ k = omega arith in

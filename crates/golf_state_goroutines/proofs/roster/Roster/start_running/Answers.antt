@@ -1,4 +1,5 @@
-use Rattle.std.proofs.Common.{◌≡◌, ◌+◌, ◌/◌, ◌<◌, true, List, length, Some, refl, sym, ap, ◌∙◌, subst, arith, slice_get, slice_set}
+use Rattle.std.proofs.Common.{◌≡◌, ◌+◌, ◌/◌, ◌<◌, true, List, length, Some, refl, sym, ap, ◌∙◌, subst, arith, slice_get}
+use Rattle.std.proofs.Common.{slice_set}
 use Rattle.std.specs.Prelude.{is_some}
 use Rattle.std.proofs.lemmas.Option.{slice_get_read}
 use Rattle.golf_theory.specs.Maps.{find}
@@ -8,7 +9,7 @@ use Rattle.golf_state_goroutines.specs.Places.{plain_entries}
 use Rattle.golf_state_goroutines.specs.Goroutines.{Goroutines, IsNone}
 use Rattle.golf_state_goroutines.specs.Blocks.{numbers, places_in, running_in, keyed_blocks}
 use Rattle.golf_state_goroutines.specs.declared.blocks.Block.{Block}
-use Rattle.golf_state_goroutines.specs.declared.places.Place.{Place}
+use Rattle.golf_state_goroutines.specs.declared.places.NumberedGoroutine.{NumberedGoroutine}
 use Rattle.golf_state_goroutines.proofs.Gathers.{gather-same}
 use Rattle.golf_state_goroutines.proofs.BlockLaws.{numbers-length}
 use Rattle.golf_state_goroutines.proofs.Splits.{Sides, sides, blocks-set, placed-in, running-few}
@@ -23,8 +24,10 @@ index_mut-requires c =
     let ns = r.sums.items in
     let g = c.args.number in
     let i = c.block_of-at.result in
-    let at : i ≡ rank (g / 256) (keyed_blocks bs) = c.block_of-at.ensures ∙ ap (λ (cs : List Block). rank (g / 256) (keyed_blocks cs)) c.as_slice.ensures.value in
-    let some : is_some (find g (plain_entries (places_in bs))) ≡ true = ap (λ (w : Goroutines). is_some (find g (plain_entries w.places))) c.self.view_is ∙ c.requires.there in
+    let at : i ≡ rank (g / 256) (keyed_blocks bs) = c.block_of-at.ensures
+    ∙ ap (λ (cs : List Block). rank (g / 256) (keyed_blocks cs)) c.as_slice.ensures.value in
+    let some : is_some (find g (plain_entries (places_in bs))) ≡ true =
+    ap (λ (w : Goroutines). is_some (find g (plain_entries w.places))) c.self.view_is ∙ c.requires.there in
     let within : i < length bs = inside-blocks bs i g c.self.invariant.blocks at some in
     omega (arith, within, r.blocks.ok.0)
 
@@ -35,8 +38,10 @@ start-requires-clause-block c =
     let ns = r.sums.items in
     let g = c.args.number in
     let i = c.block_of-at.result in
-    let at : i ≡ rank (g / 256) (keyed_blocks bs) = c.block_of-at.ensures ∙ ap (λ (cs : List Block). rank (g / 256) (keyed_blocks cs)) c.as_slice.ensures.value in
-    let some : is_some (find g (plain_entries (places_in bs))) ≡ true = ap (λ (w : Goroutines). is_some (find g (plain_entries w.places))) c.self.view_is ∙ c.requires.there in
+    let at : i ≡ rank (g / 256) (keyed_blocks bs) = c.block_of-at.ensures
+    ∙ ap (λ (cs : List Block). rank (g / 256) (keyed_blocks cs)) c.as_slice.ensures.value in
+    let some : is_some (find g (plain_entries (places_in bs))) ≡ true =
+    ap (λ (w : Goroutines). is_some (find g (plain_entries w.places))) c.self.view_is ∙ c.requires.there in
     let within : i < length bs = inside-blocks bs i g c.self.invariant.blocks at some in
     let b = c.index_mut.result.now in
     let here : slice_get bs i ≡ Some b = slice_get_read bs (length bs) i b refl within c.index_mut.ensures.value in
@@ -50,8 +55,10 @@ start-requires-clause-key c =
     let ns = r.sums.items in
     let g = c.args.number in
     let i = c.block_of-at.result in
-    let at : i ≡ rank (g / 256) (keyed_blocks bs) = c.block_of-at.ensures ∙ ap (λ (cs : List Block). rank (g / 256) (keyed_blocks cs)) c.as_slice.ensures.value in
-    let some : is_some (find g (plain_entries (places_in bs))) ≡ true = ap (λ (w : Goroutines). is_some (find g (plain_entries w.places))) c.self.view_is ∙ c.requires.there in
+    let at : i ≡ rank (g / 256) (keyed_blocks bs) = c.block_of-at.ensures
+    ∙ ap (λ (cs : List Block). rank (g / 256) (keyed_blocks cs)) c.as_slice.ensures.value in
+    let some : is_some (find g (plain_entries (places_in bs))) ≡ true =
+    ap (λ (w : Goroutines). is_some (find g (plain_entries w.places))) c.self.view_is ∙ c.requires.there in
     let within : i < length bs = inside-blocks bs i g c.self.invariant.blocks at some in
     let b = c.index_mut.result.now in
     let here : slice_get bs i ≡ Some b = slice_get_read bs (length bs) i b refl within c.index_mut.ensures.value in
@@ -65,8 +72,10 @@ start-requires-clause-none c =
     let ns = r.sums.items in
     let g = c.args.number in
     let i = c.block_of-at.result in
-    let at : i ≡ rank (g / 256) (keyed_blocks bs) = c.block_of-at.ensures ∙ ap (λ (cs : List Block). rank (g / 256) (keyed_blocks cs)) c.as_slice.ensures.value in
-    let some : is_some (find g (plain_entries (places_in bs))) ≡ true = ap (λ (w : Goroutines). is_some (find g (plain_entries w.places))) c.self.view_is ∙ c.requires.there in
+    let at : i ≡ rank (g / 256) (keyed_blocks bs) = c.block_of-at.ensures
+    ∙ ap (λ (cs : List Block). rank (g / 256) (keyed_blocks cs)) c.as_slice.ensures.value in
+    let some : is_some (find g (plain_entries (places_in bs))) ≡ true =
+    ap (λ (w : Goroutines). is_some (find g (plain_entries w.places))) c.self.view_is ∙ c.requires.there in
     let within : i < length bs = inside-blocks bs i g c.self.invariant.blocks at some in
     let b = c.index_mut.result.now in
     let here : slice_get bs i ≡ Some b = slice_get_read bs (length bs) i b refl within c.index_mut.ensures.value in
@@ -80,8 +89,10 @@ index_mut-requires-2 c =
     let ns = r.sums.items in
     let g = c.args.number in
     let i = c.block_of-at.result in
-    let at : i ≡ rank (g / 256) (keyed_blocks bs) = c.block_of-at.ensures ∙ ap (λ (cs : List Block). rank (g / 256) (keyed_blocks cs)) c.as_slice.ensures.value in
-    let some : is_some (find g (plain_entries (places_in bs))) ≡ true = ap (λ (w : Goroutines). is_some (find g (plain_entries w.places))) c.self.view_is ∙ c.requires.there in
+    let at : i ≡ rank (g / 256) (keyed_blocks bs) = c.block_of-at.ensures
+    ∙ ap (λ (cs : List Block). rank (g / 256) (keyed_blocks cs)) c.as_slice.ensures.value in
+    let some : is_some (find g (plain_entries (places_in bs))) ≡ true =
+    ap (λ (w : Goroutines). is_some (find g (plain_entries w.places))) c.self.view_is ∙ c.requires.there in
     let within : i < length bs = inside-blocks bs i g c.self.invariant.blocks at some in
     omega (arith, inside i (length bs) (length ns) within c.self.invariant.sums.enough, r.sums.ok.0)
 
@@ -92,8 +103,10 @@ overflow_add-index_mut c =
     let ns = r.sums.items in
     let g = c.args.number in
     let i = c.block_of-at.result in
-    let at : i ≡ rank (g / 256) (keyed_blocks bs) = c.block_of-at.ensures ∙ ap (λ (cs : List Block). rank (g / 256) (keyed_blocks cs)) c.as_slice.ensures.value in
-    let some : is_some (find g (plain_entries (places_in bs))) ≡ true = ap (λ (w : Goroutines). is_some (find g (plain_entries w.places))) c.self.view_is ∙ c.requires.there in
+    let at : i ≡ rank (g / 256) (keyed_blocks bs) = c.block_of-at.ensures
+    ∙ ap (λ (cs : List Block). rank (g / 256) (keyed_blocks cs)) c.as_slice.ensures.value in
+    let some : is_some (find g (plain_entries (places_in bs))) ≡ true =
+    ap (λ (w : Goroutines). is_some (find g (plain_entries w.places))) c.self.view_is ∙ c.requires.there in
     let within : i < length bs = inside-blocks bs i g c.self.invariant.blocks at some in
     let w = inside i (length bs) (length ns) within c.self.invariant.sums.enough in
     let v = read-any ns (i / 64) _ c.index_mut-2.result.now w c.index_mut-2.ensures.value in
@@ -111,8 +124,10 @@ invariant_of-self c =
     let ns = r.sums.items in
     let g = c.args.number in
     let i = c.block_of-at.result in
-    let at : i ≡ rank (g / 256) (keyed_blocks bs) = c.block_of-at.ensures ∙ ap (λ (cs : List Block). rank (g / 256) (keyed_blocks cs)) c.as_slice.ensures.value in
-    let some : is_some (find g (plain_entries (places_in bs))) ≡ true = ap (λ (w : Goroutines). is_some (find g (plain_entries w.places))) c.self.view_is ∙ c.requires.there in
+    let at : i ≡ rank (g / 256) (keyed_blocks bs) = c.block_of-at.ensures
+    ∙ ap (λ (cs : List Block). rank (g / 256) (keyed_blocks cs)) c.as_slice.ensures.value in
+    let some : is_some (find g (plain_entries (places_in bs))) ≡ true =
+    ap (λ (w : Goroutines). is_some (find g (plain_entries w.places))) c.self.view_is ∙ c.requires.there in
     let within : i < length bs = inside-blocks bs i g c.self.invariant.blocks at some in
     let b = c.index_mut.result.now in
     let here : slice_get bs i ≡ Some b = slice_get_read bs (length bs) i b refl within c.index_mut.ensures.value in
@@ -123,9 +138,18 @@ invariant_of-self c =
     let swap = gather-swap (λ (b : Block). numbers b.running.items) bs i b n here within in
     record {
       blocks = blocks-set 0 i bs b n c.self.invariant.blocks here c.start.ensures.block c.start.ensures.key;
-      sums = sums-set bs ns i 1 0 (c.index_mut-2.result.now + 1) b n c.self.invariant.sums here within (omega (arith, c.start.ensures.count)) (omega (arith, v));
-      runs = omega (arith, swap, numbers-length b.running.items, numbers-length n.running.items, c.start.ensures.count, c.self.invariant.runs);
-      count = c.self.invariant.count ∙ ap (λ (ps : List Place). length ps) (sym (gather-same (λ (b : Block). b.places.items) bs i b n here (ap (λ v. v.items) c.start.ensures.places)));
+      sums = sums-set bs ns i 1 0 (c.index_mut-2.result.now + 1) b n c.self.invariant.sums here within
+          (omega (arith, c.start.ensures.count)) (omega (arith, v));
+      runs = omega (
+        arith,
+        swap,
+        numbers-length b.running.items,
+        numbers-length n.running.items,
+        c.start.ensures.count,
+        c.self.invariant.runs,
+      );
+      count = c.self.invariant.count ∙ ap (λ (ps : List NumberedGoroutine). length ps)
+          (sym (gather-same (λ (b : Block). b.places.items) bs i b n here (ap (λ v. v.items) c.start.ensures.places)));
     }
 
 pub returns : goal.returns
@@ -135,8 +159,10 @@ returns c =
     let ns = r.sums.items in
     let g = c.args.number in
     let i = c.block_of-at.result in
-    let at : i ≡ rank (g / 256) (keyed_blocks bs) = c.block_of-at.ensures ∙ ap (λ (cs : List Block). rank (g / 256) (keyed_blocks cs)) c.as_slice.ensures.value in
-    let some : is_some (find g (plain_entries (places_in bs))) ≡ true = ap (λ (w : Goroutines). is_some (find g (plain_entries w.places))) c.self.view_is ∙ c.requires.there in
+    let at : i ≡ rank (g / 256) (keyed_blocks bs) = c.block_of-at.ensures
+    ∙ ap (λ (cs : List Block). rank (g / 256) (keyed_blocks cs)) c.as_slice.ensures.value in
+    let some : is_some (find g (plain_entries (places_in bs))) ≡ true =
+    ap (λ (w : Goroutines). is_some (find g (plain_entries w.places))) c.self.view_is ∙ c.requires.there in
     let within : i < length bs = inside-blocks bs i g c.self.invariant.blocks at some in
     let b = c.index_mut.result.now in
     let here : slice_get bs i ≡ Some b = slice_get_read bs (length bs) i b refl within c.index_mut.ensures.value in

@@ -17,10 +17,12 @@ invariant_of-self c =
     let f = c.self.inside.front in
     let at = c.args.at in
     let was = c.index_mut.result.now in
-    let same : was.ticket ≡ (get_or (drop f xs) at was).ticket = ap (λ (h : TicketHolder). h.ticket) (c.index_mut.ensures.value ∙ sym (get_or-drop f xs at was)) in
+    let same : was.ticket ≡ (get_or (drop f xs) at was).ticket =
+    ap (λ (h : TicketHolder). h.ticket) (c.index_mut.ensures.value ∙ sym (get_or-drop f xs at was)) in
     record {
       within = omega (arith, length-set xs (f + at) (marked was), c.self.invariant.within);
-      rises = subst (λ (hs : List TicketHolder). Rises 0 (spots hs)) (sym (drop-set-add f xs at (marked was))) (Rises-set at 0 (drop f xs) (marked was) was same c.self.invariant.rises);
+      rises = subst (λ (hs : List TicketHolder). Rises 0 (spots hs)) (sym (drop-set-add f xs at (marked was)))
+          (Rises-set at 0 (drop f xs) (marked was) was same c.self.invariant.rises);
     }
 
 pub returns : goal.returns
@@ -29,5 +31,7 @@ returns c =
     let f = c.self.inside.front in
     let at = c.args.at in
     let m = marked c.index_mut.result.now in
-    let within : at < length (drop f xs) = subst (λ (hs : List TicketHolder). at < length hs) (sym c.self.view_is) c.requires in
-    ap held (drop-set-add f xs at m) ∙ held-mark at (drop f xs) m refl within ∙ ap (λ (hs : List TicketHolder). held (remove hs at)) c.self.view_is
+    let within : at < length (drop f xs) =
+    subst (λ (hs : List TicketHolder). at < length hs) (sym c.self.view_is) c.requires in
+    ap held (drop-set-add f xs at m) ∙ held-mark at (drop f xs) m refl within
+    ∙ ap (λ (hs : List TicketHolder). held (remove hs at)) c.self.view_is

@@ -19,13 +19,22 @@ invariant_of-self c =
     let l = within c in
     let inside : f + at < length xs = omega (arith, l, length-drop f xs, c.self.invariant.within) in
     record {
-      within = omega (arith, ap (λ (hs : List TicketHolder). length hs) c.remove.ensures.items, length-remove xs (f + at) inside, inside);
-      rises = subst (λ (hs : List TicketHolder). Rises 0 (spots hs)) (sym (ap (drop f) c.remove.ensures.items ∙ drop-remove f at (f + at) xs refl (omega (arith, inside))))
-          (subst (Rises 0) (sym (spots-remove at (drop f xs))) (Rises-remove at 0 (spots (drop f xs)) c.self.invariant.rises));
+      within = omega (
+        arith,
+        ap (λ (hs : List TicketHolder). length hs) c.remove.ensures.items,
+        length-remove xs (f + at) inside,
+        inside,
+      );
+      rises = subst (λ (hs : List TicketHolder). Rises 0 (spots hs))
+          (sym (ap (drop f) c.remove.ensures.items ∙ drop-remove f at (f + at) xs refl (omega (arith, inside))))
+          (subst (Rises 0) (sym (spots-remove at (drop f xs)))
+          (Rises-remove at 0 (spots (drop f xs)) c.self.invariant.rises));
     }
 
 pub returns : goal.returns
 returns c =
     let xs = c.self.inside.entries.items in
     let f = c.self.inside.front in
-    rw (← c.self.view_is) (ap (drop f) c.remove.ensures.items ∙ drop-remove f c.args.at (f + c.args.at) xs refl (omega (arith, within c, length-drop f xs, c.self.invariant.within)))
+    rw (← c.self.view_is) (ap (drop f) c.remove.ensures.items
+    ∙ drop-remove f c.args.at (f + c.args.at) xs refl
+    (omega (arith, within c, length-drop f xs, c.self.invariant.within)))

@@ -12,10 +12,18 @@ invariant_of-self-2 c =
     let xs = c.self.inside.entries.items in
     let f = c.self.inside.front in
     let h = c.args.holder in
-    let below : AllBelow h.ticket (spots (drop f xs)) = subst (λ (hs : List TicketHolder). AllBelow h.ticket (spots hs)) (sym c.self.view_is) c.requires in
+    let below : AllBelow h.ticket (spots (drop f xs)) =
+    subst (λ (hs : List TicketHolder). AllBelow h.ticket (spots hs)) (sym c.self.view_is) c.requires in
     let new = drop-append-le f xs (h ∷ []) c.self.invariant.within in
     record {
-      within = omega (arith, ap (λ (hs : List TicketHolder). length hs) c.in_ok-push.ensures.items, length-append xs (h ∷ []), c.self.invariant.within);
-      rises = subst (λ (hs : List TicketHolder). Rises 0 (spots hs)) (sym (ap (λ (hs : List TicketHolder). drop f hs) c.in_ok-push.ensures.items ∙ new))
-          (subst (Rises 0) (sym (spots-push (drop f xs) h)) (Rises-add 0 h.ticket h.goroutine.0 (spots (drop f xs)) (omega arith) below c.self.invariant.rises));
+      within = omega (
+        arith,
+        ap (λ (hs : List TicketHolder). length hs) c.in_ok-push.ensures.items,
+        length-append xs (h ∷ []),
+        c.self.invariant.within,
+      );
+      rises = subst (λ (hs : List TicketHolder). Rises 0 (spots hs))
+          (sym (ap (λ (hs : List TicketHolder). drop f hs) c.in_ok-push.ensures.items ∙ new))
+          (subst (Rises 0) (sym (spots-push (drop f xs) h))
+          (Rises-add 0 h.ticket h.goroutine.0 (spots (drop f xs)) (omega arith) below c.self.invariant.rises));
     }

@@ -14,4 +14,5 @@ loop-wait-preserved c =
     let g = c.args.goroutine.0 in
     let next : suc i ≡ i + 1 = omega arith in
     subst (λ (n : ℕ). IsWithout (leaves t g (keys_of (take n ws))) c.args.self.now c.leave.new.self) next
-    (without-more t g i ws _ c.args.self.now c.loop-wait.self c.leave.new.self c.loop-wait-test.true c.loop-wait.invariant c.leave.ensures)
+    (without-more t g i ws _ c.args.self.now c.loop-wait.self c.leave.new.self c.loop-wait-test.true
+    c.loop-wait.invariant c.leave.ensures)

@@ -9,7 +9,8 @@ use Rattle.golf_state_queues.proofs.queues.Queues.retain.Goals as goal
 pub invariant_of-self : goal.invariant_of-self
 invariant_of-self c =
     let gs : List ℕ = keys (plain_entries c.args.roster.now.places) in
-    subst IsInOrder (sym c.narrow_all.ensures) (order-narrowed gs (wait_queues_of c.self.inside.queues.items) c.self.invariant)
+    subst IsInOrder (sym c.narrow_all.ensures)
+    (order-narrowed gs (wait_queues_of c.self.inside.queues.items) c.self.invariant)
 
 pub returns-clause-queues : goal.returns-clause-queues
 returns-clause-queues c = rw (← c.self.view_is) c.narrow_all.ensures
@@ -17,9 +18,11 @@ returns-clause-queues c = rw (← c.self.view_is) c.narrow_all.ensures
 pub returns-clause-kept : goal.returns-clause-kept
 returns-clause-kept c =
     let gs : List ℕ = keys (plain_entries c.args.roster.now.places) in
-    subst (λ (ls : WaitQueues). Keeps (λ t g. is_in g gs ≡ true) c.args.self.now ls) (sym (returns-clause-queues c)) (keeps-narrowed gs c.args.self.now)
+    subst (λ (ls : WaitQueues). Keeps (λ t g. is_in g gs ≡ true) c.args.self.now ls) (sym (returns-clause-queues c))
+    (keeps-narrowed gs c.args.self.now)
 
 pub returns-clause-below : goal.returns-clause-below
 returns-clause-below c =
     let gs : List ℕ = keys (plain_entries c.args.roster.now.places) in
-    subst (λ (ls : WaitQueues). (n : ℕ) → AreBelow n c.args.self.now → AreBelow n ls) (sym (returns-clause-queues c)) (λ n b. below-narrowed n gs c.args.self.now b)
+    subst (λ (ls : WaitQueues). (n : ℕ) → AreBelow n c.args.self.now → AreBelow n ls) (sym (returns-clause-queues c))
+    (λ n b. below-narrowed n gs c.args.self.now b)

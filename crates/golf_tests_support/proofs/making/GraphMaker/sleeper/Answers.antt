@@ -7,5 +7,8 @@ pub invariant_of-result : goal.invariant_of-result
 invariant_of-result c =
     let below = λ (xs : List ℕ). AreBelow c.self.inside.count xs in
     rw c.in_ok-push.ensures.ok
-    (IsInMaking-sleeper c.self.inside.count c.self.inside.parts (record { goroutine = record { 0 = 0 }; waits = c.as_slice.result.now; references = c.as_slice-2.result.now }) c.self.invariant
-    (subst below (sym c.as_slice.ensures) c.in_ok-waits.ensures.below) (subst below (sym c.as_slice-2.ensures) c.in_ok-references.ensures.below))
+    (IsInMaking-sleeper c.self.inside.count c.self.inside.parts
+    (record { goroutine = record { 0 = 0 }; waits = c.as_slice.result.now; references = c.as_slice-2.result.now })
+    c.self.invariant
+    (subst below (sym c.as_slice.ensures) c.in_ok-waits.ensures.below)
+    (subst below (sym c.as_slice-2.ensures) c.in_ok-references.ensures.below))

@@ -12,4 +12,5 @@ returns-in-Ok-Turned-clause-later g c =
     let seen = ap seen_of (sym c.in-Some.is ∙ c.take.ensures.value) ∙ ap (λ p. p.seen) c.pass.view_is in
     let number = next_number g.W.WorldName.code c.pass.inside.number before in
     subst (λ l. IsPrefix l c.append.result.me.0.seen) seen
-    (subst (IsPrefix own.me.0.seen) (sym (ap (λ m. m.0.seen) c.append.ensures.own)) (prefix_push own.me.0.seen before (entry c.pass.inside.number number ∷ []) c.append.ensures.later))
+    (subst (IsPrefix own.me.0.seen) (sym (ap (λ m. m.0.seen) c.append.ensures.own))
+    (prefix_push own.me.0.seen before (entry c.pass.inside.number number ∷ []) c.append.ensures.later))

@@ -1,6 +1,0 @@
-use Rattle.golf_check.proofs.Laws.{broken_tells}
-use Rattle.golf_check.proofs.files.found_of_file.Goals as goal
-
-pub returns : goal.returns
-returns c =
-    broken_tells c.found_of_decls.result c.args.file.now c.as_slice-written.result.now c.as_slice-decls.result.now c.in_ok-imports.imports c.as_slice-written.ensures c.as_slice-decls.ensures c.in_ok-imports.ensures.0 c.in_ok-imports.ensures.1 c.found_of_decls.ensures

@@ -1,0 +1,5 @@
+pub mod Spines
+pub mod Wholes
+pub mod Branches
+pub mod Blocks
+pub mod EndingBranches

@@ -1,0 +1,59 @@
+-- What the methods of a checker tell: an answer comes exactly if no rule is broken, and then the checker stands where
+-- the walk of the definitions stands.
+use Rattle.std.specs.Prelude.{◌≡◌, ℕ, Result, List, ◌++◌, map, flat_map, Option}
+use Rattle.golf_syntax_trees.specs.declared.expressions.Expr.{Expr}
+use Rattle.golf_check_types.specs.declared.fault.TypeFault.{TypeFault}
+use Rattle.golf_check_types.specs.declared.types.Base.{Base}
+use Rattle.golf_check_types.specs.declared.types.GoType.{GoType}
+use Rattle.golf_check_types.specs.declared.facts.Fact.{Fact}
+use Rattle.golf_check_types.specs.declared.operands.Operand.{Operand}
+use Rattle.golf_check_types.specs.declared.operands.Given.{Given}
+use Rattle.golf_check_types.specs.Faults.{Tells}
+use Rattle.golf_check_types.specs.Expressions.{Judged, facts_of, put_facts, used, named_or_used, given_by}
+use Rattle.golf_check_types.specs.Statements.{Walked, behind, received, carried}
+use Rattle.golf_check_bodies.specs.declared.checker.Checker.{Checker}
+
+-- these facts more
+abbrev pub with_facts : Checker → List Fact → Checker
+with_facts c fs = record c { facts = c.facts ++ fs }
+
+-- What an expression is; the facts of its parts were added.
+abbrev pub Judges : Result Operand TypeFault → Judged → Checker → Checker → Type 0
+Judges result j old new = Tells result j.faults (λ m. (m ≡ j.meaning) × (new ≡ with_facts old j.inner))
+
+-- the same, with its own fact
+abbrev pub JudgesWhole : Result Operand TypeFault → Judged → Checker → Checker → Type 0
+JudgesWhole result j old new = Tells result j.faults (λ m. (m ≡ j.meaning) × (new ≡ with_facts old (facts_of j)))
+
+-- the same of an expression that stands as a value
+abbrev pub Gives : Result Given TypeFault → Judged → Checker → Checker → Type 0
+Gives result j old new = Tells result (used old.line j) (λ v. (v ≡ given_by j) × (new ≡ with_facts old (facts_of j)))
+
+-- the same of one that may be a name of any kind
+abbrev pub Takes : Result Operand TypeFault → Judged → Checker → Checker → Type 0
+Takes result j old new = Tells result (named_or_used old.line j)
+    (λ m. (m ≡ j.meaning) × (new ≡ with_facts old (facts_of j)))
+
+-- the same of several that stand as values
+abbrev pub GivesAll : Result (List Given) TypeFault → List Judged → Checker → Checker → Type 0
+GivesAll result js old new = Tells result (flat_map (used old.line) js)
+    (λ vs. (vs ≡ map given_by js) × (new ≡ with_facts old (flat_map facts_of js)))
+
+-- the same of what is put into fields of these names, before each of which the place of its field stands
+abbrev pub Puts : Option Base → List (List ℕ) → Result (List Given) TypeFault → List Judged → Checker → Checker → Type 0
+Puts b names result js old new = Tells result (flat_map (used old.line) js)
+    (λ vs. (vs ≡ map given_by js) × (new ≡ with_facts old (put_facts old.scope.file b names js)))
+
+-- What was received: its type; the facts of its parts were added.
+abbrev pub Receives : Result (Option GoType) TypeFault → Expr → Checker → Checker → Type 0
+Receives result e old new = Tells result (received old.line e old.scope).faults
+    (λ t. (t ≡ carried old.line e old.scope) × (new ≡ with_facts old (received old.line e old.scope).facts))
+
+-- A statement that leaves the scope as it is: its facts were added.
+abbrev pub Adds : {A : Type 0} → Result A TypeFault → Walked → Checker → Checker → Type 0
+Adds result w old new = Tells result w.faults (λ _. new ≡ with_facts old w.facts)
+
+-- Any statement: the scope is that after it, and its facts were added. The line is that of its last part.
+abbrev pub Walks : {A : Type 0} → Result A TypeFault → Walked → Checker → Checker → Type 0
+Walks result w old new = Tells result w.faults
+    (λ _. (new.scope ≡ behind old.scope w) × (new.facts ≡ old.facts ++ w.facts))

@@ -1,6 +1,0 @@
-use Rattle.std.proofs.Common.{◌≡◌, ◌++◌}
-use Rattle.golf_check_expressions.specs.Spines.{kept}
-use Rattle.golf_check_expressions.proofs.expressions.keep.Given as goal
-
-abbrev pub invariant-loop : goal.invariant-loop
-invariant-loop l = l.facts ≡ l.fn.facts ++ kept l.counter

@@ -1,5 +1,0 @@
-use Rattle.golf_code_shapes_globals.proofs.Globals.{declarations-known}
-use Rattle.golf_code_shapes_globals.proofs.declarations_known.Goals as goal
-
-pub returns : goal.returns
-returns c = declarations-known

@@ -1,5 +1,0 @@
-use Rattle.golf_code_shapes_layout.proofs.Pieces.{pieces-have-shapes}
-use Rattle.golf_code_shapes_layout.proofs.pieces_have_shapes.Goals as goal
-
-pub returns : goal.returns
-returns c = pieces-have-shapes

@@ -1,5 +1,0 @@
-pub mod Gets
-pub mod Meanings
-pub mod Methods
-pub mod Callees
-pub mod Mains

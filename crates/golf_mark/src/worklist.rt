@@ -1,0 +1,94 @@
+//! The places that a marker has to itself.
+
+ghost use Rattle.std.specs.Prelude.{◌≡◌, ◌+◌, ◌<◌, ◌≤◌, ◌∷◌, ◌++◌, [], IfOk, MatchOption, length};
+
+use golf_base::Memory;
+use std::alloc::Global;
+use std::marker::Model;
+
+/// A list of places that gains and loses places at its end and loses them at its front.
+///
+/// What was at the front is skipped: its room comes back when the list is cleared.
+#[derive(Drop)]
+pub(crate) struct Worklist {
+    places: Vec<u32>,
+    skipped: usize,
+}
+
+impl Model for Worklist {
+    ghost use Rattle.std.specs.Prelude.{ℕ, ◌-◌, ◌≤◌, drop, length, vec_capacity, vec_len};
+    ghost use Rattle.std.specs.Coded.{coded_ℕ};
+    ghost use Rattle.golf_base.specs.Roomy.{Roomy, roomy_code};
+
+    ghost Value = { Roomy ℕ };
+
+    ghost coded = { roomy_code coded_ℕ };
+
+    ghost view = { λ s. record { items = drop s.skipped s.places.items; spare = vec_capacity s.places - vec_len s.places } };
+
+    ghost invariant = { λ s. s.skipped ≤ length s.places.items };
+}
+
+impl Worklist {
+    /// No place, and room for so many.
+    pub(crate) fn new(alloc: Global, room: usize) -> Result<Worklist, Memory>
+        ensures items { IfOk result (λ s. s.items ≡ []) }
+        ensures room { IfOk result (λ s. room ≤ s.spare) }
+    {
+        Ok(Worklist {
+            places: Vec::with_capacity(alloc, room)?,
+            skipped: 0,
+        })
+    }
+
+    pub(crate) fn len(&self) -> usize
+        ensures { result ≡ length self.now.items }
+    {
+        self.places.len() - self.skipped
+    }
+
+    pub(crate) fn as_slice(&self) -> &[u32]
+        ensures { result.now ≡ self.now.items }
+    {
+        &self.places.as_slice()[self.skipped..]
+    }
+
+    /// Adds a place at the end, for which there is room.
+    pub(crate) fn push(&mut self, place: u32)
+        requires { 0 < self.old.spare }
+        ensures items { self.new.items ≡ self.old.items ++ place ∷ [] }
+        ensures spare { self.new.spare + 1 ≡ self.old.spare }
+    {
+        self.places.push_reserved(place);
+    }
+
+    /// Takes the last place.
+    pub(crate) fn pop(&mut self) -> Option<u32>
+        ensures items { MatchOption result ((self.old.items ≡ []) × (self.new ≡ self.old)) (λ last. self.old.items ≡ self.new.items ++ last ∷ []) }
+        ensures spare { self.old.spare ≤ self.new.spare }
+    {
+        if self.places.len() == self.skipped {
+            return None;
+        }
+        self.places.pop()
+    }
+
+    /// Takes the first place.
+    pub(crate) fn shift(&mut self) -> Option<u32>
+        ensures items { MatchOption result ((self.old.items ≡ []) × (self.new ≡ self.old)) (λ first. self.old.items ≡ first ∷ self.new.items) }
+        ensures spare { self.new.spare ≡ self.old.spare }
+    {
+        let first = self.places.as_slice().get(self.skipped).copied()?;
+        self.skipped += 1;
+        Some(first)
+    }
+
+    /// Lets all places go.
+    pub(crate) fn clear(&mut self)
+        ensures items { self.new.items ≡ [] }
+        ensures spare { self.old.spare ≤ self.new.spare }
+    {
+        self.places.clear();
+        self.skipped = 0;
+    }
+}
