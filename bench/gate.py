@@ -1,7 +1,7 @@
 #!/usr/bin/env python3
 """What the gate costs: runs a command, by default `rt ci`, at the top of the repository, and prints the minutes of
 processor that each crate took for its proof, its tests and its must-fail edits, and the longest path of crates that
-stand on each other.
+depend on each other.
 
     bench/gate.py [COMMAND ..]      the command's own output goes to gate.log in the folder for temporary files
 
