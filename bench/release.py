@@ -20,7 +20,7 @@ from pathlib import Path
 ROOT = Path(__file__).resolve().parent.parent
 RELEASE = ROOT / "release"
 # The programs, each with its crate.
-PROGRAMS = {"golf-x86_64-linux": "golf"}
+PROGRAMS = {"golf-x86_64-linux": "golf", "golf-explore-x86_64-linux": "golf_explorer"}
 
 
 def uses():

@@ -3,10 +3,12 @@
 
     python3 bench/rows.py [--only TEXT] [PROGRAM ..]
 
-Without a program it takes the released one and the one that the gate built; two with the same bytes are run once. Each folder of
-bench/rows is an example:
+Without a program it takes for each example the released one and the one that the gate built; two with the same bytes are run
+once. A program that is named is run on the examples of `golf`, or on those of `golf-explore` if its name has `explore`. Each
+folder of bench/rows is an example:
 
     words        the words of the line, one a line
+    program      `golf-explore`, if it is no example of `golf`
     main.go      standard input; or `blanks`: so many blanks
     stdout       what is printed, and `stderr` and `status`
     last_errors  in place of `stderr`, where memory is taken back from 10,000 goroutines: how the errors end after the lines of
@@ -26,7 +28,8 @@ from pathlib import Path
 
 ROOT = Path(__file__).resolve().parent.parent
 ROWS = ROOT / "bench" / "rows"
-PROGRAMS = [ROOT / "release" / "golf-x86_64-linux", ROOT / "crates" / "golf" / "out" / "golf"]
+# The programs, each with its crate.
+PROGRAMS = {"golf": "golf", "golf-explore": "golf_explorer"}
 COLLECTION = re.compile(r"collection \d+: marked \d+, reported \d+, kept 0, reclaimed \d+, objects [012]")
 # As the launcher has it: one arena for all threads.
 ENVIRONMENT = {"GLIBC_TUNABLES": "glibc.malloc.hugetlb=1:glibc.malloc.arena_max=1"}
@@ -82,12 +85,36 @@ def fault(program, row):
     return None
 
 
-def chosen(named):
-    """The programs that are there, each once by its bytes."""
+def program_of(row):
+    """The name of the program that an example is of."""
+    return (row / "program").read_text().strip() if (row / "program").exists() else "golf"
+
+
+def places_of(name, named):
+    """Where a program may be: the files that were named, or the released one and the one that the gate built."""
+    if named:
+        return [Path(file).resolve() for file in named if ("explore" in Path(file).name) == (name == "golf-explore")]
+    crate = PROGRAMS[name]
+    return [ROOT / "release" / f"{name}-x86_64-linux", ROOT / "crates" / crate / "out" / crate]
+
+
+def chosen(name, named):
+    """The programs of that name that are there, each once by its bytes."""
     programs = {}
-    for path in [Path(name).resolve() for name in named] or [path for path in PROGRAMS if path.exists()]:
-        programs.setdefault(hashlib.sha256(path.read_bytes()).digest(), path)
+    for path in places_of(name, named):
+        if path.exists():
+            programs.setdefault(hashlib.sha256(path.read_bytes()).digest(), path)
     return programs.values()
+
+
+def faults_on(program, rows):
+    """Runs a program on examples, prints what is wrong, and answers how many are."""
+    with ThreadPoolExecutor(os.cpu_count()) as pool:
+        faults = [text for text in pool.map(lambda row: fault(program, row), rows) if text]
+    for text in faults:
+        print(text)
+    print(f"rows: {len(rows)} examples on {os.path.relpath(program, ROOT)}, {len(faults)} faults")
+    return len(faults)
 
 
 def main():
@@ -96,18 +123,15 @@ def main():
     parser.add_argument("--only", default="")
     given = parser.parse_args()
     rows = [row for row in sorted(ROWS.iterdir()) if given.only in row.name]
-    programs = list(chosen(given.programs))
-    if not programs:
-        print("rows: no program is built, and none is released")
-        return 1
     bad = 0
-    for program in programs:
-        with ThreadPoolExecutor(os.cpu_count()) as pool:
-            faults = [text for text in pool.map(lambda row: fault(program, row), rows) if text]
-        for text in faults:
-            print(text)
-        bad += len(faults)
-        print(f"rows: {len(rows)} examples on {os.path.relpath(program, ROOT)}, {len(faults)} faults")
+    for name in PROGRAMS:
+        mine = [row for row in rows if program_of(row) == name]
+        programs = list(chosen(name, given.programs))
+        if mine and not programs and not given.programs:
+            print(f"rows: no program {name} is built, and none is released")
+            bad += 1
+        for program in programs:
+            bad += faults_on(program, mine)
     return 1 if bad else 0
 
 

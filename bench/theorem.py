@@ -1,13 +1,13 @@
 #!/usr/bin/env python3
-"""Fails if docs/THEOREM.md does not agree with the clause of `golf` and the definitions that it reaches.
+"""Fails if docs/THEOREM.md does not agree with the clauses of `golf` and `golf-explore` and the definitions that they reach.
 
     python3 bench/theorem.py            checks
     python3 bench/theorem.py --write    writes the list of files anew
 
-It begins with the definitions that the clause names (ROOTS) and goes on along the `use` lines: a definition reaches each
+It begins with the definitions that the two clauses name (ROOTS) and goes on along the `use` lines: a definition reaches each
 definition that its text names, of the same file or of a `use` line, also by a short name of a module. These things are checked:
 the list of files between the two marks is that of the files that have a definition which is reached; each code block of the page
-stands in src/top.rt or specs/ of golf_command, line by line; each file that the page names is there, and is reached if it is one
+stands in src/top.rt or specs/ of golf_command or golf_explore_command, line by line; each file that the page names is there, and is reached if it is one
 of specs/; each word that stands with a file in parentheses is in that file; and each wrong body of the table is there.
 """
 
@@ -20,7 +20,11 @@ ROOT = Path(__file__).resolve().parent.parent
 CRATES = ROOT / "crates"
 PAGE = ROOT / "docs" / "THEOREM.md"
 MEANS = CRATES / "golf_command" / "specs" / "Means.antt"
-ROOTS = [(MEANS, "Tells"), (MEANS, "words_of"), (MEANS, "seen"), (CRATES / "golf_run" / "specs" / "HasRun.antt", "sinks")]
+ROOTS = [
+    (MEANS, "Tells"), (MEANS, "words_of"), (MEANS, "seen"), (CRATES / "golf_run" / "specs" / "HasRun.antt", "sinks"),
+    (CRATES / "golf_explore_command" / "specs" / "Telling.antt", "CallTells"),
+]
+TOPS = ["golf_command", "golf_explore_command"]
 MARKS = ("<!-- the list of bench/theorem.py begins -->", "<!-- the list of bench/theorem.py ends -->")
 # The layers of crates.txt, those that matter first.
 LAYERS = ["program", "definitions", "ground", "laws", "collector", "machine", "checker", "lexer and parser", "reader", "generator"]
@@ -126,10 +130,10 @@ def listed(lines, page):
 def faults_of(page, lines):
     """What is wrong with the page besides the list."""
     faults, files = [], {file for file, _ in lines}
-    sources = [CRATES / "golf_command" / "src" / "top.rt", *sorted((CRATES / "golf_command" / "specs").glob("*.antt"))]
+    sources = [file for top in TOPS for file in [CRATES / top / "src" / "top.rt", *sorted((CRATES / top / "specs").glob("*.antt"))]]
     stand = {re.sub(r"\s+", " ", line).strip() for file in sources for line in file.read_text(encoding="utf-8").splitlines()}
     for block in re.findall(r"^```rattle\n(.*?)^```", page, re.M | re.S):
-        faults += [f"not in golf_command: {line.strip()}" for line in block.splitlines()
+        faults += [f"not in {' or '.join(TOPS)}: {line.strip()}" for line in block.splitlines()
                    if line.strip() and re.sub(r"\s+", " ", line).strip() not in stand]
     for name, _, words in re.findall(r"`(golf_\w+/[\w/]+\.(?:rt|antt))`( \(([^()]*)\))?", page):
         file = CRATES / name

@@ -127,7 +127,7 @@ unread {left} {left'} {rf} {rf'} {r} {a} {b} line reads rose later h = record {
 longer : (n : ℕ) → (bytes : List ℕ) × (n < length bytes)
 longer n = (replicate (n + 1) 0, omega (arith, length-replicate {A = ℕ}))
 
-long-file : (left left' : Option (List ℕ)) → ReadsSome left left' most_bytes → (bytes : List ℕ)
+pub long-file : (left left' : Option (List ℕ)) → ReadsSome left left' most_bytes → (bytes : List ℕ)
     × IfSome left (λ told. told ≡ bytes) × (most_bytes < length bytes)
 long-file None left' h = let some = longer most_bytes in (some.0, tt, some.1)
 long-file (Some xs) None h = absurd h.1

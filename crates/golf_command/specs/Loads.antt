@@ -1,6 +1,7 @@
 -- What the reading of a line's file comes to.
-use Rattle.std.specs.Prelude.{◌≡◌, ℕ, ◌≤◌, List, length, Option, IfSome, Result, Ok, Err}
+use Rattle.std.specs.Prelude.{◌≡◌, ℕ, ◌≤◌, ◌⊎◌, List, length, Option, IfSome, Result, Ok, Err}
 use Rattle.std.specs.Io.KnownBytes.{IsAtEnd}
+use Rattle.golf_base.specs.Causes.{Rose}
 use Rattle.golf_data.specs.declared.code.Code.{Code}
 use Rattle.golf_syntax_trees.specs.declared.declarations.File.{File}
 use Rattle.golf_check_types.specs.Files.{facts_in}
@@ -11,9 +12,11 @@ use Rattle.golf_reader.specs.Refusals.{IsOnly}
 use Rattle.golf_command_words.specs.declared.line.CommandLine.{CommandLine}
 use Rattle.golf_command_words.specs.Words.{IsWithin}
 use Rattle.golf_run_texts.specs.declared.status.Status.{Status}
-use Rattle.golf_run_texts.specs.Fixed.{most_bytes}
+use Rattle.golf_run_texts.specs.declared.status.Status.TheVariants as s
+use Rattle.golf_run_texts.specs.Fixed.{most_bytes, read_fault_text, no_memory_text}
 use Rattle.golf_run.specs.HasRun.{sinks}
-use Rattle.golf_command.specs.Promises.{Reads, Accepts}
+use Rattle.golf_command.specs.Ends.{EndsWith}
+use Rattle.golf_command.specs.Promises.{Reads, Accepts, RefusedBy}
 use Rattle.golf_command.specs.Means.{seen, LineTells}
 
 -- a line says why there is no file, which is all that a line that reads comes to then
@@ -23,6 +26,41 @@ Ends status left left' before now err err' faults faults' =
     (line : CommandLine) → Reads line → IsWithin line → (out : Option (List ℕ)) (out_faults : ℕ)
     → LineTells line status (seen left before (sinks out out_faults err faults))
     (seen left' now (sinks out out_faults err' faults'))
+
+-- ---- why there is no file, in words of no line
+
+-- the source failed
+pub record SourceFailed (status : Status) (before now : ℕ) (err err' : Option (List ℕ)) (faults faults' : ℕ) : Type 0
+  where
+    pub rose : Rose before now
+    pub later : before ≤ now
+    pub says : EndsWith status s.ReadFault read_fault_text err err' faults faults'
+
+-- the bytes of the source are refused with this text
+pub record FileRefused (status : Status) (left : Option (List ℕ)) (before now : ℕ) (err err' : Option (List ℕ))
+    (faults faults' : ℕ) : Type 0 where
+  pub bytes : List ℕ
+  pub told : IfSome left (λ known. known ≡ bytes)
+  pub text : List ℕ
+  pub why : RefusedBy bytes text
+  pub quiet : now ≡ before
+  pub says : EndsWith status s.Refused text err err' faults faults'
+
+-- memory ran out
+pub record MemoryRanOut (status : Status) (before now : ℕ) (err err' : Option (List ℕ)) (faults faults' : ℕ) : Type 0
+  where
+    pub quiet : now ≡ before
+    pub says : EndsWith status s.Memory no_memory_text err err' faults faults'
+
+-- one of the three, if there is no file
+abbrev pub FailsSo : {T : Type 0} → Result T Status → Option (List ℕ) → ℕ → ℕ → Option (List ℕ) → Option (List ℕ) → ℕ
+    → ℕ → Type 0
+FailsSo (Ok file) left before now err err' faults faults' = Unit {0}
+FailsSo (Err status) left before now err err' faults faults' =
+    SourceFailed status before now err err' faults faults' ⊎ (FileRefused status left before now err err' faults faults'
+    ⊎ MemoryRanOut status before now err err' faults faults')
+
+-- ---- what there is
 
 -- the source was read to its end, and these are its bytes, no more than a file may have
 pub record HasFetched (bytes : List ℕ) (left left' : Option (List ℕ)) (before now : ℕ) : Type 0 where

@@ -1,7 +1,7 @@
 //! What the program does with its words and its streams: the top call, over any source and sinks.
 //!
 //! - `golf`: the whole of it.
-//! - `end`: a last line and its status, for whoever has no words to hand in.
+//! - `load`: the file of the source, and `end`: a last line with its status, for other programs.
 #![tactic(auto)]
 
 mod ends;
@@ -13,4 +13,5 @@ mod threads;
 mod top;
 
 pub use ends::end;
+pub use loading::load;
 pub use top::golf;

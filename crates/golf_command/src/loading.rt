@@ -2,7 +2,7 @@
 
 ghost use Rattle.std.specs.Prelude.{IfOk};
 ghost use Rattle.golf_data.specs.Places.{HasPlaces};
-ghost use Rattle.golf_command.specs.Loads.{Fetches, Loads, LoadsTree};
+ghost use Rattle.golf_command.specs.Loads.{FailsSo, Fetches, Loads, LoadsTree};
 
 use crate::ends::{end, refuse};
 use golf_base::{List, ReadError, Sink, Source, read_file};
@@ -14,7 +14,8 @@ use std::alloc::Global;
 
 // Reads the source to its end.
 fn fetch<S: Source, E: Sink>(alloc: Global, source: &mut S, err: &mut E) -> Result<List<u8>, Status>
-    ensures { Fetches result (S.left source.old) (S.left source.new) (S.faults source.old) (S.faults source.new) (E.written err.old) (E.written err.new) (E.faults err.old) (E.faults err.new) }
+    ensures fails { FailsSo result (S.left source.old) (S.faults source.old) (S.faults source.new) (E.written err.old) (E.written err.new) (E.faults err.old) (E.faults err.new) }
+    ensures fetches { Fetches result (S.left source.old) (S.left source.new) (S.faults source.old) (S.faults source.new) (E.written err.old) (E.written err.new) (E.faults err.old) (E.faults err.new) }
 {
     match read_file(alloc, source, LIMIT) {
         Ok(bytes) => Ok(bytes),
@@ -26,12 +27,12 @@ fn fetch<S: Source, E: Sink>(alloc: Global, source: &mut S, err: &mut E) -> Resu
 
 /// Reads the source to its end and makes the code of its file. If there is none, a line says why, and the
 /// answer is how the program ends.
-pub(crate) fn load<S: Source, E: Sink>(
-    alloc: Global,
-    source: &mut S,
-    err: &mut E,
-) -> Result<Code, Status>
+///
+/// `loads` says what this is for the lines of `golf`; `fails` says why there is no code for whoever
+/// has other lines.
+pub fn load<S: Source, E: Sink>(alloc: Global, source: &mut S, err: &mut E) -> Result<Code, Status>
     ensures places { IfOk result HasPlaces }
+    ensures fails { FailsSo result (S.left source.old) (S.faults source.old) (S.faults source.new) (E.written err.old) (E.written err.new) (E.faults err.old) (E.faults err.new) }
     ensures loads { Loads result (S.left source.old) (S.left source.new) (S.faults source.old) (S.faults source.new) (E.written err.old) (E.written err.new) (E.faults err.old) (E.faults err.new) }
 {
     let bytes = match fetch(alloc, source, err) {

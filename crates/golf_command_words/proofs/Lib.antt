@@ -6,7 +6,7 @@ mod Law
 pub mod Limits
 mod Numbers
 mod Outcomes
-mod Program
+mod Commands
 mod Runs
 mod RunLines
 mod RunOptions

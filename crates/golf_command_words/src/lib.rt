@@ -2,6 +2,7 @@
 //!
 //! - `parse`: the line, or none if the words stand for none.
 //! - `CommandLine`: what a line asks for.
+//! - `program`, `with`, `option`, `value`, `number_within`: how words are told to `clap` and taken from it.
 #![tactic(auto)]
 
 mod line;
@@ -10,4 +11,6 @@ mod splitting;
 mod values;
 
 pub use line::CommandLine;
-pub use reading::parse;
+pub use reading::{parse, value};
+pub use splitting::{option, program, with};
+pub use values::number_within;

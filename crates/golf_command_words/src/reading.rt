@@ -20,8 +20,8 @@ use std::alloc::Global;
 /// The turns of a run without `--turns`.
 const DEFAULT_TURNS: u32 = 1_000_000;
 
-// The value that was found for an argument.
-fn value<'a>(matches: &ArgMatches<'a>, name: &str) -> Option<&'a str>
+/// Returns the value that was found for an argument, if there is one.
+pub fn value<'a>(matches: &ArgMatches<'a>, name: &str) -> Option<&'a str>
     ensures { option_map (λ text. text.now) result ≡ first_of name.now (rows_of (found_of matches.now)) }
 {
     matches.get_str(name)

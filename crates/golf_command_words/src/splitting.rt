@@ -13,8 +13,8 @@ use clap::{Arg, ArgAction, ArgMatches, Command};
 use golf_base::Memory;
 use std::alloc::{AllocError, Global};
 
-// An option with a value.
-fn option<'a>(alloc: Global, name: &'a str) -> Arg<'a>
+/// Returns an option with a value, which is told apart by its long name.
+pub fn option<'a>(alloc: Global, name: &'a str) -> Arg<'a>
     ensures rule { rule_of result ≡ valued name.now }
     ensures local { result.global ≡ false }
 {
@@ -36,8 +36,8 @@ fn positional<'a>(alloc: Global, name: &'a str) -> Arg<'a>
     Arg::new(alloc, name).action(ArgAction::Set)
 }
 
-// The command with one argument more.
-fn with<'a>(command: Command<'a>, arg: Arg<'a>) -> Result<Command<'a>, AllocError>
+/// Returns the command with one argument more, after those that it has.
+pub fn with<'a>(command: Command<'a>, arg: Arg<'a>) -> Result<Command<'a>, AllocError>
     requires { arg.global ≡ false }
     ensures rule { IfOk result (λ more. app_of more ≡ with_rule (app_of command.entry) (rule_of arg.entry)) }
     ensures local { IfOk result (λ more. (out-Command more).has_globals ≡ (out-Command command.entry).has_globals) }
@@ -89,8 +89,8 @@ fn nameless<'a>(alloc: Global) -> Command<'a>
         .disable_help_flag(true)
 }
 
-// The same without any word of help and version.
-fn program<'a>(alloc: Global) -> Command<'a>
+/// Returns a program without subcommands: its words come without its name, and no word asks for help or for the version.
+pub fn program<'a>(alloc: Global) -> Command<'a>
     ensures app { app_of result ≡ program_app }
     ensures local { (out-Command result).has_globals ≡ false }
 {

@@ -36,8 +36,8 @@ fn number(text: &str) -> Option<u64>
     digits_after(0, text.as_bytes())
 }
 
-/// A number from `least` to `most`.
-pub(crate) fn number_within(least: u32, most: u32, text: &str) -> Option<u32>
+/// Returns the number from `least` to `most` that a text writes, if it writes one.
+pub fn number_within(least: u32, most: u32, text: &str) -> Option<u32>
     ensures { result ≡ number_within_of least most text.now }
 {
     let number = number(text)?;

@@ -2,28 +2,97 @@
 -- For: `explore` and `opened`, src/exploring.rt; `has_panic` and `has_sleep`, src/endings.rt; `Tells`,
 -- specs/Telling.antt
 -- By: the laws of closed lists, and induction over the list of visits
-use Rattle.std.proofs.Common.{◌≡◌, ℕ, zero, suc, ◌<◌, List, [], ◌∷◌, length, Bool, take, Some, slice_get, inl, inr}
-use Rattle.std.proofs.Common.{refl, sym, ap, ◌∙◌, arith}
+use Rattle.std.proofs.Common.{◌≡◌, ℕ, zero, suc, ◌<◌, List, [], ◌∷◌, ◌++◌, length, Bool, true, false, Option, Some}
+use Rattle.std.proofs.Common.{None}
+use Rattle.std.proofs.Common.{slice_get, inl, inr, refl, sym, ap, ◌∙◌, subst, arith}
+use Rattle.std.proofs.lemmas.Bool.{or_parts}
 use Rattle.golf_theory.specs.Membership.{In}
+use Rattle.golf_theory.proofs.Lists.{In-slice_get}
+use Rattle.golf_theory.proofs.Tests.{from_any_of}
 use Rattle.golf_data.specs.declared.code.Code.{Code}
 use Rattle.golf_data.specs.declared.goroutine.Ending.{Ending}
 use Rattle.golf_model.specs.State.{State, ending, start}
 use Rattle.golf_model.specs.Living.{live_list}
-use Rattle.golf_explore_laws.specs.Closed.{IsClosed, NoneDead, NoneEnds}
+use Rattle.golf_explore_laws.specs.Closed.{silent, IsPlain, IsClosed, NoneDead, NoneEnds}
+use Rattle.golf_explore_laws.specs.Laws.{is_panic, is_asleep}
 use Rattle.golf_explore_laws.proofs.MainLaws.{closed_lists_never_leak, closed_lists_never_report}
-use Rattle.golf_explore_laws.proofs.MainLaws.{closed_lists_report_nobody, closed_lists_never_panic}
-use Rattle.golf_explore_laws.proofs.MainLaws.{closed_lists_never_sleep}
+use Rattle.golf_explore_laws.proofs.MainLaws.{closed_lists_report_nobody, closed_lists_never_end}
 use Rattle.golf_explore.specs.declared.exploring.Explored.{Explored}
 use Rattle.golf_explore.specs.declared.exploring.Visited.{Visited}
+use Rattle.golf_explore.specs.declared.visits.Came.{Came}
 use Rattle.golf_explore.specs.declared.visits.Visit.{Visit}
-use Rattle.golf_explore.specs.Visiting.{states, IsWell, EndsNever, AreVisits, AreDone}
-use Rattle.golf_explore.specs.Telling.{Tells, HasTold}
-use Rattle.golf_explore.proofs.Growing.{states-length}
+use Rattle.golf_explore.specs.Visiting.{states, after, after_all, IsFrom, IsWell, AreVisits, LeadsTo, AreDone, ends_by}
+use Rattle.golf_explore.specs.Visiting.{has_ended_by}
+use Rattle.golf_explore.specs.Telling.{run_of, some_ended, CanEnd, Decides, Tells, HasTold}
+use Rattle.golf_explore.proofs.Growing.{states-length, get-states}
+use Rattle.golf_explore.proofs.Turns.{all-append, goes-append, run-goes}
 
-In-get : (xs : List State) (s : State) → In s xs → (i : ℕ) × (i < length xs) × (slice_get xs i ≡ Some s)
-In-get [] s h = absurd h
-In-get (x ∷ xs) s (inl e) = (0, omega arith, ap Some (sym e))
-In-get (x ∷ xs) s (inr h) = let r = In-get xs s h in let l = r.1 in (suc r.0, omega (arith, l), r.2)
+In-get : {X : Type 0} (xs : List X) (x : X) → In x xs → (i : ℕ) × (i < length xs) × (slice_get xs i ≡ Some x)
+In-get [] x h = absurd h
+In-get (y ∷ xs) x (inl e) = (0, omega arith, ap Some (sym e))
+In-get (y ∷ xs) x (inr h) = let r = In-get xs x h in let l = r.1 in (suc r.0, omega (arith, l), r.2)
+
+-- ---- the turns that lead to a visit
+
+module _ (code : Code) (vs : List Visit) (are : AreVisits code vs) where
+  -- a visited state is that of a visit
+  visit-at : (ws : List Visit) (at : ℕ) (t : State) → slice_get (states ws) at ≡ Some t
+      → (v : Visit) × (slice_get ws at ≡ Some v) × (silent v.state ≡ t)
+  visit-at [] at t h = cc
+  visit-at (w ∷ ws) zero t h = let same : silent w.state ≡ t = cc in (w, refl, same)
+  visit-at (w ∷ ws) (suc at) t h = visit-at ws at t h
+
+  -- turns lead to this state
+  abbrev IsLed : State → Type 0
+  IsLed t = (ns : List ℕ) × LeadsTo code (start code) ns t
+
+  -- they lead to a visit if they lead to all that stand before it
+  path-by : (at : ℕ) (t : State) → ((k : ℕ) (s : State) → k < at → slice_get (states vs) k ≡ Some s → IsLed s)
+      → In t (states vs) → (came : Option Came) → IsFrom code vs at t came → IsLed t
+  path-by at t before i None from = ([], (sym from, tt))
+  path-by at t before i (Some came) from =
+      let p = before came.parent from.parent from.earlier from.stands in
+      let led = p.1.0 in
+      let is : t ≡ after code (after_all code (start code) p.0) came.number = from.leads
+      ∙ ap (λ (s : State). after code s came.number) (sym led) in (
+        p.0 ++ came.number ∷ [],
+        (
+          all-append code p.0 (start code) came.number ∙ sym is,
+          goes-append code p.0 (start code) came.number p.1.1 (ap ending led ∙ from.goes)
+              (subst IsPlain is (λ goes. (are.well t i goes).0)),
+        ),
+      )
+
+  path-to : (n at : ℕ) (t : State) → at < n → slice_get (states vs) at ≡ Some t → IsLed t
+  path-to zero at t l h = absurd (omega (arith, l))
+  path-to (suc n) at t l h =
+      let v = visit-at vs at t h in
+      path-by at t (λ k s below g. path-to n k s (omega (arith, below, l)) g) (In-slice_get (states vs) at t h) v.0.came
+      (subst (λ s. IsFrom code vs at s v.0.came) v.2 (are.from at v.0 v.1))
+
+  -- ---- endings
+
+  -- a run has the ending of a visit
+  visit-ends : (is_one : Ending → Bool) (v : Visit) → In v vs → has_ended_by is_one v.state ≡ true → CanEnd is_one code
+  visit-ends is_one v i e =
+      let at = In-get vs v i in
+      let p = path-to (suc at.0) at.0 (silent v.state) (omega arith) (get-states vs at.0 v at.2) in
+      let ran : silent (run_of code p.0) ≡ silent v.state = run-goes code p.0 (start code) p.1.1 ∙ p.1.0 in
+      (p.0, ap (has_ended_by is_one) ran ∙ e)
+
+  -- the states of visits none of which has such an ending
+  none-ends : (is_one : Ending → Bool) (ws : List Visit) → some_ended is_one ws ≡ false → NoneEnds is_one (states ws)
+  none-ends is_one [] f s e i h = absurd i
+  none-ends is_one (w ∷ ws) f s e (inl is) h =
+      ap (ends_by is_one) (sym h ∙ ap ending is) ∙ (or_parts (has_ended_by is_one w.state) (some_ended is_one ws) f).0
+  none-ends is_one (w ∷ ws) f s e (inr i) h =
+      none-ends is_one ws (or_parts (has_ended_by is_one w.state) (some_ended is_one ws) f).1 s e i h
+
+  pub decides : (is_one : Ending → Bool) → IsClosed code (states vs) → (flag : Bool) → flag ≡ some_ended is_one vs
+      → Decides is_one code flag
+  decides is_one closed true is =
+      let r = from_any_of (λ (v : Visit). has_ended_by is_one v.state) vs (sym is) in visit-ends is_one r.0 r.1 r.2
+  decides is_one closed false is = closed_lists_never_end code (states vs) is_one closed (none-ends is_one vs (sym is))
 
 module _ (code : Code) (vs : List Visit) (count : ℕ) (are : AreVisits code vs) (done : AreDone code (states vs) count)
     (all : count ≡ length vs) where
@@ -47,22 +116,10 @@ module _ (code : Code) (vs : List Visit) (count : ℕ) (are : AreVisits code vs)
     closed_lists_never_report code (states vs) closed alive,
     closed_lists_report_nobody code (states vs) closed alive,
     (states vs, closed, states-length vs ∙ sym all ∙ sym h.states),
-    (λ no. closed_lists_never_panic code (states vs) closed (h.panics no)),
-    (λ no. closed_lists_never_sleep code (states vs) closed (h.sleeps no)),
+    decides code vs are is_panic closed told.panics h.panics,
+    decides code vs are is_asleep closed told.sleeps h.sleeps,
   )
 
 pub opening-well : (code : Code) → IsWell (start code)
 unfolding live_list
 opening-well code goes = (refl, refl)
-
--- ---- endings, visit by visit
-
-pub none-more : (is_one : Ending → Bool) (vs : List Visit) (i : ℕ) (v : Visit) → slice_get vs i ≡ Some v
-    → EndsNever is_one v.state → NoneEnds is_one (states (take i vs)) → NoneEnds is_one (states (take (suc i) vs))
-none-more is_one [] i v h n were s e j ends = cc
-none-more is_one (x ∷ vs) zero v h n were s e (inl is) ends = let same : x ≡ v =
-    cc in n e (ap (λ (w : Visit). ending w.state) (sym same) ∙ sym (ap ending is) ∙ ends)
-none-more is_one (x ∷ vs) zero v h n were s e (inr j) ends = absurd j
-none-more is_one (x ∷ vs) (suc i) v h n were s e (inl is) ends = were s e (inl is) ends
-none-more is_one (x ∷ vs) (suc i) v h n were s e (inr j) ends =
-    none-more is_one vs i v h n (λ t f k. were t f (inr k)) s e j ends

@@ -37,11 +37,12 @@ module _ (code : Code) where
 
   -- ---- one more turn
 
-  all-append : (ns : List ℕ) (s : State) (n : ℕ) → after_all code s (ns ++ n ∷ []) ≡ after code (after_all code s ns) n
+  pub all-append : (ns : List ℕ) (s : State) (n : ℕ)
+      → after_all code s (ns ++ n ∷ []) ≡ after code (after_all code s ns) n
   all-append [] s n = refl
   all-append (m ∷ ns) s n = all-append ns (after code s m) n
 
-  goes-append : (ns : List ℕ) (s : State) (n : ℕ) → GoesOn code s ns → ending (after_all code s ns) ≡ None
+  pub goes-append : (ns : List ℕ) (s : State) (n : ℕ) → GoesOn code s ns → ending (after_all code s ns) ≡ None
       → IsPlain (after code (after_all code s ns) n) → GoesOn code s (ns ++ n ∷ [])
   goes-append [] s n g goes plain = (goes, plain, tt)
   goes-append (m ∷ ns) s n g goes plain = (g.0, g.1, goes-append ns (after code s m) n g.2 goes plain)

@@ -1,16 +1,17 @@
 -- What the answer of a search says.
-use Rattle.std.specs.Prelude.{◌≡◌, ℕ, false, List, [], length, map, Option, Some, None}
+use Rattle.std.specs.Prelude.{◌≡◌, ℕ, Bool, true, false, List, [], length, map, Option, Some, None}
+use Rattle.golf_theory.specs.Membership.{any_of}
 use Rattle.golf_data.specs.declared.code.Code.{Code}
-use Rattle.golf_model.specs.State.{State, ending, start}
+use Rattle.golf_data.specs.declared.goroutine.Ending.{Ending}
+use Rattle.golf_model.specs.State.{State, not_empty, ending, start}
 use Rattle.golf_model.specs.Living.{dead}
 use Rattle.golf_model.specs.Running.{Event, run}
-use Rattle.golf_explore_laws.specs.Closed.{IsClosed, NoneEnds}
-use Rattle.golf_explore_laws.specs.Laws.{is_panic, is_asleep, NeverLeaks, NeverReports, ReportsNobody, NeverPanics}
-use Rattle.golf_explore_laws.specs.Laws.{NeverAllAsleep}
+use Rattle.golf_explore_laws.specs.Closed.{IsClosed}
+use Rattle.golf_explore_laws.specs.Laws.{is_panic, is_asleep, NeverEnds, NeverLeaks, NeverReports, ReportsNobody}
 use Rattle.golf_explore.specs.declared.exploring.Explored.{Explored}
 use Rattle.golf_explore.specs.declared.exploring.Visited.{Visited}
 use Rattle.golf_explore.specs.declared.visits.Visit.{Visit}
-use Rattle.golf_explore.specs.Visiting.{states as states_of}
+use Rattle.golf_explore.specs.Visiting.{after_all, has_ended_by}
 
 -- the state after the turns of these numbers, with the collections that instructions ask for
 abbrev pub run_of : Code → List ℕ → State
@@ -20,20 +21,38 @@ run_of code numbers = run code (start code) (map Event.Turn numbers)
 abbrev pub HasClosed : Code → ℕ → Type 0
 HasClosed code count = (visited : List State) × IsClosed code visited × (length visited ≡ count)
 
--- the visits are so many, and if no flag says otherwise none has ended by a panic, or with all goroutines asleep
+-- a run has one of these endings
+abbrev pub CanEnd : (Ending → Bool) → Code → Type 0
+CanEnd is_one code = (numbers : List ℕ) × (has_ended_by is_one (run_of code numbers) ≡ true)
+
+-- the flag says whether a run has one of these endings
+abbrev pub Decides : (Ending → Bool) → Code → Bool → Type 0
+Decides is_one code true = CanEnd is_one code
+Decides is_one code false = NeverEnds is_one code
+
+-- after some turns an object has a finaliser
+abbrev pub GivesFinaliser : Code → Type 0
+GivesFinaliser code = (numbers : List ℕ) × (not_empty (after_all code (start code) numbers).finalisers ≡ true)
+
+-- a visit has one of these endings
+abbrev pub some_ended : (Ending → Bool) → List Visit → Bool
+some_ended is_one visits = any_of (λ v. has_ended_by is_one v.state) visits
+
+-- how many visits there are, and whether some have ended by a panic, and with all goroutines asleep
 pub record HasTold (visits : List Visit) (count : ℕ) (told : Visited) : Type 0 where
   pub states : told.states ≡ count
-  pub panics : told.panics ≡ false → NoneEnds is_panic (states_of visits)
-  pub sleeps : told.sleeps ≡ false → NoneEnds is_asleep (states_of visits)
+  pub panics : told.panics ≡ some_ended is_panic visits
+  pub sleeps : told.sleeps ≡ some_ended is_asleep visits
 
--- all schedules: no run leaks; unless a flag says otherwise, none panics and none falls asleep. A leak: the run of
--- these turns has no ending and a dead goroutine. The two others say nothing
+-- All schedules: no run leaks, the states are counted, and the flags say whether a run panics, and whether one falls
+-- asleep. A leak: the run of these turns has no ending and a dead goroutine. Finalisers: some run gives an object one.
+-- Too many states: nothing.
 abbrev pub Tells : Code → Explored → Type 0
 Tells code (Explored.AllVisited told) =
     NeverLeaks code × NeverReports code × ReportsNobody code × HasClosed code told.states
-    × (told.panics ≡ false → NeverPanics code) × (told.sleeps ≡ false → NeverAllAsleep code)
+    × Decides is_panic code told.panics × Decides is_asleep code told.sleeps
 Tells code (Explored.Leak numbers) = (ending (run_of code numbers) ≡ None) × (dead (run_of code numbers) ≡ [] → ⊥)
-Tells code Explored.Finalisers = Unit {0}
+Tells code Explored.Finalisers = GivesFinaliser code
 Tells code Explored.TooMany = Unit {0}
 
 -- this holds, or the search ends with an answer

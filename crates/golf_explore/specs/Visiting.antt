@@ -50,9 +50,14 @@ IsFrom code visits at s (Some came) = IsNext code visits at s came
 abbrev pub IsWell : State → Type 0
 IsWell s = ending s ≡ None → (s.finalisers ≡ []) × (dead s ≡ [])
 
--- it has none of these endings
-abbrev pub EndsNever : (Ending → Bool) → State → Type 0
-EndsNever is_one s = (e : Ending) → ending s ≡ Some e → is_one e ≡ false
+-- it is one of these endings
+abbrev pub ends_by : (Ending → Bool) → Option Ending → Bool
+ends_by is_one None = false
+ends_by is_one (Some e) = is_one e
+
+-- the state has one of these endings
+abbrev pub has_ended_by : (Ending → Bool) → State → Bool
+has_ended_by is_one s = ends_by is_one (ending s)
 
 -- the opening state is visited, turns lead to each visited state, and each is well
 pub record AreVisits (code : Code) (visits : List Visit) : Type 0 where

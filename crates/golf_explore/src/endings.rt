@@ -1,11 +1,9 @@
 //! How visited states have ended.
 
-ghost use Rattle.std.specs.Prelude.{◌≡◌, false, Some};
-ghost use Rattle.golf_data.specs.declared.goroutine.Ending.{Ending};
-ghost use Rattle.golf_model.specs.State.{ending};
-ghost use Rattle.golf_explore_laws.specs.Closed.{NoneEnds};
+ghost use Rattle.std.specs.Prelude.{◌≡◌};
 ghost use Rattle.golf_explore_laws.specs.Laws.{is_panic, is_asleep};
-ghost use Rattle.golf_explore.specs.Visiting.{states, EndsNever};
+ghost use Rattle.golf_explore.specs.Telling.{some_ended};
+ghost use Rattle.golf_explore.specs.Visiting.{has_ended_by};
 
 use crate::visits::Visit;
 use golf_data::Ending;
@@ -13,7 +11,7 @@ use golf_state::State;
 
 // Whether the state has ended by a panic or a fatal error.
 fn panics(state: &State) -> bool
-    ensures { result ≡ false → EndsNever is_panic state.now }
+    ensures { result ≡ has_ended_by is_panic state.now }
 {
     match state.ending() {
         Some(Ending::Panicked { .. }) => true,
@@ -25,7 +23,7 @@ fn panics(state: &State) -> bool
 
 // Whether the state has ended with all goroutines asleep.
 fn sleeps(state: &State) -> bool
-    ensures { result ≡ false → EndsNever is_asleep state.now }
+    ensures { result ≡ has_ended_by is_asleep state.now }
 {
     match state.ending() {
         Some(Ending::Asleep) => true,
@@ -37,7 +35,7 @@ fn sleeps(state: &State) -> bool
 
 /// Returns whether a visited state has ended by a panic or a fatal error.
 pub(crate) fn has_panic(visits: &[Visit]) -> bool
-    ensures { result ≡ false → NoneEnds is_panic (states visits.now) }
+    ensures { result ≡ some_ended is_panic visits.now }
 {
     for visit in visits {
         if panics(&visit.state) {
@@ -49,7 +47,7 @@ pub(crate) fn has_panic(visits: &[Visit]) -> bool
 
 /// Returns whether a visited state has ended with all goroutines asleep.
 pub(crate) fn has_sleep(visits: &[Visit]) -> bool
-    ensures { result ≡ false → NoneEnds is_asleep (states visits.now) }
+    ensures { result ≡ some_ended is_asleep visits.now }
 {
     for visit in visits {
         if sleeps(&visit.state) {

@@ -14,14 +14,14 @@ use golf_data::Code;
 use golf_machine::start;
 use std::alloc::Global;
 
-/// What holds of all states that schedules lead to.
+/// What there is among all states that schedules lead to.
 #[derive(Clone, Copy)]
 pub struct Visited {
     /// How many there are.
     pub states: u32,
-    /// Whether one of them has ended by a panic or a fatal error.
+    /// Whether some run ends by a panic or a fatal error.
     pub panics: bool,
-    /// Whether one of them has ended with all goroutines asleep.
+    /// Whether some run ends with all goroutines asleep.
     pub sleeps: bool,
 }
 
@@ -32,7 +32,7 @@ pub enum Explored {
     AllVisited(Visited),
     /// The turns of these numbers lead to a state with a dead goroutine.
     Leak(List<u64>),
-    /// A turn gives an object a finaliser: such codes are not searched.
+    /// A schedule gives an object a finaliser: such codes are not searched.
     Finalisers,
     /// There are more states than were asked for, or a turn has too high a number.
     TooMany,

@@ -16,3 +16,4 @@ mod Ending
 pub mod Prefixes
 mod Stepping
 mod Finishing
+pub mod Reported

@@ -1,9 +1,13 @@
 -- What follows from what the answer of a run says.
-use Rattle.std.specs.Prelude.{◌≡◌, Err}
+use Rattle.std.specs.Prelude.{◌≡◌, ℕ, true, List, [], map, None, Err}
 use Rattle.golf_base.specs.Causes.{WritesPrefix}
 use Rattle.golf_data.specs.declared.code.Code.{Code}
+use Rattle.golf_model.specs.State.{start, ending}
+use Rattle.golf_model.specs.Living.{dead}
+use Rattle.golf_model.specs.Running.{Event, run}
 use Rattle.golf_run_schedules.specs.declared.options.RunOptions.{RunOptions}
-use Rattle.golf_run_texts.specs.Output.{out_of, err_of}
+use Rattle.golf_run_schedules.specs.Laws.{turns_then_collect}
+use Rattle.golf_run_texts.specs.Output.{events_of, reports_of, anyone_reported, out_of, err_of}
 use Rattle.golf_run_texts.specs.Writes.{out_bytes, err_bytes, writes_of}
 use Rattle.golf_run.specs.declared.fault.RunFault.{RunFault}
 use Rattle.golf_run.specs.HasRun.{Sinks, HasRun}
@@ -22,3 +26,9 @@ pub record GotPrefixes (code : Code) (options : RunOptions) (old new : Sinks) : 
 abbrev pub FaultsLeavePrefixes : Type 0
 FaultsLeavePrefixes = (fault : RunFault) (code : Code) (options : RunOptions) (old new : Sinks)
     → HasRun (Err fault) code options old new → GotPrefixes code options old new
+
+-- a run whose last event is a collection of a state with a dead goroutine names somebody in a report
+abbrev pub LeaksAreReported : Type 0
+LeaksAreReported = (code : Code) (options : RunOptions) (ns : List ℕ) → events_of options ≡ turns_then_collect ns
+    → ending (run code (start code) (map Event.Turn ns)) ≡ None
+    → (dead (run code (start code) (map Event.Turn ns)) ≡ [] → ⊥) → anyone_reported (reports_of code options) ≡ true

@@ -10,6 +10,6 @@ mod telling;
 mod turns;
 
 pub use fault::RunFault;
-pub use laws::{faults_leave_prefixes, writes_are_texts};
+pub use laws::{faults_leave_prefixes, leaks_are_reported, writes_are_texts};
 pub use running::{last_line, run, status_by};
 pub use surveying::{RunSummary, survey};

@@ -1,2 +1,3 @@
 mod Counting
 mod Examples
+pub mod Collecting

@@ -12,6 +12,6 @@ mod totals;
 pub use lines::{ending_line, entry_line, report_line, report_text, stopped_line};
 pub use reasons::{certificate_line, reached_line};
 pub use refusals::{lexical_line, list_of, rule_line, syntax_line};
-pub use runs::{anyone_reported, history_line, meaning_line, reports_text};
+pub use runs::{add_numbers, anyone_reported, history_line, meaning_line, reports_text};
 pub use status::{LIMIT, NO_MEMORY, READ_FAULT, Status, TOO_LONG, USAGE, code, constants_law};
 pub use totals::Totals;

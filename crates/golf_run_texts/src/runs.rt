@@ -64,8 +64,8 @@ fn add_more(alloc: Global, text: &mut List<u8>, numbers: &[u64]) -> Result<(), M
     Ok(())
 }
 
-// Adds the numbers, with a comma between two of them.
-fn add_numbers(alloc: Global, text: &mut List<u8>, numbers: &[u64]) -> Result<(), Memory>
+/// Adds the numbers to the text, with a comma between two of them.
+pub fn add_numbers(alloc: Global, text: &mut List<u8>, numbers: &[u64]) -> Result<(), Memory>
     ensures { OnOk result (text.new ≡ text.old ++ numbers_bytes numbers.now) }
 {
     let Some((first, more)) = numbers.split_first() else {

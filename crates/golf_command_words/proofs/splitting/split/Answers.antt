@@ -3,7 +3,7 @@ use Rattle.std.proofs.Common.{◌≡◌, ◌∙◌, refl, sym, ap, inl, inr, tru
 use Rattle.clap.specs.Simple.{app_of, subcommand_rows_of}
 use Rattle.clap.specs.contracts.error.kind.ErrorKind.{the_type}
 use Rattle.clap.specs.declared.error.kind.ErrorKind.TheVariants.{OutOfMemory}
-use Rattle.golf_command_words.proofs.Program.{split_found, split_refused}
+use Rattle.golf_command_words.proofs.Commands.{split_found, split_refused}
 use Rattle.golf_command_words.proofs.splitting.split.Goals as goal
 
 pub returns-in-Ok : goal.returns-in-Ok

@@ -1,9 +1,8 @@
-use Rattle.std.proofs.Common.{take}
-use Rattle.golf_explore_laws.specs.Closed.{NoneEnds}
+use Rattle.std.proofs.Common.{◌≡◌, false, take}
 use Rattle.golf_explore_laws.specs.Laws.{is_panic}
-use Rattle.golf_explore.specs.Visiting.{states}
+use Rattle.golf_explore.specs.Telling.{some_ended}
 use Rattle.golf_explore.proofs.endings.has_panic.Given as goal
 
 -- no visit so far has such an ending
 abbrev pub invariant-loop-visit : goal.invariant-loop-visit
-invariant-loop-visit l = NoneEnds is_panic (states (take l.visit-index l.visits))
+invariant-loop-visit l = some_ended is_panic (take l.visit-index l.visits) ≡ false

@@ -1,7 +1,16 @@
-use Rattle.std.proofs.Common.{◌≡◌, None, [], sym, ◌∙◌}
-use Rattle.golf_model.specs.State.{ending}
-use Rattle.golf_explore.proofs.Turns.{leak-tells, no-ending, no-finaliser}
+use Rattle.std.proofs.Common.{◌≡◌, None, [], ◌∷◌, ◌++◌, sym, ap, ◌∙◌}
+use Rattle.golf_model.specs.State.{ending, start, not_empty, State}
+use Rattle.golf_explore.proofs.Turns.{all-append, leak-tells, no-ending, no-finaliser}
 use Rattle.golf_explore.proofs.expanding.judge.Goals as goal
+
+pub returns-then-has_finaliser : goal.returns-then-has_finaliser
+returns-then-has_finaliser c =
+    let code = c.args.code.now in (
+      c.args.path.now ++ c.args.number ∷ [],
+      ap (λ (s : State). not_empty s.finalisers)
+          (all-append code c.args.path.now (start code) c.args.number ∙ sym c.requires.state)
+          ∙ sym c.has_finaliser.ensures ∙ c.if-has_finaliser.true,
+    )
 
 pub returns-then-branch : goal.returns-then-branch
 returns-then-branch c =

@@ -1,0 +1,4 @@
+pub mod Writing
+pub mod Searching
+pub mod Leaking
+pub mod Calling

@@ -1,0 +1,85 @@
+//! The top call on a thread that has its stack beforehand.
+//!
+//! `explorer` goes down into the nesting of a file. The stack of the process grows by pages: if one is
+//! refused, or the limit of the stack is small, the system ends the process. The stack of this
+//! thread is taken whole before anything is read, so that want of memory for it is an answer.
+
+ghost use Rattle.std.specs.Prelude.{◌≡◌, IfOk};
+ghost use Rattle.golf_run.specs.HasRun.{sinks};
+ghost use Rattle.golf_command.specs.Means.{words_of, seen};
+ghost use Rattle.golf_explore_command.specs.Telling.{CallTells};
+
+use golf_base::{Memory, Sink, Source};
+use golf_explore_command::explorer;
+use golf_run_texts::Status;
+use std::snapshot::Snapshot;
+use std::thread::{Builder, Promise, Threads};
+
+/// The bytes of its stack: what the stack of a process may have by default. The deepest nesting that a file may
+/// have needs about 2 MB of them.
+const STACK: usize = 8 * 1024 * 1024;
+
+/// How a call ended, with its streams.
+#[derive(Drop)]
+pub(crate) struct Ended<S, O, E> {
+    pub(crate) status: Status,
+    pub(crate) source: S,
+    pub(crate) out: O,
+    pub(crate) err: E,
+}
+
+// The words and the streams with which it began, for clauses alone.
+#[derive(Drop)]
+struct Begun<S, O, E> {
+    words: Snapshot<Vec<String>>,
+    source: Snapshot<S>,
+    out: Snapshot<O>,
+    err: Snapshot<E>,
+}
+
+impl<S: Source, O: Sink, E: Sink> Promise<Ended<S, O, E>> for Begun<S, O, E> {
+    ghost kept_by = { λ b e. CallTells (words_of b.words.value.items) e.status
+        (seen (S.left b.source.value) (S.faults b.source.value) (sinks (O.written b.out.value) (O.faults b.out.value) (E.written b.err.value) (E.faults b.err.value)))
+        (seen (S.left e.source) (S.faults e.source) (sinks (O.written e.out) (O.faults e.out) (E.written e.err) (E.faults e.err))) };
+}
+
+/// Does all that `explorer` does, on a thread of its own. `Memory` if that cannot be made: then nothing
+/// is read or written.
+pub(crate) fn explorer_aside<
+    R: AllocGlobal + Threads + Sync + Send + Copy + 'static,
+    S: Source + Send + Drop + 'static,
+    O: Sink + Send + Drop + 'static,
+    E: Sink + Send + Drop + 'static,
+>(rt: R, words: Vec<String>, source: S, out: O, err: E) -> Result<Ended<S, O, E>, Memory>
+    ensures { IfOk result (λ e. CallTells (words_of words.items) e.status
+        (seen (S.left source) (S.faults source) (sinks (O.written out) (O.faults out) (E.written err) (E.faults err)))
+        (seen (S.left e.source) (S.faults e.source) (sinks (O.written e.out) (O.faults e.out) (E.written e.err) (E.faults e.err)))) }
+{
+    let begun = Begun {
+        words: Snapshot::of(&words),
+        source: Snapshot::of(&source),
+        out: Snapshot::of(&out),
+        err: Snapshot::of(&err),
+    };
+    let call = move || -> Ended<S, O, E>
+        ensures { CallTells (words_of words.items) result.status
+            (seen (S.left source) (S.faults source) (sinks (O.written out) (O.faults out) (E.written err) (E.faults err)))
+            (seen (S.left result.source) (S.faults result.source) (sinks (O.written result.out) (O.faults result.out) (E.written result.err) (E.faults result.err))) }
+    {
+        let (mut source, mut out, mut err) = (source, out, err);
+        let status = explorer(&rt, words.as_slice(), &mut source, &mut out, &mut err);
+        Ended {
+            status,
+            source,
+            out,
+            err,
+        }
+    };
+    match Builder::new()
+        .stack_size(STACK)
+        .spawn_with(&rt, begun, call)
+    {
+        Ok(thread) => Ok(thread.join(&rt)),
+        Err(_) => Err(Memory),
+    }
+}

@@ -1,0 +1,14 @@
+-- What written numbers come to with a collection at the end.
+use Rattle.std.specs.Prelude.{◌≡◌, ℕ, ◌<◌, ◌≤◌, List, [], ◌∷◌, ◌++◌, length, map, Some}
+use Rattle.golf_model.specs.Running.{Event}
+use Rattle.golf_run_schedules.specs.declared.schedule.Schedule.{Schedule}
+use Rattle.golf_run_schedules.specs.Events.{events}
+
+-- the turns of these numbers, and then a collection
+abbrev pub turns_then_collect : List ℕ → List Event
+turns_then_collect ns = map Event.Turn ns ++ Event.Collect ∷ []
+
+-- so it is if as many turns are asked for, and a collection after each of that number
+abbrev pub ChoicesThenCollect : Type 0
+ChoicesThenCollect = (ns : List ℕ) (turns : ℕ) → 0 < length ns → length ns ≤ turns
+    → events (Schedule.Choices ns) turns (Some (length ns)) ≡ turns_then_collect ns
