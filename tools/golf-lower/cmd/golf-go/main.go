@@ -1,9 +1,11 @@
 // Command golf-go runs Go files by golf: it lowers them, runs `golf run` on what comes out, and writes output, reports and
-// panics with the lines and functions of the files.
+// panics with the lines and functions of the files. With the word explore it runs `golf-explore all` in its place.
 //
 //	golf-go FILE.go .. [--late] [--pause] [words of golf run]
+//	golf-go explore FILE.go .. [--late] [--pause] [words of golf-explore all]
 //
-// The program golf is $GOLF, or golf on the path. $GOLF_LOWERED names a file for the lowered text.
+// The programs are $GOLF and $GOLF_EXPLORE, or golf and golf-explore on the path. $GOLF_LOWERED names a file for the
+// lowered text.
 package main
 
 import (
@@ -36,10 +38,11 @@ func main() { os.Exit(run(os.Args[1:], os.Stdout, os.Stderr)) }
 
 // words are the words of the command line.
 type words struct {
+	explore bool
 	paths   []string
 	late    bool
 	pause   bool
-	golf    []string // those of golf run
+	golf    []string // those of golf run, or of golf-explore all
 	chosen  bool     // --every or --schedule is there
 	threads bool
 	turns   bool
@@ -47,6 +50,10 @@ type words struct {
 
 func parseWords(args []string) words {
 	var w words
+	if len(args) > 0 && args[0] == "explore" {
+		w.explore = true
+		args = args[1:]
+	}
 	for len(args) > 0 && isPath(args[0]) {
 		w.paths = append(w.paths, args[0])
 		args = args[1:]
@@ -97,7 +104,7 @@ func (w words) line() []string {
 func run(args []string, stdout, stderr io.Writer) int {
 	w := parseWords(args)
 	if len(w.paths) == 0 {
-		fmt.Fprintln(stderr, "usage: golf-go FILE.go .. [--late] [--pause] [words of golf run]")
+		fmt.Fprintln(stderr, "usage: golf-go [explore] FILE.go .. [--late] [--pause] [words of golf run, or of golf-explore all]")
 		return usage
 	}
 	sources, tests, err := lower.ReadSources(w.paths)
@@ -116,18 +123,25 @@ func run(args []string, stdout, stderr io.Writer) int {
 			return noWrite
 		}
 	}
+	if w.explore {
+		return explore(w, low, stdout, stderr)
+	}
 	return execute(w, low, tests, stdout, stderr)
+}
+
+// program is the program that the variable names, or the one of that name on the path.
+func program(variable, name string) string {
+	if p := os.Getenv(variable); p != "" {
+		return p
+	}
+	return name
 }
 
 // execute runs golf on the lowered text.
 func execute(w words, low *lower.Output, tests bool, stdout, stderr io.Writer) int {
-	golf := os.Getenv("GOLF")
-	if golf == "" {
-		golf = "golf"
-	}
-	cmd := exec.Command(golf, w.line()...)
+	cmd := exec.Command(program("GOLF", "golf"), w.line()...)
 	cmd.Stdin = strings.NewReader(low.Text)
-	errs := &lines{out: stderr}
+	errs := &lines{out: stderr, told: "golf: "}
 	cmd.Stderr = errs
 	pipe, err := cmd.StdoutPipe()
 	if err == nil {
@@ -159,9 +173,10 @@ func execute(w words, low *lower.Output, tests bool, stdout, stderr io.Writer) i
 	return r.end()
 }
 
-// lines keeps the lines of golf, and hands on what ./golf tells while it builds the program.
+// lines keeps the lines of a program, and hands on what its launcher tells while it builds the program.
 type lines struct {
 	out  io.Writer
+	told string // how the lines of the launcher begin
 	text []byte
 	from int // where the last line begins that is not whole
 }
@@ -174,7 +189,7 @@ func (l *lines) Write(b []byte) (int, error) {
 			return len(b), nil
 		}
 		end := l.from + n + 1
-		if bytes.HasPrefix(l.text[l.from:], []byte("golf: ")) {
+		if l.told != "" && bytes.HasPrefix(l.text[l.from:], []byte(l.told)) {
 			l.out.Write(l.text[l.from:end])
 			l.text = append(l.text[:l.from], l.text[end:]...)
 			continue

@@ -42,7 +42,7 @@ var cases = []struct {
 	{"a refusal", "../../testdata/refused/float.go", "",
 		[]string{"refused: float.go:4: type float64: not supported"}, 4},
 	{"a file that is not there", "nowhere.go", "", []string{"stat nowhere.go: no such file or directory"}, 6},
-	{"no words", "", "", []string{"usage: golf-go FILE.go .. [--late] [--pause] [words of golf run]"}, 5},
+	{"no words", "", "", []string{"usage: golf-go [explore] FILE.go .. [--late] [--pause] [words of golf run, or of golf-explore all]"}, 5},
 	{"chosen collections", "../../testdata/reports/clean.go --every 10000000 --schedule seed:3", "fine\n",
 		[]string{"collection 1: reported 0", "golf-go: 1 collection, 0 goroutines reported"}, 0},
 	{"a goroutine that a timer starts", "../../testdata/reports/timer.go", "",
