@@ -145,7 +145,8 @@ def faults_of(page, lines):
         if "/specs/" in name and file not in files:
             faults.append(f"the clause does not reach {name}")
     for crate, edits in re.findall(r"^\| \d \| `(\w+)`: ([^|]*)\|", page, re.M):
-        places = [CRATES / crate / "must-fail", ROOT / "bench" / "wrong" / crate]
+        wrong = ROOT / "bench" / "wrong"
+        places = [CRATES / crate / "must-fail", wrong / crate, wrong / "definitions" / crate]
         faults += [f"no wrong body {edit} of {crate}" for edit in re.findall(r"`(\w+)`", edits)
                    if not any((place / f"{edit}.edit").is_file() for place in places)]
     return faults

@@ -1,6 +1,6 @@
 #!/usr/bin/env python3
-"""Tries the wrong bodies that the gate does not try: bench/wrong/CRATE/*.edit, each in the form of a must-fail edit. Every one must
-be refused.
+"""Tries the wrong bodies that the gate does not try, each in the form of a must-fail edit: bench/wrong/CRATE/*.edit are edits of code,
+and bench/wrong/definitions/CRATE/*.edit of definitions, which an example or a law refuses. Every one must be refused.
 
     bench/wrong.py [CRATE ..]      those of all crates, or of these
 
@@ -14,6 +14,13 @@ import sys
 import tempfile
 
 WRONG = os.path.join("bench", "wrong")
+DEFINITIONS = os.path.join(WRONG, "definitions")
+
+
+def edits_of(crate):
+    """The edits of a crate: those of code, and those of definitions."""
+    folders = [os.path.join(WRONG, crate), os.path.join(DEFINITIONS, crate)]
+    return [os.path.join(folder, name) for folder in folders if os.path.isdir(folder) for name in sorted(os.listdir(folder))]
 
 
 def copy_to(place):
@@ -29,11 +36,14 @@ def copy_to(place):
 
 def main():
     os.chdir(os.path.join(os.path.dirname(os.path.abspath(__file__)), ".."))
-    crates = sys.argv[1:] or sorted(os.listdir(WRONG))
+    crates = sys.argv[1:] or sorted({*os.listdir(WRONG), *os.listdir(DEFINITIONS)} - {"definitions"})
     with tempfile.TemporaryDirectory() as place:
         copy_to(place)
         for crate in crates:
-            shutil.copytree(os.path.join(WRONG, crate), os.path.join(place, "crates", crate, "must-fail"))
+            target = os.path.join(place, "crates", crate, "must-fail")
+            os.makedirs(target)
+            for edit in edits_of(crate):
+                shutil.copy(edit, target)
         return subprocess.run(["rt", "must-fail", *crates], cwd=place, check=False).returncode
 
 
