@@ -41,7 +41,7 @@ def variants_of(name):
 
 def main():
     names = sys.argv[1:]
-    if not names:
+    if not names or names[0].startswith("-"):
         print(__doc__)
         return 2
     enums = {name: variants for name in names if (variants := variants_of(name))}
