@@ -2,7 +2,7 @@
 
 It reads a part of the accepted language: functions, globals, `int`, `bool`, `string`, channels, and mutexes, groups and
 conditions of `sync`. There are no structs, methods, slices, finalisers, collections and readers' locks in it. Which
-instructions a construct becomes follows the papers of `golf_code_of`; no code of the program is used."""
+instructions a construct becomes follows the definitions of `golf_code_of`; no code of the program is used."""
 import re
 
 TOKEN = re.compile(r'(?P<space>[ \t\r]+|//[^\n]*)|(?P<line>\n)|(?P<name>[A-Za-z_]\w*)|(?P<number>\d+)'

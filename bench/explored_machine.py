@@ -2,7 +2,7 @@
 
 One turn is one instruction of one goroutine, or one step of a frame that is left, as in docs/LANGUAGE.md ("How a file
 runs"). States are kept whole and compared exactly; only the output is no part of them. There is no reduction. What a
-turn changes follows docs/LANGUAGE.md and the papers of `golf_model`; no code of the program is used.
+turn changes follows docs/LANGUAGE.md and the definitions of `golf_model`; no code of the program is used.
 
 Goroutine 0 runs finalisers, of which the model has none. So it never runs, and is in no state."""
 from explored_code import FALSE, TRUE, UNIT, text_value
