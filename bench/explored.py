@@ -320,8 +320,9 @@ def answer(text, most):
     if not explored.complete:
         return ['stopped: more than %d states' % most], 3
     lines = ['every schedule: %d states, no leak' % explored.states]
-    lines += [] if explored.ends('panicked') else ['never panics']
-    return lines + ([] if explored.ends('asleep') else ['never all asleep']), 0
+    lines.append('panics under some schedule' if explored.ends('panicked') else 'never panics')
+    lines.append('all asleep under some schedule' if explored.ends('asleep') else 'never all asleep')
+    return lines, 0
 
 
 def leak_line(choices):
@@ -481,9 +482,10 @@ def faults_of_closed(told, explored, any_states):
     faults = []
     if not any_states and int(told.every[1]) != explored.states:
         faults.append('%s states, %d by the model' % (told.every[1], explored.states))
-    for line, happens in (('never panics', explored.ends('panicked')), ('never all asleep', explored.ends('asleep'))):
-        if told.says(line) == happens:
-            faults.append('%r is %stold' % (line, '' if told.says(line) else 'not '))
+    for never, some, happens in (('never panics', 'panics under some schedule', explored.ends('panicked')),
+                                 ('never all asleep', 'all asleep under some schedule', explored.ends('asleep'))):
+        if told.says(never) == happens or told.says(some) != happens:
+            faults.append('%r is %stold' % (never, '' if told.says(never) else 'not '))
     return faults
 
 

@@ -750,17 +750,22 @@ class Run:
 
     def __init__(self, code, choices, every):
         self.output, self.errors, self.reported, self.collections = [], [], set(), 0
-        self.state, self.turns = start(code), 0
+        self.code, self.state, self.turns = code, start(code), 0
         for number in choices:
             if ending(self.state):
                 break
-            self.state, printed = numbered_turn(code, self.state, number)
-            self.turns += 1
+            printed = self.take(number)
             if printed is not None:
                 self.output.append(printed)
             if self.turns % every == 0 and not ending(self.state):
                 self.collect()
         self.status = self.end()
+
+    def take(self, number):
+        """Takes the turn of this number, and returns what it printed."""
+        self.state, printed = numbered_turn(self.code, self.state, number)
+        self.turns += 1
+        return printed
 
     def collect(self):
         marked, dead = live_set(self.state)

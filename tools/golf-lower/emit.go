@@ -72,6 +72,19 @@ type Output struct {
 	Files int     // how many files were lowered
 }
 
+// Map has a line for each line of the output: its file, line and function, or 0 if it is generated.
+func (out *Output) Map() string {
+	var sb strings.Builder
+	for _, p := range out.Lines {
+		if p.Line == 0 {
+			sb.WriteString("0\n")
+			continue
+		}
+		fmt.Fprintf(&sb, "%s %d %s\n", p.File, p.Line, p.Func)
+	}
+	return sb.String()
+}
+
 // finish indents the lines and makes the output.
 func (p *prog) finish(parts ...*buffer) *Output {
 	var sb strings.Builder

@@ -1,9 +1,9 @@
--- A source and a sink over memory: what a call gives or takes, and which calls fail.
+-- A source and a sink over memory: how many bytes a call gives or takes, and which calls fail.
 use Rattle.std.specs.Prelude.{◌≡◌, ℕ, ◌+◌, ◌-◌, ◌^◌, ◌<◌, ◌⊎◌, min, List, ◌++◌, length, take, drop, refl, Contains}
 use Rattle.std.specs.Coded.{Coded, code_by, coded×, coded_ℕ, coded_list}
 use Rattle.golf_base.specs.Causes.{next_fault}
 
--- what a source has left, how much it gives a call, which calls fail, how many there were, and how often one failed
+-- a source: the bytes left, the most bytes a call, the calls that fail, the number of calls, the number of faults
 pub record Supply : Type 0 where
   pub left : List ℕ
   pub most : ℕ
@@ -11,8 +11,8 @@ pub record Supply : Type 0 where
   pub calls : ℕ
   pub faults : ℕ
 
--- what a sink holds, how much it takes in all and a call, which calls fail, how many there were, and how often one
--- failed
+-- a sink: the bytes written, the room in all, the most bytes a call, the calls that fail, the number of calls, the
+-- number of faults
 pub record Store : Type 0 where
   pub written : List ℕ
   pub room : ℕ
@@ -41,11 +41,11 @@ store_code = code_by (List ℕ × (ℕ × (ℕ × (List ℕ × (ℕ × ℕ)))))
       faults = p.1.1.1.1.1;
     }) (λ _. refl)
 
--- one more call; the number stands still at its type's end
+-- one more call; the last value of the type stays as it is
 abbrev pub next_call : ℕ → ℕ
 next_call calls = min (calls + 1) (2 ^ 32 - 1)
 
--- how many bytes a call gives that may give so many
+-- how many bytes a call gives into this much room
 abbrev pub given : Supply → ℕ → ℕ
 given s room = min (min (length s.left) room) s.most
 
@@ -59,7 +59,7 @@ after_failed_read s = record s { calls = next_call s.calls; faults = next_fault 
 abbrev pub taken : Store → ℕ → ℕ
 taken s len = min (min len (s.room - length s.written)) s.most
 
--- the call fails: it is one of those that do, or there is no room for a piece that is not empty
+-- the call fails: its number is among those that fail, or there is no room for a piece that is not empty
 abbrev pub IsRefused : Store → ℕ → Type 0
 IsRefused s len = Contains s.fail (next_call s.calls) ⊎ ((taken s len ≡ 0) × (0 < len))
 

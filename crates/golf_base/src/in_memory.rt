@@ -1,5 +1,5 @@
-//! A source and a sink over memory, for tests: which of their calls fail, and how much they give
-//! or take, is the caller's choice.
+//! A source and a sink over memory, for tests. The caller chooses which of their calls fail and how
+//! many bytes a call gives or takes.
 
 ghost use Rattle.std.specs.Prelude.{◌≡◌, ◌<◌, ◌≤◌, ◌↔◌, [], IfOk, IsErr, OnOk, OnErr, length, drop, Some, Contains};
 ghost use Rattle.std.specs.Io.{ReadsAtMost, WritesAtMost};
@@ -38,7 +38,7 @@ impl Model for MemorySource {
 }
 
 impl MemorySource {
-    /// A source that gives at most `most` bytes a call, and fails exactly at the calls whose
+    /// Returns a source that gives at most `most` bytes a call. It fails exactly at the calls whose
     /// numbers, from 1, are in `fail`.
     pub fn new(bytes: List<u8>, most: u32, fail: List<u32>) -> MemorySource
         requires { 0 < most }
@@ -68,7 +68,7 @@ impl Source for MemorySource {
         ensures bytes { ReadConsumes (Some self.old.left) (Some self.new.left) result into.new }
         ensures cause { HasCause self.old.faults self.new.faults result }
 
-        // Which calls fail, and how much another one gives.
+        // Which calls fail, and how many bytes a successful call gives.
         ensures fails { IsErr result ↔ Contains self.old.fail (next_call self.old.calls) }
         ensures count { IfOk result (λ n. n ≡ given self.old (length into.old)) }
         ensures ok { OnOk result (self.new ≡ after_read self.old (length into.old)) }
@@ -87,7 +87,7 @@ impl Source for MemorySource {
     }
 }
 
-/// A sink over memory that `new` took.
+/// A sink over a fixed room in memory, which `new` allocates.
 #[derive(Drop)]
 pub struct MemorySink {
     bytes: Vec<u8>,
@@ -112,9 +112,9 @@ impl Model for MemorySink {
 }
 
 impl MemorySink {
-    /// A sink with room for `room` bytes that takes at most `most` bytes a call. It fails exactly
-    /// at the calls whose numbers, from 1, are in `fail`, and if no room is left for a piece
-    /// that is not empty.
+    /// Returns a sink with room for `room` bytes that takes at most `most` bytes a call. It fails
+    /// at the calls whose numbers, from 1, are in `fail`. It also fails if no room is left for a
+    /// piece that is not empty.
     pub fn new(alloc: Global, room: u32, most: u32, fail: List<u32>) -> Result<MemorySink, Memory>
         requires { 0 < most }
         ensures { IfOk result (λ s. s ≡ record { written = []; room = room; most = most; fail = fail; calls = 0; faults = 0 }) }
@@ -129,7 +129,7 @@ impl MemorySink {
         })
     }
 
-    /// The bytes that were written.
+    /// Returns the bytes that were written.
     pub fn written(&self) -> &[u8]
         ensures { result.now ≡ self.now.written }
     {
@@ -150,7 +150,7 @@ impl Sink for MemorySink {
         ensures bytes { WriteAppends (Some self.old.written) (Some self.new.written) result piece.now }
         ensures cause { HasCause self.old.faults self.new.faults result }
 
-        // Which calls fail, and how much another one takes.
+        // Which calls fail, and how many bytes a successful call takes.
         ensures fails { IsErr result ↔ IsRefused self.old (length piece.now) }
         ensures count { IfOk result (λ n. n ≡ taken self.old (length piece.now)) }
         ensures ok { OnOk result (self.new ≡ after_write self.old piece.now) }

@@ -1,10 +1,12 @@
-//! What every layer stands on: numbers, lists, boxes, and the ends of the program.
+//! The base of every layer: numbers, lists, boxes, and the streams of the program.
 //!
 //! - `GoroutineId`, `ObjectId`: numbers that are given in order and never used again.
-//! - `List`, `Room`, `Boxed`: a vector, a vector with known room, and a box, which contracts see
-//!   as a list, a list with its spare room, and a value.
-//! - `Source`, `Sink`, `Gate`: what a program reads from, writes to and passes before each turn of
-//!   a marker, each with an implementation in memory and a real one.
+//! - `List`: a vector, which contracts see as a list.
+//! - `Room`: a vector, which contracts see as a list with its spare room.
+//! - `Boxed`: a box, which contracts see as its value.
+//! - `Source`, `Sink`: the streams that a program reads from and writes to. Each has an
+//!   implementation in memory and a real one.
+//! - `Gate`: each marker passes it before each of its turns.
 #![tactic(auto)]
 
 mod boxed;
@@ -28,8 +30,8 @@ pub use streams::{
 
 /// Out of memory.
 ///
-/// It is the one answer that no clause ties to a cause: a call that answers it says what stands
-/// after it, and tests show that it does not come if memory is ample.
+/// No clause ties this error to a cause. A call that returns it still says which state it leaves.
+/// Tests show that it does not come if memory is ample.
 #[derive(Clone, Copy, Debug, PartialEq, Eq)]
 pub struct Memory;
 

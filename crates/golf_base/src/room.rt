@@ -1,4 +1,7 @@
-//! A vector of which contracts also see how many items it can take without memory.
+//! A vector of which contracts also see how many items it can still take without memory.
+//!
+//! The main word is `spare`, that number. A caller that reserves room first can add items by
+//! `push_ready`, which cannot fail.
 
 ghost use Rattle.std.specs.Prelude.{◌≡◌, [], ◌∷◌, ◌++◌, ◌+◌, ◌-◌, ◌<◌, ◌≤◌, ◌↔◌, length, remove, slice_get, take};
 ghost use Rattle.std.specs.Prelude.{IsTrue, MatchOption, OnOk, OnErr, IfOk};
@@ -10,10 +13,10 @@ use crate::{List, Memory};
 use std::alloc::Global;
 use std::marker::Model;
 
-/// A vector of which contracts see the items and one number more, `spare`: how many items it can
-/// still take without memory.
+/// A vector of which contracts see the items and one more number, `spare`. It says how many items
+/// the vector can still take without memory.
 ///
-/// `push` and `reserve` alone take memory, and `push_ready` and `push` alone lower `spare`.
+/// Only `with_room`, `push` and `reserve` take memory. Only `push_ready` and `push` lower `spare`.
 #[derive(Debug, Drop)]
 pub struct Room<T> {
     inner: Vec<T>,
@@ -31,7 +34,7 @@ impl<T> Model for Room<T> {
 }
 
 impl<T> Room<T> {
-    /// No items, and no room. It takes no memory.
+    /// Returns a vector without items and without room. It takes no memory.
     pub fn new(alloc: Global) -> Room<T>
         ensures items { result.items ≡ [] }
         ensures spare { result.spare ≡ 0 }
@@ -41,7 +44,7 @@ impl<T> Room<T> {
         }
     }
 
-    /// No items, and room for at least so many.
+    /// Returns a vector without items, with room for at least `count`.
     pub fn with_room(alloc: Global, count: usize) -> Result<Room<T>, Memory>
         ensures items { IfOk result (λ room. room.items ≡ []) }
         ensures spare { IfOk result (λ room. count ≤ room.spare) }
@@ -51,31 +54,35 @@ impl<T> Room<T> {
         })
     }
 
+    /// Returns the number of items.
     pub fn len(&self) -> usize
         ensures { result ≡ length self.now.items }
     {
         self.inner.len()
     }
 
+    /// Returns whether there is no item.
     pub fn is_empty(&self) -> bool
         ensures { IsTrue result ↔ (self.now.items ≡ []) }
     {
         self.inner.is_empty()
     }
 
-    /// How many items it can take without memory.
+    /// Returns how many items the vector can still take without memory.
     pub fn spare(&self) -> usize
         ensures { result ≡ self.now.spare }
     {
         self.inner.capacity() - self.inner.len()
     }
 
+    /// Lends the items for reading.
     pub fn as_slice(&self) -> &[T]
         ensures { result.now ≡ self.now.items }
     {
         self.inner.as_slice()
     }
 
+    /// Lends the items. A write to the loan is a write to the vector.
     pub fn as_mut_slice(&mut self) -> &mut [T]
         ensures* writes_back { sem 𝓛 (Lends (the_row T.row) (Array T.row 0) self.entry result (with_overwritten self.old)) }
         ensures value { result.now ≡ self.old.items }
@@ -83,7 +90,7 @@ impl<T> Room<T> {
         self.inner.as_mut_slice()
     }
 
-    /// Takes the last item.
+    /// Takes the last item and returns it, or `None` if there is none. Its room becomes spare.
     pub fn pop(&mut self) -> Option<T>
         ensures items { MatchOption result ((self.old.items ≡ []) × (self.new.items ≡ [])) (λ last. self.old.items ≡ self.new.items ++ last ∷ []) }
         ensures spare { self.new.spare + length self.new.items ≡ self.old.spare + length self.old.items }
@@ -91,7 +98,7 @@ impl<T> Room<T> {
         self.inner.pop()
     }
 
-    /// Takes the item at a place, and closes up the list.
+    /// Takes the item at a place and returns it. The later items move up by one place.
     pub fn remove(&mut self, at: usize) -> T
         requires { at < length self.old.items }
         ensures item { slice_get self.old.items at ≡ Some result }
@@ -101,7 +108,8 @@ impl<T> Room<T> {
         self.inner.remove(at)
     }
 
-    /// Makes `spare` at least `more`. The items stay.
+    /// Makes `spare` at least `more`. The items stay the same. On `Err` `spare` stays the same,
+    /// too.
     pub fn reserve(&mut self, more: usize) -> Result<(), Memory>
         ensures items { self.new.items ≡ self.old.items }
         ensures spare { self.old.spare ≤ self.new.spare }
@@ -112,7 +120,7 @@ impl<T> Room<T> {
         Ok(())
     }
 
-    /// The items as a `List`, as they lie in memory.
+    /// Returns the items as a `List`. They stay where they lie in memory.
     pub fn into_list(self) -> List<T>
         ensures { result ≡ self.items }
     {
@@ -122,7 +130,7 @@ impl<T> Room<T> {
 }
 
 impl<T: Drop> Room<T> {
-    /// Drops all items, and keeps their room.
+    /// Drops all items and keeps their room.
     pub fn clear(&mut self)
         ensures items { self.new.items ≡ [] }
         ensures spare { self.new.spare ≡ self.old.spare + length self.old.items }
@@ -130,7 +138,7 @@ impl<T: Drop> Room<T> {
         self.inner.clear();
     }
 
-    /// Drops the items from place `n` on, and keeps their room.
+    /// Drops the items from place `n` on and keeps their room.
     pub fn truncate(&mut self, n: usize)
         ensures items { self.new.items ≡ take n self.old.items }
         ensures spare { self.new.spare + length self.new.items ≡ self.old.spare + length self.old.items }
@@ -138,7 +146,7 @@ impl<T: Drop> Room<T> {
         self.inner.truncate(n);
     }
 
-    /// Adds an item at the end, for which there is room.
+    /// Adds an item at the end. The caller knows that there is room for it.
     #[inline(always)]
     pub fn push_ready(&mut self, value: T)
         requires { 0 < self.old.spare }
@@ -148,7 +156,7 @@ impl<T: Drop> Room<T> {
         self.inner.push_reserved(value);
     }
 
-    /// Adds an item at the end.
+    /// Adds an item at the end. On `Err` the items are unchanged.
     pub fn push(&mut self, value: T) -> Result<(), Memory>
         ensures ok { OnOk result (self.new.items ≡ self.old.items ++ value ∷ []) }
         ensures err { OnErr result (self.new.items ≡ self.old.items) }

@@ -1,4 +1,6 @@
-//! The real streams, of whose content nothing is told: the trusted edge of the program.
+//! The real streams: the trusted edge of the program.
+//!
+//! Contracts say nothing of their bytes. They say only that a count of faults rises at each call that fails.
 
 ghost use Rattle.std.specs.Prelude.{None, ◌<◌, IfSome, length};
 ghost use Rattle.std.specs.Counts.{IsPrefixLen};
@@ -6,7 +8,7 @@ ghost use Rattle.std.specs.Counts.{IsPrefixLen};
 use crate::streams::{Failed, Sink, Source, one_more};
 use std::io::{Read, Stderr, Stdin, Stdout, Write};
 
-/// A stream that bytes come from. Its count of faults rises at each read that fails.
+/// A stream that bytes are read from. Its count of faults rises at each read that fails.
 #[derive(Drop)]
 pub struct StreamSource<R> {
     input: R,
@@ -17,6 +19,7 @@ pub struct StreamSource<R> {
 pub type StdSource = StreamSource<Stdin>;
 
 impl<R> StreamSource<R> {
+    /// Returns a source that reads from this stream, and has met no fault yet.
     pub fn new(input: R) -> StreamSource<R> {
         StreamSource { input, failed: 0 }
     }
@@ -38,8 +41,8 @@ impl<R: Read> Source for StreamSource<R> {
     }
 }
 
-// Writes a prefix of the piece and flushes. None if that failed, or if nothing of
-// a piece that is not empty was taken.
+// Writes a prefix of the piece and flushes. Returns how many bytes it wrote. Returns `None` if a call failed, or if
+// nothing of a piece that is not empty was taken.
 fn write_and_flush<W: Write>(output: &mut W, piece: &[u8]) -> Option<usize>
     ensures bound { IfSome result (λ n. IsPrefixLen n piece.now) }
     ensures some { IfSome result (λ n. 0 < length piece.now → 0 < n) }
@@ -52,8 +55,10 @@ fn write_and_flush<W: Write>(output: &mut W, piece: &[u8]) -> Option<usize>
     Some(count)
 }
 
-/// A stream that bytes go to. Its count of faults rises at each write or flush that fails, and at each
-/// write that takes nothing of a piece that is not empty.
+/// A stream that bytes are written to.
+///
+/// Its count of faults rises at each write or flush that fails. It also rises at each write that takes nothing of a
+/// piece that is not empty.
 #[derive(Drop)]
 pub struct StreamSink<W> {
     output: W,
@@ -67,6 +72,7 @@ pub type StdSink = StreamSink<Stdout>;
 pub type StdErrSink = StreamSink<Stderr>;
 
 impl<W> StreamSink<W> {
+    /// Returns a sink that writes to this stream, and has met no fault yet.
     pub fn new(output: W) -> StreamSink<W> {
         StreamSink { output, failed: 0 }
     }

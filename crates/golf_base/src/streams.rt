@@ -1,4 +1,7 @@
-//! What a program reads from, what it writes to, and the gate that markers pass.
+//! The streams that a program reads from and writes to, and the gate that markers pass.
+//!
+//! The main word is the count of faults. A stream counts each call that fails, so that a caller
+//! which reports a fault can be checked against the count.
 
 ghost use Rattle.std.specs.Prelude.{◌≡◌, ◌<◌, ◌≤◌, List, ℕ, length, Option, IfOk, IsErrOf, OnOk};
 ghost use Rattle.std.specs.Io.{ReadsAtMost, WritesAtMost};
@@ -18,7 +21,7 @@ pub struct Failed;
 #[derive(Clone, Copy, Debug, PartialEq, Eq)]
 pub struct WriteFault;
 
-/// Why a file was not read.
+/// Why a file could not be read.
 #[derive(Clone, Copy, Debug, PartialEq, Eq)]
 pub enum ReadError {
     ReadFault,
@@ -48,15 +51,16 @@ impl From<Failed> for WriteFault {
     }
 }
 
-/// Where bytes come from.
+/// A stream that bytes are read from.
 pub trait Source {
-    /// The bytes that are left, if it tells them.
+    /// The bytes that are left, if the source makes them known.
     ghost left: { Self → Option (List ℕ) };
 
-    /// How often it has failed.
+    /// How often the source has failed.
     ghost faults: { Self → ℕ };
 
-    /// Takes bytes from the front of those left. None are taken only at the end, or at an `Err`.
+    /// Takes bytes from the front of those left and returns how many. It takes none only at the end
+    /// of input or on `Err`.
     fn read(&mut self, into: &mut [u8]) -> Result<usize, Failed>
         requires { 0 < length into.old }
         ensures bound { ReadsAtMost result into.new }
@@ -64,15 +68,15 @@ pub trait Source {
         ensures cause { HasCause (faults self.old) (faults self.new) result };
 }
 
-/// Where bytes go.
+/// A stream that bytes are written to.
 pub trait Sink {
-    /// The bytes that were written, if it tells them.
+    /// The bytes that were written, if the sink makes them known.
     ghost written: { Self → Option (List ℕ) };
 
-    /// How often it has failed.
+    /// How often the sink has failed.
     ghost faults: { Self → ℕ };
 
-    /// Appends a prefix of the piece, at least one if it is not empty.
+    /// Appends a prefix of the piece and returns its length, which is 0 only if the piece is empty.
     fn write(&mut self, piece: &[u8]) -> Result<usize, Failed>
         ensures bound { WritesAtMost result piece.now }
         ensures some { IfOk result (λ n. 0 < length piece.now → 0 < n) }
@@ -80,7 +84,7 @@ pub trait Sink {
         ensures cause { HasCause (faults self.old) (faults self.new) result };
 }
 
-/// What a marker passes before each of its turns.
+/// A call that each marker makes before each of its turns.
 pub trait Gate {
     fn pass(&self, marker: u32, turn: u64);
 }
@@ -93,7 +97,7 @@ impl Gate for OpenGate {
     fn pass(&self, _marker: u32, _turn: u64) {}
 }
 
-// A count of faults after one more. It stands still at its type's end.
+// Returns the count of faults after one more. The last value of the type stays as it is.
 pub(crate) fn one_more(faults: u64) -> u64
     ensures next { result ≡ next_fault faults }
     ensures later { faults ≤ result }
@@ -102,7 +106,8 @@ pub(crate) fn one_more(faults: u64) -> u64
     faults.saturating_add(1)
 }
 
-/// Reads to the end of input, or until more than `limit` bytes came.
+/// Returns all bytes up to the end of input. If there are more than `limit` bytes it returns
+/// `TooLong`.
 pub fn read_file<S: Source>(
     alloc: Global,
     source: &mut S,
@@ -113,10 +118,10 @@ pub fn read_file<S: Source>(
     ensures at_end { OnOk result (IsAtEnd (S.left source.new)) }
     ensures within { IfOk result (λ bytes. length bytes ≤ limit) }
 
-    // Too long is told only if more bytes came.
+    // `TooLong` is returned only if there were more bytes than the limit.
     ensures too_long { IsErrOf result ReadError.TooLong → ReadsSome (S.left source.old) (S.left source.new) limit }
 
-    // A fault is told if the source has failed, and nowhere else.
+    // The result is `ReadFault` only if the source has failed. Otherwise the count stays the same.
     ensures cause { ReadCause result (S.faults source.old) (S.faults source.new) }
     ensures later { S.faults source.old ≤ S.faults source.new }
 {
@@ -132,12 +137,12 @@ pub fn read_file<S: Source>(
     Err(ReadError::TooLong)
 }
 
-/// Writes the whole piece. It takes no memory.
+/// Writes the whole piece. On `Err` the sink has a prefix of it. It takes no memory.
 pub fn write_all<K: Sink>(sink: &mut K, piece: &[u8]) -> Result<(), WriteFault>
     ensures ok { OnOk result (Appends (K.written sink.old) (K.written sink.new) piece.now) }
     ensures prefix { WritesPrefix (K.written sink.old) (K.written sink.new) piece.now }
 
-    // A fault is told if the sink has failed, and nowhere else.
+    // An error comes only if the sink has failed. Without an error the count stays the same.
     ensures cause { HasCause (K.faults sink.old) (K.faults sink.new) result }
 {
     let mut at = 0;

@@ -5,7 +5,7 @@ use golf_data::{Code, Instr, Value};
 use golf_tests_support::{code, function, lines};
 use std::alloc::Global;
 
-/// What a code does over and over.
+/// The work that a code repeats.
 #[derive(Clone, Copy, Debug, PartialEq, Eq)]
 pub(crate) enum Kind {
     /// One goroutine sums up the numbers below 1,000,000: loads, sums, comparisons, jumps.
@@ -16,7 +16,7 @@ pub(crate) enum Kind {
     Mutex,
 }
 
-// The code of two functions without an argument, and of two globals.
+// The code of two functions without arguments, with two globals.
 fn program(alloc: Global, main: Vec<Instr>, other: Vec<Instr>) -> Result<Code, Memory> {
     let mut functions = List::new(alloc);
     functions.push(function(alloc, 0, lines(alloc, main)?)?)?;
@@ -46,7 +46,8 @@ fn looping(alloc: Global) -> Result<Code, Memory> {
     program(alloc, main, Vec::new(alloc))
 }
 
-// One sends on the first channel and receives from the second, the other one the other way round.
+// One goroutine sends on the first channel and receives from the second, and the other one does the
+// opposite.
 fn talking(alloc: Global) -> Result<Code, Memory> {
     let main = vec![in alloc;
         Instr::Int(0),
@@ -76,7 +77,7 @@ fn talking(alloc: Global) -> Result<Code, Memory> {
     program(alloc, main, other)
 }
 
-// Both lock and unlock it.
+// Two goroutines lock and unlock the same mutex.
 fn locking(alloc: Global) -> Result<Code, Memory> {
     let main = vec![in alloc;
         Instr::NewMutex,
@@ -98,7 +99,7 @@ fn locking(alloc: Global) -> Result<Code, Memory> {
     program(alloc, main, other)
 }
 
-/// The code of a kind.
+/// Returns the code of a kind.
 pub(crate) fn code_of(alloc: Global, kind: Kind) -> Result<Code, Memory> {
     match kind {
         Kind::Loop => looping(alloc),

@@ -1,4 +1,4 @@
-//! A collection, and the time that its parts take.
+//! Measures a collection and its parts.
 
 ghost use Rattle.std.specs.Prelude.{◌≡◌, ◌<◌, ◌≤◌, true, IfOk, IsTrue, Some, slice_get};
 ghost use Rattle.std.specs.List.Sorted.{IsNonDecreasingBy};
@@ -19,7 +19,7 @@ use std::rt::Clock;
 use std::thread::Threads;
 use std::time::Instant;
 
-/// The microseconds after which each part of a collection has ended.
+/// The microseconds from the start of a collection to the end of each part.
 #[derive(Clone, Copy, Debug)]
 pub(crate) struct Parts {
     pub(crate) graph: u128,
@@ -61,7 +61,7 @@ fn are_rising(goroutines: &[GoroutineId]) -> bool
     goroutines.is_sorted()
 }
 
-// Frees what is not flagged, unless goroutine 0 were gone with it.
+// Removes these goroutines if goroutine 0 is not among them, and frees the objects that are not flagged.
 fn free(alloc: Global, state: &mut State, gone: &[GoroutineId], keep: &[bool]) -> Result<(), Memory>
     requires { IsNonDecreasingBy (λ g. g.0) gone.now }
 {
@@ -77,7 +77,7 @@ fn free(alloc: Global, state: &mut State, gone: &[GoroutineId], keep: &[bool]) -
     Ok(())
 }
 
-/// Does the parts of a collection one by one, without a report and a book.
+/// Does the parts of a collection one by one, without a report and a book. Returns the times.
 pub(crate) fn time_parts<R: Clock + Threads + Sync>(
     rt: &R,
     alloc: Global,
@@ -113,7 +113,8 @@ pub(crate) fn time_parts<R: Clock + Threads + Sync>(
     })
 }
 
-/// A whole collection of such a state, and how many microseconds it took.
+/// Does a whole collection of a state with this many pairs. Returns its report, and how many microseconds
+/// it took.
 pub(crate) fn time_whole<R: Clock + Threads + Sync>(
     rt: &R,
     alloc: Global,

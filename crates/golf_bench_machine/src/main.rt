@@ -1,11 +1,13 @@
-//! Measures turns and collections.
+//! Measures turns and collections. It understands these words:
 //!
-//! With the words CODE BLOCKED TURNS it runs so many turns of that code (`loop`, `channel` or `mutex`),
-//! with so many goroutines blocked on channels of their own. With the words PAIRS MARKERS it leads a code
-//! to a state in which two goroutines a pair are blocked, each on a channel of its own, and one of the two
-//! is live; it takes a collection of that state apart, without recovery and with it. It prints how many
-//! microseconds that took. With no word it runs a few turns of each code and collects a small state, and
-//! prints what there is then.
+//! - `CODE BLOCKED TURNS` takes that many turns of that code (`loop`, `channel` or `mutex`). That many
+//!   goroutines are blocked on their own channels meanwhile.
+//! - `PAIRS MARKERS` leads a code to a state with that many pairs of goroutines. Each goroutine is blocked
+//!   on its own channel, and one of each pair is live. It measures the parts of a collection of that state,
+//!   without recovery and with it.
+//! - Without a word it takes a few turns of each code and collects a small state, and prints the counts.
+//!
+//! The times are in microseconds.
 #![tactic(auto)]
 
 mod codes;

@@ -1,4 +1,4 @@
-//! What the words ask for.
+//! The measurement that the words ask for.
 
 ghost use Rattle.std.specs.Prelude.{◌≡◌, length};
 
@@ -9,13 +9,13 @@ use crate::codes::Kind;
 pub(crate) enum Order {
     /// A few turns of each code, and a collection of a small state.
     Small,
-    /// So many turns of a code, with so many goroutines blocked elsewhere.
+    /// This many turns of a code, while `blocked` goroutines are blocked elsewhere.
     Turns {
         kind: Kind,
         blocked: u32,
         turns: u64,
     },
-    /// Collections of so many pairs of goroutines, by so many markers.
+    /// Collections of a state with this many pairs of goroutines, by this many markers.
     Collections {
         pairs: u32,
         markers: u32,
@@ -52,7 +52,7 @@ fn turns(words: &[String]) -> Option<Order>
     })
 }
 
-/// The measurement that the words ask for.
+/// Returns the measurement that the words ask for, or `None`.
 pub(crate) fn read_order(words: &[String]) -> Option<Order> {
     match words.len() {
         0 => Some(Order::Small),

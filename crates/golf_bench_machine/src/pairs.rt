@@ -1,4 +1,4 @@
-//! A state in which many goroutines are blocked, of which half are live.
+//! A state in which many goroutines are blocked. Half of them are live.
 
 ghost use Rattle.std.specs.Prelude.{IfOk};
 ghost use Rattle.golf_model.specs.Futures.{Leads, Numbered};
@@ -11,8 +11,9 @@ use golf_state::State;
 use golf_tests_support::{code, function, lines, take_turn};
 use std::alloc::Global;
 
-// `main` starts two goroutines a pair, each of which receives from a channel of its own. The channel of
-// the second stands in a list of structs that a global holds. Then `main` runs on.
+// The instructions of `main`: it starts two goroutines for each pair, each of which receives from its own
+// channel. The channel of the second one is in a list of structs that a global holds. Then `main` runs for
+// ever.
 fn starts(alloc: Global, pairs: u32) -> Result<Vec<Instr>, Memory> {
     let instrs = vec![in alloc;
         Instr::Int(i64::from(pairs)),
@@ -49,13 +50,13 @@ fn starts(alloc: Global, pairs: u32) -> Result<Vec<Instr>, Memory> {
     Ok(instrs)
 }
 
-// The function receives from its argument.
+// The instructions of a function that receives from its argument.
 fn receives(alloc: Global) -> Result<Vec<Instr>, Memory> {
     let instrs = vec![in alloc; Instr::Load(0), Instr::Receive, Instr::Return]?;
     Ok(instrs)
 }
 
-// The code that starts so many pairs of goroutines.
+// The code that starts this many pairs of goroutines.
 fn pairs_code(alloc: Global, pairs: u32) -> Result<Code, Memory> {
     let mut functions = List::new(alloc);
     functions.push(function(alloc, 0, lines(alloc, starts(alloc, pairs)?)?)?)?;
@@ -63,7 +64,7 @@ fn pairs_code(alloc: Global, pairs: u32) -> Result<Code, Memory> {
     code(alloc, functions, &[Value::Nil], &[Value::Nil, Value::Nil])
 }
 
-// So many turns of the code.
+// The state after this many turns of the code.
 fn lead(alloc: Global, code: &Code, turns: u64) -> Result<State, Memory>
     ensures { IfOk result (Leads code.now) }
 {
@@ -76,8 +77,8 @@ fn lead(alloc: Global, code: &Code, turns: u64) -> Result<State, Memory>
     Ok(state)
 }
 
-/// The state in which so many pairs of goroutines are blocked, of each pair the second live, and `main`
-/// runs.
+/// Returns the state in which this many pairs of goroutines are blocked. The second goroutine of each pair
+/// is live, and `main` runs.
 pub(crate) fn blocked_state(alloc: Global, pairs: u32) -> Result<State, Memory>
     ensures numbered { IfOk result Numbered }
     ensures whole { IfOk result IsWhole }

@@ -1,4 +1,4 @@
-//! A run of turns and the time that it takes.
+//! Measures a run of turns.
 
 ghost use Rattle.std.specs.Prelude.{◌-◌, ◌^◌};
 ghost use Rattle.golf_bench_machine.specs.Countdown.{counted_down};
@@ -14,7 +14,7 @@ use std::alloc::Global;
 use std::rt::Clock;
 use std::time::Instant;
 
-// An unbuffered channel.
+// A new unbuffered channel.
 fn channel(alloc: Global) -> Object {
     Object::Chan(Channel {
         capacity: 0,
@@ -24,7 +24,7 @@ fn channel(alloc: Global) -> Object {
     })
 }
 
-// One more goroutine, which is blocked by a receive from a channel of its own.
+// Adds a goroutine that is blocked by a receive from its own channel.
 fn block_one(alloc: Global, state: &mut State) -> Result<(), Memory> {
     let object = state.make(channel(alloc))?;
     let g = state.spawn(List::new(alloc), 1)?;
@@ -39,7 +39,7 @@ fn block_one(alloc: Global, state: &mut State) -> Result<(), Memory> {
     state.block(g, WaitKind::Receive, 1, waits, 0, 0)
 }
 
-// The state before the first turn, with so many goroutines blocked.
+// The state before the first turn, with `blocked` goroutines blocked.
 fn prepare(alloc: Global, code: &Code, blocked: u32) -> Result<State, Memory> {
     let mut state = start(alloc, code)?;
     for _ in 0..blocked {
@@ -48,7 +48,7 @@ fn prepare(alloc: Global, code: &Code, blocked: u32) -> Result<State, Memory> {
     Ok(state)
 }
 
-// The numbers below this one, the last one first.
+// The numbers below this one, from the largest down.
 #[derive(Drop)]
 struct Countdown {
     left: u64,
@@ -65,7 +65,7 @@ impl Numbers for Countdown {
     }
 }
 
-// So many turns.
+// Takes this many turns.
 fn run(alloc: Global, code: &Code, state: &mut State, turns: u64) -> Result<(), Memory> {
     if !can_run(code) {
         return Ok(());
@@ -78,7 +78,8 @@ fn run(alloc: Global, code: &Code, state: &mut State, turns: u64) -> Result<(), 
     Ok(())
 }
 
-/// How many microseconds so many turns of a code take, with so many goroutines blocked elsewhere.
+/// Returns how many microseconds this many turns of a code take, while `blocked` goroutines are blocked
+/// elsewhere.
 pub(crate) fn time_turns<R: Clock>(
     rt: &R,
     alloc: Global,
@@ -93,7 +94,7 @@ pub(crate) fn time_turns<R: Clock>(
     Ok(begin.elapsed(rt)?.as_micros())
 }
 
-/// How many goroutines there are after so many turns, goroutine 0 among them.
+/// Returns how many goroutines there are after this many turns. Goroutine 0 counts.
 pub(crate) fn count_goroutines(alloc: Global, kind: Kind, turns: u64) -> Result<usize, Memory> {
     let code = code_of(alloc, kind)?;
     let mut state = prepare(alloc, &code, 10)?;

@@ -1,4 +1,4 @@
-//! A certificate, its check and all reasons, and the time that they take beside the marking.
+//! Measures a certificate, its check and all reasons, beside the marking.
 
 use golf_base::OpenGate;
 use golf_cert::{Reasons, Verdict, certify, verify};
@@ -10,17 +10,17 @@ use std::fmt::{Display, Formatter, Write};
 use std::rt::Clock;
 use std::time::Instant;
 
-/// What certifying one graph took, in nanoseconds.
+/// The times of certifying one graph, in nanoseconds.
 #[derive(Clone, Copy, Debug)]
 pub(crate) struct Certified {
     /// How many links the certificate has.
     links: usize,
     verdict: Verdict,
-    /// The plain marking.
+    /// The time of the marking in one thread.
     mark: u128,
     certify: u128,
     verify: u128,
-    /// What the reasons of all sleepers need.
+    /// The time of preparing the reasons of all sleepers.
     reasons: u128,
 }
 
@@ -34,8 +34,8 @@ impl Display for Certified {
     }
 }
 
-/// Marks a graph, certifies the marking, checks the certificate, and prepares the reasons of all
-/// sleepers.
+/// Marks a graph, certifies the marking, checks the certificate, and prepares the reasons of all sleepers.
+/// Returns the times.
 pub(crate) fn measure_certificate<R: Clock>(
     rt: &R,
     alloc: Global,

@@ -1,23 +1,23 @@
-//! Graphs whose least closed set is certified.
+//! Graphs for the measurement of certificates.
 
 use golf_base::List;
 use golf_model::Graph;
 use golf_tests_support::{GraphFault, GraphMaker, Shape, shaped};
 use std::alloc::Global;
 
-/// How the places of a graph hang together.
+/// The shape of a graph.
 #[derive(Clone, Copy, Debug, PartialEq, Eq)]
 pub(crate) enum Places {
-    /// Nodes alone, in one of the shapes that are marked.
+    /// Only nodes, in one of the shapes of the markings.
     Nodes(Shape),
     /// The root refers to each other node.
     Star,
-    /// Half of the places are sleepers. Each waits on the node of its number, and refers to the
-    /// next one.
+    /// Half of the places are sleepers. Each waits on the node of its own number, and refers to the next
+    /// node.
     Relay,
 }
 
-/// A graph with so many places.
+/// Returns a graph with `count` places.
 pub(crate) fn graph_of(alloc: Global, places: Places, count: u32) -> Result<Graph, GraphFault> {
     match places {
         Places::Nodes(shape) => shaped(alloc, shape, count),
@@ -38,7 +38,7 @@ fn star(alloc: Global, nodes: u32) -> Result<Graph, GraphFault> {
     maker.root(0)?.finish()
 }
 
-// As many sleepers as nodes.
+// A graph with about as many sleepers as nodes.
 fn relay(alloc: Global, nodes: u32) -> Result<Graph, GraphFault> {
     let mut maker = GraphMaker::new(alloc, nodes);
     for _ in 0..nodes {

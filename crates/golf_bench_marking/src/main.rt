@@ -1,12 +1,12 @@
-//! Measures the marking.
+//! Measures the marking. It understands these words:
 //!
-//! With the words SHAPE NODES MARKERS it makes a graph of that shape (`list`, `shuffled`, `tree`,
-//! `quad`, `random` or `dense`) with so many nodes, marks it by so many markers, 0 for the plain
-//! marking in one thread, and prints what that took. With the words `certificate SHAPE PLACES` it
-//! marks a graph in one thread, certifies the marking, checks the certificate and prepares the
-//! reasons of all sleepers, and prints what each took. Two more shapes are `star`, and `relay`,
-//! half of whose places are sleepers. With no word it marks a small graph of each shape, and prints
-//! how many nodes are marked.
+//! - `SHAPE NODES MARKERS` makes a graph of that shape with that many nodes. It marks the graph by that
+//!   many markers, or in one thread for 0, and prints the times. A shape is `list`, `shuffled`, `tree`,
+//!   `quad`, `random` or `dense`.
+//! - `certificate SHAPE PLACES` marks a graph in one thread, certifies the marking, checks the certificate,
+//!   and prepares the reasons of all sleepers. It prints the times. Two more shapes are `star`, and
+//!   `relay`, half of whose places are sleepers.
+//! - Without a word it marks a small graph of each shape, and prints how many nodes are marked.
 #![tactic(auto)]
 
 mod certificate;

@@ -1,4 +1,4 @@
-//! A marking and the time that it takes.
+//! Measures a marking.
 
 ghost use Rattle.std.specs.Prelude.{◌≤◌};
 
@@ -12,11 +12,11 @@ use std::rt::Clock;
 use std::thread::Threads;
 use std::time::Instant;
 
-/// What a marking took.
+/// The result of a measurement.
 #[derive(Clone, Copy, Debug)]
 pub(crate) struct Took {
     marked: usize,
-    /// The nanoseconds of making all that the markers need. 0 for the plain marking.
+    /// The nanoseconds in which all that the markers need is made. 0 for the marking in one thread.
     prepare: u128,
     /// The nanoseconds of the marking.
     mark: u128,
@@ -33,7 +33,7 @@ impl Display for Took {
     }
 }
 
-/// Marks a graph by so many markers, or by the plain marking if the count is 0.
+/// Marks a graph by `markers` markers, or in one thread if the count is 0. Returns the times.
 pub(crate) fn measure<R: Clock + Threads + Sync>(
     rt: &R,
     alloc: Global,
@@ -64,7 +64,7 @@ pub(crate) fn measure<R: Clock + Threads + Sync>(
     })
 }
 
-/// How many nodes two markers mark.
+/// Returns how many nodes two markers mark.
 pub(crate) fn count_marked<R: Threads + Sync>(
     rt: &R,
     alloc: Global,

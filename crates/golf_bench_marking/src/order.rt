@@ -1,4 +1,4 @@
-//! What the words ask for.
+//! The measurement that the words ask for.
 
 ghost use Rattle.std.specs.Prelude.{◌≤◌, IfSome};
 
@@ -10,7 +10,7 @@ use golf_tests_support::Shape;
 pub(crate) struct Order {
     pub(crate) shape: Shape,
     pub(crate) nodes: u32,
-    /// How many markers, or 0 for the plain marking.
+    /// How many markers, or 0 for the marking in one thread.
     pub(crate) markers: u32,
 }
 
@@ -33,7 +33,7 @@ fn shape_of(word: &str) -> Option<Shape> {
     }
 }
 
-/// The measurement that the words ask for.
+/// Returns the measurement that the words ask for, or `None`.
 pub(crate) fn read_order(words: &[String]) -> Option<Order>
     ensures { IfSome result (λ order. order.markers ≤ 16) }
 {
@@ -61,7 +61,7 @@ fn places_of(word: &str) -> Option<Places> {
     }
 }
 
-/// The measurement of certificates that the words ask for.
+/// Returns the measurement of certificates that the words ask for, or `None`.
 pub(crate) fn read_certificate_order(words: &[String]) -> Option<CertificateOrder> {
     if words.len() != 3 || words[0].as_str() != "certificate" {
         return None;

@@ -1,4 +1,4 @@
--- What is promised of the definitions.
+-- Laws on levels and reasons.
 use Rattle.std.specs.Prelude.{◌≡◌, ◌≤◌, ◌↔◌, ℕ, List, []}
 use Rattle.golf_theory.specs.Membership.{In}
 use Rattle.golf_theory.specs.Counting.{times}
@@ -7,11 +7,11 @@ use Rattle.golf_model.specs.Graph.{Least, IsInRange}
 use Rattle.golf_cert.specs.Levels.{IsReason}
 use Rattle.golf_cert.specs.Computing.{least_in_order, reason_to}
 
--- a place has one reason at most
+-- a place has at most one reason
 abbrev pub OneReason : Type 0
 OneReason = (g : GraphParts) (p : ℕ) (a b : List ℕ) → IsReason g p a → IsReason g p b → a ≡ b
 
--- the computed list is the one reason of each place of the least closed set, and empty for all others
+-- the computed list is the one reason of each place of the least closed set, and is empty for any other place
 abbrev pub ReasonsComputed : Type 0
 ReasonsComputed = (g : GraphParts) → IsInRange g → (p : ℕ)
     → ((places : List ℕ) → IsReason g p places ↔ (Least g p × (places ≡ reason_to g p)))

@@ -1,4 +1,4 @@
--- Links of a graph: which place each one places, and when it is justified.
+-- Links of a graph: the place that each one places, and when it is justified.
 use Rattle.std.specs.Prelude.{◌≡◌, ◌<◌, ◌⊎◌, ◌↔◌, ℕ, List, map, take, length, slice_get, Some}
 use Rattle.golf_theory.specs.Membership.{In}
 use Rattle.golf_model.specs.declared.graph.GraphParts.{GraphParts}
@@ -22,7 +22,7 @@ placed_by g (Held sleeper node) = node
 abbrev pub places_of : GraphParts → List Link → List ℕ
 places_of g links = map (placed_by g) links
 
--- a link is justified if places of this kind were placed before it
+-- a link is justified if it is a root link of a root, or an edge whose source is placed
 abbrev pub IsJustifiedAmong : GraphParts → (ℕ → Type 0) → Link → Type 0
 IsJustifiedAmong g Placed (Root node) = In node g.roots
 IsJustifiedAmong g Placed (Child from to) = Placed from × In to (children_of g from)
@@ -30,39 +30,40 @@ IsJustifiedAmong g Placed (Woken node sleeper) = Placed node × In node (sleeper
 IsJustifiedAmong g Placed (Held sleeper node) = Placed (sleeper_place g sleeper)
     × In node (sleeper_references g sleeper)
 
--- if these places were placed before it
+-- a link is justified if these places were placed before it
 abbrev pub IsJustifiedBy : GraphParts → List ℕ → Link → Type 0
 IsJustifiedBy g before link = IsJustifiedAmong g (λ p. In p before) link
 
--- the link of this number, from 0, is justified by those before it
+-- the link of this number, from 0, is justified by the links before it
 abbrev pub IsJustifiedAt : GraphParts → List Link → ℕ → Type 0
 IsJustifiedAt g links i = (link : Link) × (slice_get links i ≡ Some link)
     × IsJustifiedBy g (places_of g (take i links)) link
 
--- each link of a number below the bound is justified by those before it
+-- each link of a number below the bound is justified by the links before it
 abbrev pub AreJustifiedBelow : GraphParts → List Link → ℕ → Type 0
 AreJustifiedBelow g links bound = (i : ℕ) → i < bound → IsJustifiedAt g links i
 
--- each link is justified by those before it
+-- each link is justified by the links before it
 abbrev pub AreJustified : GraphParts → List Link → Type 0
 AreJustified g links = AreJustifiedBelow g links (length links)
 
--- the roots are of this kind, and all that a place of the kind justifies
+-- the roots are placed, and all places that a placed place justifies
 pub record IsClosedSet (g : GraphParts) (Placed : ℕ → Type 0) : Type 0 where
   pub roots : (p : ℕ) → In p g.roots → Placed p
   pub justified : (p q : ℕ) → Placed p → Justifies g p q → Placed q
 
--- the roots are among these places, and all that one of them justifies
+-- the roots are among these places, and all places that one of them justifies
 abbrev pub IsClosed : GraphParts → List ℕ → Type 0
 IsClosed g places = IsClosedSet g (λ p. In p places)
 
--- this entry is the first that is not justified; past the last one: all are, and a place is missing
+-- the link of this number is the first that is not justified; past the last one: all are justified, and a place is
+-- missing
 abbrev pub IsRefusedAt : GraphParts → List Link → ℕ → Type 0
 IsRefusedAt g links i =
     ((i < length links) × AreJustifiedBelow g links i × (IsJustifiedAt g links i → ⊥))
     ⊎ ((i ≡ length links) × AreJustified g links × (IsClosed g (places_of g links) → ⊥))
 
--- what a verdict tells of the links of a certificate
+-- the meaning of a verdict on the links of a certificate
 pub record IsVerdictOn (g : GraphParts) (links : List Link) (verdict : Verdict) : Type 0 where
   pub proved : (verdict ≡ Proved) ↔ (AreJustified g links × IsClosed g (places_of g links))
   pub refused : (i : ℕ) → (verdict ≡ Refused i) ↔ IsRefusedAt g links i

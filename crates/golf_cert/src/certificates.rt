@@ -1,4 +1,7 @@
 //! Certificates of markings.
+//!
+//! A certificate lists the places of the least closed set by rising level. Each link follows from the links
+//! before it.
 
 ghost use Rattle.std.specs.Prelude.{◌^◌, ◌≡◌, ◌-◌, ◌<◌, ◌≤◌, ◌↔◌, ℕ, IfOk, OnOk, IsTrue, length, slice_index};
 ghost use Rattle.golf_theory.specs.Counting.{times};
@@ -35,7 +38,7 @@ fn is_marked(graph: &Graph, marked: &Marked, place: u32) -> bool
     }
 }
 
-// The link that places a place after its parent, or as a root if it has none.
+// The link from a place's parent to the place, or a root link if the place has no parent.
 fn link_to(graph: &Graph, walk: &Walk, parents: &[Option<u32>], place: u32) -> Link
     requires levels { HasLevels graph.now walk.now }
     requires parents { HasParents graph.now walk.now.levels parents.now }
@@ -95,12 +98,14 @@ fn links_of(
     Ok(links)
 }
 
-/// The certificate of a marking which has all places of the least closed set.
+/// Returns the certificate of a marking that has all places of the least closed set.
 ///
-/// Each place of that set is placed by exactly one link, each link is justified by those before it,
-/// and no place is missing, so that `verify` answers `Proved`. There are as many links as that set
-/// has places, fewer than 2^32, by rising level of their places. The time is linear in the graph.
-/// The only error is `Memory`.
+/// - Exactly one link places each place of that set.
+/// - Each link is justified by the links before it.
+/// - No place is missing. So `verify` returns `Proved`.
+///
+/// There are as many links as that set has places, fewer than 2^32, by rising level of their places. The
+/// time is linear in the graph. The only error is `Memory`.
 pub fn certify(alloc: Global, graph: &Graph, marked: &Marked) -> Result<Certificate, Memory>
     requires { CoversLeast graph.now marked.now }
     ensures justified { IfOk result (λ c. AreJustified graph.now c.links) }

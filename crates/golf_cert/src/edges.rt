@@ -1,4 +1,7 @@
-//! Which links are edges of the graph, whatever was placed before them.
+//! Finds which links of a certificate are edges of the graph, whatever places are placed before them.
+//!
+//! Each place stamps the places that it justifies. A link from that place is an edge exactly when its
+//! target has the stamp.
 
 ghost use Rattle.std.specs.Prelude.{◌^◌, ◌≡◌, ◌+◌, ◌<◌, ◌↔◌, ℕ, IfOk, OnOk, MatchOption, IsTrue, length, slice_get};
 ghost use Rattle.std.specs.Prelude.{Some};
@@ -16,14 +19,14 @@ use golf_model::Graph;
 use golf_rows::{add_to_all, empty_rows};
 use std::alloc::Global;
 
-/// The place from which a link leads, and the one that it places.
+/// The source of a link, and the place that it places.
 #[derive(Clone, Copy, Debug, PartialEq, Eq)]
 pub(crate) struct Step {
     pub(crate) from: u32,
     pub(crate) to: u32,
 }
 
-/// The link of this number.
+/// Returns the link of this number.
 pub(crate) fn link_at(links: &[Link], number: usize) -> Link
     requires { number < length links.now }
     ensures { slice_get links.now number ≡ Some result }
@@ -72,7 +75,7 @@ fn held_step(graph: &Graph, sleeper: u32, node: u32) -> Option<Step>
     })
 }
 
-/// The step that a link makes. A root makes none, nor does a link with a number out of range.
+/// Returns the step of a link. A root link has none, nor has a link with a number out of range.
 pub(crate) fn step_of(graph: &Graph, link: Link) -> Option<Step>
     ensures { MatchOption result (IsEdge graph.now link → ⊥) (IsStepOf graph.now link) }
 {
@@ -84,7 +87,7 @@ pub(crate) fn step_of(graph: &Graph, link: Link) -> Option<Step>
     }
 }
 
-// Enters the number of a link in the row of the place that it leads from.
+// Enters the number of a link in the row of its source.
 fn enter(graph: &Graph, rows: &mut List<List<u32>>, number: u32, link: Link) -> Result<(), Memory>
     requires { length rows.old ≡ place_count graph.now }
     ensures length { length rows.new ≡ length rows.old }
@@ -109,7 +112,7 @@ fn leading_rows(alloc: Global, graph: &Graph, links: &[Link]) -> Result<List<Lis
     Ok(rows)
 }
 
-// Stamps these places with the one that justifies them.
+// Stamps these places with the place that justifies them.
 fn stamp_all(stamps: &mut List<Option<u32>>, from: u32, places: &[u32])
     requires { Every (λ p. p < length stamps.old) places.now }
     ensures { Stamps from places.now stamps.old stamps.new }
@@ -127,7 +130,7 @@ fn stamp_at(stamps: &[Option<u32>], place: u32) -> Option<u32>
     stamps[place as usize]
 }
 
-// Whether the graph has a link, and it leads from the place that has stamped what it justifies.
+// Whether the link is an edge that leads from this place, which has stamped all places that it justifies.
 fn is_from(graph: &Graph, stamps: &[Option<u32>], from: u32, link: Link) -> bool
     requires size { length stamps.now ≡ place_count graph.now }
     requires stamps { (p : ℕ) → (parent_in stamps.now p ≡ Some from) ↔ Justifies graph.now from p }
@@ -142,7 +145,7 @@ fn is_from(graph: &Graph, stamps: &[Option<u32>], from: u32, link: Link) -> bool
     stamp_at(stamps, step.to) == Some(from)
 }
 
-// Sets the flag of a link if the graph has it and it leads from the place.
+// Sets the flag of a link if it is an edge that leads from this place.
 fn find(
     graph: &Graph,
     links: &[Link],
@@ -164,7 +167,7 @@ fn find(
     flags.set(number as usize, true);
 }
 
-// Sets the flags of those of these links that lead from a place.
+// Sets the flags of the links among these that are edges and lead from this place.
 fn find_all(
     graph: &Graph,
     links: &[Link],
@@ -184,7 +187,7 @@ fn find_all(
     }
 }
 
-// Finds the links that lead from a place.
+// Sets the flags of the edges that lead from a place.
 fn find_from(
     graph: &Graph,
     rows: &List<List<u32>>,
@@ -213,7 +216,7 @@ fn find_from(
     );
 }
 
-/// For each link whether the graph has it.
+/// Returns for each link whether it is an edge of the graph.
 pub(crate) fn edge_flags(
     alloc: Global,
     graph: &Graph,

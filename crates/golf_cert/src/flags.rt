@@ -7,14 +7,14 @@ ghost use Rattle.golf_marks.specs.Flags.{IsSet};
 use golf_base::{List, Memory};
 use std::alloc::Global;
 
-/// Whether a flag is set; there is none past the last one.
+/// Returns whether a flag is set. A number past the last flag counts as not set.
 pub(crate) fn is_set(flags: &[bool], at: u32) -> bool
     ensures { IsTrue result ↔ IsSet flags.now at }
 {
     flags.get(at as usize) == Some(&true)
 }
 
-/// So many flags, of which these are set.
+/// Returns `count` flags, of which those of these places are set.
 pub(crate) fn flags_of(alloc: Global, count: u32, places: &[u32]) -> Result<List<bool>, Memory>
     requires { Every (λ p. p < count) places.now }
     ensures length { IfOk result (λ flags. length flags ≡ count) }
@@ -28,7 +28,7 @@ pub(crate) fn flags_of(alloc: Global, count: u32, places: &[u32]) -> Result<List
     Ok(flags)
 }
 
-/// Whether the flags of all these places are set.
+/// Returns whether the flags of all these places are set.
 pub(crate) fn are_set(flags: &[bool], places: &[u32]) -> bool
     ensures { IsTrue result ↔ Every (IsSet flags.now) places.now }
 {

@@ -1,5 +1,8 @@
-//! Certificates that a marking is the least closed set of a graph, and reasons why a sleeper is in
+//! Certificates that a marking is the least closed set of a graph, and the reason for which a sleeper is in
 //! that set.
+//!
+//! - `certify`, `verify`: make a certificate, and check one.
+//! - `Reasons`, `reason`: the shortest list of places from a root to a sleeper.
 #![tactic(auto)]
 
 mod certificates;

@@ -1,4 +1,6 @@
-//! For each place the least one of the level below that justifies it.
+//! The parent of each place: the smallest place of the level below that justifies it.
+//!
+//! A root has no parent.
 
 ghost use Rattle.std.specs.Prelude.{◌^◌, ◌≡◌, ◌+◌, ◌<◌, IfOk, length, slice_index};
 ghost use Rattle.golf_theory.specs.Membership.{Every};
@@ -13,7 +15,7 @@ use golf_base::{List, Memory};
 use golf_model::Graph;
 use std::alloc::Global;
 
-// Makes a place the parent of one of the next level, if that has none.
+// Makes a place the parent of another one, if that is of the next level and has no parent.
 fn adopt(parents: &mut List<Option<u32>>, levels: &[usize], parent: u32, place: u32)
     requires size { length parents.old ≡ length levels.now }
     requires parent { parent < length levels.now }
@@ -27,7 +29,7 @@ fn adopt(parents: &mut List<Option<u32>>, levels: &[usize], parent: u32, place: 
     }
 }
 
-// Makes a place the parent of those of these places that are of the next level and have none.
+// Makes a place the parent of those of these places that are of the next level and have no parent.
 fn adopt_all(parents: &mut List<Option<u32>>, levels: &[usize], parent: u32, places: &[u32])
     requires size { length parents.old ≡ length levels.now }
     requires parent { parent < length levels.now }
@@ -40,7 +42,7 @@ fn adopt_all(parents: &mut List<Option<u32>>, levels: &[usize], parent: u32, pla
     }
 }
 
-// Makes a place the parent of all that it leads to and that have none.
+// Makes a place the parent of all places that it leads to and that have no parent.
 fn adopt_from(
     graph: &Graph,
     rows: &List<List<u32>>,
@@ -62,8 +64,8 @@ fn adopt_from(
     }
 }
 
-/// For each place its parent. The places are gone through in rising order, so that the first one
-/// that finds a place without a parent is the least.
+/// Returns the parent of each place. It walks over the places in rising order, so the first place that
+/// justifies another one is the smallest.
 pub(crate) fn parents_of(
     alloc: Global,
     graph: &Graph,
@@ -83,7 +85,7 @@ pub(crate) fn parents_of(
     Ok(parents)
 }
 
-/// The parent of a place.
+/// Returns the parent of a place, or `None`.
 pub(crate) fn parent_at(parents: &[Option<u32>], place: u32) -> Option<u32>
     requires { place < length parents.now }
     ensures { result ≡ parent_in parents.now place }

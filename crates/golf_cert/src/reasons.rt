@@ -1,4 +1,7 @@
-//! Why sleepers are awake.
+//! The reasons of sleepers.
+//!
+//! The reason of a place is the shortest list from a root to it. If several are equally short, parents make
+//! it unique.
 
 ghost use Rattle.std.specs.Prelude.{◌≡◌, ◌+◌, ◌<◌, ◌↔◌, [], ◌∷◌, IfOk, IsSome, IfSome, MatchOption, length};
 ghost use Rattle.std.specs.Prelude.{slice_index};
@@ -17,7 +20,7 @@ use golf_base::{List, Memory};
 use golf_model::Graph;
 use std::alloc::Global;
 
-/// The link by which one place justifies another one.
+/// Returns the link by which one place justifies another one.
 pub(crate) fn link_between(graph: &Graph, parent: u32, place: u32) -> Link
     requires { Justifies graph.now parent place }
     ensures placed { placed_by graph.now result ≡ place }
@@ -42,7 +45,7 @@ pub(crate) fn link_between(graph: &Graph, parent: u32, place: u32) -> Link
     }
 }
 
-// The links from a root to a place, by way of parents.
+// The links from a root to a place, over parents.
 fn links_to(
     alloc: Global,
     graph: &Graph,
@@ -67,7 +70,7 @@ fn links_to(
     Ok(List::from_vec(links))
 }
 
-/// The reasons of all sleepers of one graph, found in one pass: some 20 bytes a place.
+/// The reasons of all sleepers of one graph, found in one pass. It takes about 20 bytes for each place.
 #[derive(Drop)]
 pub struct Reasons {
     pub(crate) walk: Walk,
@@ -77,8 +80,8 @@ pub struct Reasons {
 impl Reasons {
     ghost use Rattle.golf_cert.specs.Finding.{HasReasons};
 
-    /// Finds the level and the parent of each place of a graph, in time linear in the graph. The
-    /// only error is `Memory`.
+    /// Finds the level and the parent of each place of a graph. The time is linear in the graph. The only
+    /// error is `Memory`.
     pub fn new(alloc: Global, graph: &Graph) -> Result<Reasons, Memory>
         ensures { IfOk result (HasReasons graph.now) }
     {
@@ -88,13 +91,12 @@ impl Reasons {
         Ok(Reasons { walk, parents })
     }
 
-    /// The links of the reason of a sleeper, which is below the count of sleepers, in the same
-    /// graph: from a root, of level 1, to the sleeper. None if the sleeper is outside the least
-    /// closed set.
+    /// Returns the links of the reason of a sleeper, from a root to the sleeper. The root has level 1.
+    /// Returns `None` if the sleeper is outside the least closed set. The graph is the one that `new` saw.
     ///
-    /// The reason is the list of places of least length which ends with the sleeper, and in which
-    /// each place but the last is the least of its level that justifies the next one. The time is
-    /// linear in the length of the reason. The only error is `Memory`.
+    /// The reason is a shortest list of places that ends with the sleeper. Each place except for the last
+    /// is the smallest of its level that justifies the next one. The time is linear in the length of the
+    /// reason. The only error is `Memory`.
     pub fn of(
         &self,
         alloc: Global,
@@ -118,9 +120,8 @@ impl Reasons {
     }
 }
 
-/// The links of the reason of one sleeper, as `Reasons::of` gives them, which is cheaper for many
-/// sleepers. None if the sleeper is outside the least closed set. The time is linear in the graph.
-/// The only error is `Memory`.
+/// Returns the links of the reason of one sleeper, as `Reasons::of` does. For many sleepers `Reasons::of`
+/// is cheaper. The time is linear in the graph. The only error is `Memory`.
 pub fn reason(alloc: Global, graph: &Graph, sleeper: u32) -> Result<Option<List<Link>>, Memory>
     requires { sleeper < sleeper_count graph.now }
     ensures found { IfOk result (λ found. IsSome found ↔ Least graph.now (sleeper_place graph.now sleeper)) }

@@ -1,4 +1,5 @@
-//! What each place of a graph justifies, in two parts.
+//! The places that each place of a graph justifies: those that it refers to, and the sleepers that wait on
+//! it.
 
 ghost use Rattle.std.specs.Prelude.{◌^◌, ◌≡◌, ◌+◌, ◌<◌, IfOk};
 ghost use Rattle.golf_model.specs.Graph.{sleeper_count, IsInRange};
@@ -10,7 +11,7 @@ use golf_model::Graph;
 use golf_rows::{add_to_all, empty_rows};
 use std::alloc::Global;
 
-/// How many places there are.
+/// Returns how many places the graph has.
 pub(crate) fn places_in(graph: &Graph) -> u32
     ensures count { result ≡ place_count graph.now }
     ensures small { place_count graph.now < 2 ^ 32 }
@@ -19,7 +20,7 @@ pub(crate) fn places_in(graph: &Graph) -> u32
     graph.nodes() + graph.sleepers()
 }
 
-/// For each node the places of the sleepers that wait on it.
+/// Returns for each node the places of the sleepers that wait on it.
 pub(crate) fn woken_rows(alloc: Global, graph: &Graph) -> Result<List<List<u32>>, Memory>
     ensures { IfOk result (HasWoken graph.now (sleeper_count graph.now)) }
 {
@@ -31,7 +32,7 @@ pub(crate) fn woken_rows(alloc: Global, graph: &Graph) -> Result<List<List<u32>>
     Ok(rows)
 }
 
-/// The children of a node, and the references of a sleeper.
+/// Returns the children of a node, or the references of a sleeper.
 pub(crate) fn referred(graph: &Graph, place: u32) -> &[u32]
     requires { place < place_count graph.now }
     ensures { result.now ≡ referred_by graph.now place }
@@ -44,7 +45,7 @@ pub(crate) fn referred(graph: &Graph, place: u32) -> &[u32]
     }
 }
 
-/// The row of a place, which is empty if there is none.
+/// Returns the row of a place, or an empty one if there is none.
 pub(crate) fn row(rows: &List<List<u32>>, place: u32) -> &[u32]
     ensures { result.now ≡ row_of rows.now place }
 {

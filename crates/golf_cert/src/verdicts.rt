@@ -1,4 +1,4 @@
-//! The check of certificates.
+//! The check of certificates. It marks nothing: it only follows the links and looks for a missing place.
 
 ghost use Rattle.std.specs.Prelude.{◌^◌, ◌≡◌, ◌<◌, ◌↔◌, ℕ, IfOk, MatchOption, IsTrue, length};
 ghost use Rattle.golf_theory.specs.Membership.{In};
@@ -17,7 +17,7 @@ use golf_base::{List, Memory};
 use golf_model::Graph;
 use std::alloc::Global;
 
-// Whether all that a place justifies is placed, if it is placed itself.
+// Whether all places that a place justifies are placed, or the place itself is not placed.
 fn is_scanned(graph: &Graph, rows: &List<List<u32>>, placed: &[bool], place: u32) -> bool
     requires rows { HasWoken graph.now (sleeper_count graph.now) rows.now }
     requires place { place < place_count graph.now }
@@ -33,7 +33,7 @@ fn is_scanned(graph: &Graph, rows: &List<List<u32>>, placed: &[bool], place: u32
     are_set(placed, row(rows, place))
 }
 
-// Whether the roots are placed, and all that a placed place justifies.
+// Whether the roots are placed, and all places that a placed place justifies.
 fn is_closed(graph: &Graph, rows: &List<List<u32>>, placed: &[bool]) -> bool
     requires rows { HasWoken graph.now (sleeper_count graph.now) rows.now }
     requires size { length placed.now ≡ place_count graph.now }
@@ -50,7 +50,7 @@ fn is_closed(graph: &Graph, rows: &List<List<u32>>, placed: &[bool]) -> bool
     true
 }
 
-// The node itself if it is a root, and none otherwise.
+// The node if it is a root, or `None`.
 fn root_by(roots: &[bool], node: u32) -> Option<u32>
     ensures { MatchOption result (IsSet roots.now node → ⊥) (λ place. (place ≡ node) × IsSet roots.now node) }
 {
@@ -60,7 +60,7 @@ fn root_by(roots: &[bool], node: u32) -> Option<u32>
     Some(node)
 }
 
-// The place that a link other than a root places if it is justified, and none otherwise.
+// The place of a link other than a root link if the link is justified, or `None`.
 fn step_by(graph: &Graph, placed: &[bool], link: Link, is_edge: bool) -> Option<u32>
     requires unrooted { IsUnrooted link }
     requires edge { IsTrue is_edge ↔ IsEdge graph.now link }
@@ -78,7 +78,7 @@ fn step_by(graph: &Graph, placed: &[bool], link: Link, is_edge: bool) -> Option<
     Some(step.to)
 }
 
-// The place that a link places if it is justified, and none otherwise.
+// The place of a link if the link is justified, or `None`.
 fn place_by(
     graph: &Graph,
     roots: &[bool],
@@ -101,10 +101,11 @@ fn place_by(
 
 /// Checks a certificate of fewer than 2^32 links against its graph.
 ///
-/// It is `Proved` exactly if each link is justified by those before it and no place is missing;
-/// then its places are exactly the least closed set. Otherwise `Refused` has the number of the first
-/// link that is not justified, from 0, or the count of all links if only a place is missing. The
-/// time is linear in the graph and the certificate. The only error is `Memory`.
+/// It returns `Proved` exactly when each link is justified by the links before it and no place is missing.
+/// Then the places are exactly the least closed set. Otherwise `Refused` has the number of the first link
+/// that is not justified, from 0. If only a place is missing, it has the count of all links.
+///
+/// The time is linear in the graph and the certificate. The only error is `Memory`.
 pub fn verify(alloc: Global, graph: &Graph, certificate: &Certificate) -> Result<Verdict, Memory>
     requires { length certificate.now.links < 2 ^ 32 }
     ensures { IfOk result (IsVerdictOn graph.now certificate.now.links) }

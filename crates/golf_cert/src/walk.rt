@@ -1,4 +1,6 @@
-//! The levels of all places, by a breadth first walk.
+//! The levels of all places, by a breadth-first walk.
+//!
+//! The level of a place is the length of the shortest list from a root to it.
 
 ghost use Rattle.std.specs.Prelude.{◌^◌, ◌≡◌, ◌+◌, ◌<◌, IfOk, OnOk, length, slice_get, slice_index};
 ghost use Rattle.golf_theory.specs.Membership.{Every};
@@ -12,16 +14,16 @@ use golf_base::{List, Memory};
 use golf_model::Graph;
 use std::alloc::Global;
 
-/// A walk through the least closed set.
+/// A walk over the least closed set.
 #[derive(Drop)]
 pub(crate) struct Walk {
-    /// For each place its level, which is at most the count of places, or 0 if none is known.
+    /// For each place its level, from 1 up to the count of places, or 0 if it has none.
     pub(crate) levels: List<usize>,
     /// The places that have a level, each once, by rising level.
     pub(crate) order: List<u32>,
 }
 
-/// The level of what a place justifies, unless it has a lower one.
+/// Returns the level after that of a place: any place that it justifies has this level or a lower one.
 pub(crate) fn next_level(levels: &[usize], place: u32) -> usize
     requires place { place < length levels.now }
     requires small { slice_index levels.now place < 2 ^ 32 }
@@ -42,7 +44,7 @@ fn claim(walk: &mut Walk, level: usize, place: u32) -> Result<(), Memory>
     Ok(())
 }
 
-// Gives those of these places this level that have none.
+// Gives this level to those of these places that have none.
 fn claim_all(walk: &mut Walk, level: usize, places: &[u32]) -> Result<(), Memory>
     requires { Every (λ p. p < length walk.old.levels) places.now }
     ensures ok { OnOk result (walk.new ≡ claimed_all level places.now walk.old) }
@@ -53,7 +55,7 @@ fn claim_all(walk: &mut Walk, level: usize, places: &[u32]) -> Result<(), Memory
     Ok(())
 }
 
-// Gives this level to all that a place justifies and that has none.
+// Gives this level to all places that a place justifies and that have none.
 fn scan(
     graph: &Graph,
     rows: &List<List<u32>>,
@@ -72,14 +74,14 @@ fn scan(
     Ok(())
 }
 
-// The place of this number in the list.
+// The place at this index of the list, or `None`.
 fn place_at(order: &[u32], turn: usize) -> Option<u32>
     ensures { result ≡ slice_get order.now turn }
 {
     order.get(turn).copied()
 }
 
-/// Walks through the least closed set breadth first: the roots, and after each place what it
+/// Walks over the least closed set breadth first: the roots, and after each place the places that it
 /// justifies.
 pub(crate) fn walk_through(
     alloc: Global,

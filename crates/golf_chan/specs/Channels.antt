@@ -4,7 +4,7 @@ use Rattle.golf_data.specs.declared.value.Value.{Value}
 use Rattle.golf_data.specs.declared.value.Object.{Object}
 use Rattle.golf_data.specs.declared.value.Channel.{Channel}
 
--- the channel that an object is
+-- the object as a channel, if it is one
 abbrev pub channel_of : Option Object → Option Channel
 channel_of None = None
 channel_of (Some (Object.Struct fields)) = None
@@ -25,12 +25,12 @@ buffered v (Object.Group n) = Object.Group n
 buffered v (Object.Rw n) = Object.Rw n
 buffered v (Object.Cond x) = Object.Cond x
 
--- the values after the first one, and these after them; an empty list stays
+-- the list without its first value, and with these values at the end; an empty list stays empty
 abbrev pub shifted : List Value → List Value → List Value
 shifted more [] = []
 shifted more (v ∷ vs) = vs ++ more
 
--- the channel without its first value, and with these
+-- the channel without its first value, and with these values at the end of its buffer
 abbrev pub unbuffered : List Value → Object → Object
 unbuffered more (Object.Struct fields) = Object.Struct fields
 unbuffered more (Object.Slice elements) = Object.Slice elements
@@ -45,12 +45,12 @@ abbrev pub HasFirst : Value → Option Channel → Type 0
 HasFirst v None = ⊥
 HasFirst v (Some c) = (rest : List Value) × (c.buffer ≡ v ∷ rest)
 
--- a channel with an empty buffer, and what it gives if it is closed
+-- a channel with an empty buffer; `zero` is the value that it gives if it is closed
 abbrev pub IsEmptyWith : Option Value → Option Channel → Type 0
 IsEmptyWith zero None = ⊥
 IsEmptyWith zero (Some c) = (c.buffer ≡ []) × (zero ≡ cond c.closed (Some c.zero) None)
 
--- the channel, closed
+-- the closed channel
 abbrev pub closed_in : Object → Object
 closed_in (Object.Struct fields) = Object.Struct fields
 closed_in (Object.Slice elements) = Object.Slice elements

@@ -1,4 +1,4 @@
--- The cases of a `select` with their operands, by what is held in memory.
+-- The cases of a `select` with their operands, as they are in memory.
 use Rattle.std.specs.Prelude.{◌≡◌, ℕ, List, ◌∷◌, map, drop, Option, Some, None}
 use Rattle.golf_base.specs.declared.ids.ObjectId.{ObjectId}
 use Rattle.golf_data.specs.declared.value.Value.{Value}
@@ -20,13 +20,13 @@ width_of CaseKind.Send = 2
 width_of CaseKind.Take = 1
 width_of CaseKind.TakeOk = 1
 
--- the case takes its operands off these, the top one first, or there are too few
+-- the case takes its operands from these, the top one first; `None` if there are too few
 abbrev pub IsOfferOf : SelectCase → List Value → Option Offer → Type 0
 IsOfferOf k vs None = (os : List Offering) → take_case k k.kind (os, vs) ≡ None
 IsOfferOf k vs (Some x) = (os : List Offering)
     → take_case k k.kind (os, vs) ≡ Some (plain_offer x ∷ os, drop (width_of k.kind) vs)
 
--- all cases do
+-- all cases take their operands from these; `None` if there are too few
 abbrev pub AreOffersOf : List SelectCase → List Value → Option Offered → Type 0
 AreOffersOf ks vs None = offers_of ks vs ≡ None
 AreOffersOf ks vs (Some x) = offers_of ks vs ≡ Some (plain_offers x.offers, drop x.taken vs)

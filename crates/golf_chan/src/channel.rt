@@ -1,4 +1,6 @@
-//! The channel under a number, and its buffer.
+//! The channel of a number, and its buffer.
+//!
+//! These functions change only the channel. They wake no goroutine.
 
 ghost use Rattle.std.specs.Prelude.{◌≡◌, [], ◌∷◌, OnOk, OnErr, option_map, option_to_list};
 ghost use Rattle.golf_theory.specs.Maps.{find};
@@ -9,7 +11,7 @@ use golf_data::{Channel, Object, Value};
 use golf_ring::Ring;
 use golf_state::State;
 
-/// The channel of this number, if there is one.
+/// Returns the channel of this number, or `None`.
 #[inline(always)]
 pub fn channel_at(state: &State, object: ObjectId) -> Option<&Channel>
     ensures { option_map (λ c. c.now) result ≡ channel_of (find object.0 state.now.objects) }
@@ -25,7 +27,7 @@ pub fn channel_at(state: &State, object: ObjectId) -> Option<&Channel>
     }
 }
 
-/// Adds a value to a channel's buffer.
+/// Adds a value to a channel's buffer. On `Err` the object is unchanged.
 pub fn buffer(object: &mut Object, value: Value) -> Result<(), Memory>
     ensures ok { OnOk result (object.new ≡ buffered value object.old) }
     ensures err { OnErr result (object.new ≡ object.old) }
@@ -36,7 +38,7 @@ pub fn buffer(object: &mut Object, value: Value) -> Result<(), Memory>
     Ok(())
 }
 
-// The values after the first one, and one more at the end.
+// Drops the first value, and adds one at the end. An empty buffer stays empty.
 #[inline(always)]
 fn shift(values: &mut Ring<Value>, value: Value)
     ensures { values.new ≡ shifted (value ∷ []) values.old }
@@ -46,7 +48,7 @@ fn shift(values: &mut Ring<Value>, value: Value)
     }
 }
 
-/// Takes the first value off a channel's buffer, and adds one if there is one. It takes no
+/// Takes the first value off a channel's buffer, and adds `more` at the end if there is one. It takes no
 /// memory.
 pub fn take_first(object: &mut Object, more: Option<Value>)
     ensures { object.new ≡ unbuffered (option_to_list more) object.old }
@@ -59,7 +61,7 @@ pub fn take_first(object: &mut Object, more: Option<Value>)
     }
 }
 
-/// The channel is closed.
+/// Closes the channel.
 pub fn close_it(object: &mut Object)
     ensures { object.new ≡ closed_in object.old }
 {

@@ -1,4 +1,7 @@
-//! A close.
+//! The close of a channel.
+//!
+//! It wakes all waiters of the channel (Go specification, "Close"). Receivers get the zero value, and
+//! senders panic.
 
 ghost use Rattle.std.specs.Prelude.{drop};
 ghost use Rattle.golf_theory.specs.Maps.{find};
@@ -30,9 +33,9 @@ fn close_at(state: &mut State, acting: Acting, object: ObjectId) -> Outcome
     Outcome::Done
 }
 
-/// The goroutine in its turn closes the channel that is its last operand: all who wait to receive
-/// get the zero value, and all who wait to send unwind. It panics on nil, and on a closed channel.
-/// It takes no memory.
+/// Closes the channel that is the last operand, for the goroutine whose turn it is. All goroutines that
+/// wait to receive get the zero value. All that wait to send unwind. A close of nil or of a closed channel
+/// panics. It takes no memory.
 pub fn close(state: &mut State, acting: Acting) -> Outcome
     requires { Stands acting.goroutine.0 acting.after state.old }
     ensures { Comes result (λ a. closes a state.old) acting.goroutine.0 acting.line state.old state.new }

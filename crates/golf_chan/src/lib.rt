@@ -1,7 +1,7 @@
-//! Channels: what the goroutine whose turn it is does with them.
+//! Channels: the operations on them of the goroutine whose turn it is.
 //!
-//! Each operation reads its operands from the goroutine's innermost frame, and says what it has
-//! come to (`golf_state::Outcome`).
+//! Each operation reads its operands from the goroutine's innermost frame, and returns its
+//! `golf_state::Outcome`.
 #![tactic(auto)]
 
 mod channel;

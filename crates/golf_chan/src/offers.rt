@@ -1,4 +1,6 @@
-//! The cases of a `select` with their operands.
+//! The cases of a `select`, each with its operands.
+//!
+//! A case on a nil channel is never ready (Go specification, "Select statements").
 
 ghost use Rattle.std.specs.Prelude.{◌≡◌, ◌∷◌, [], reverse, IfOk};
 ghost use Rattle.golf_chan.specs.Offers.{width_of, plain_offer, plain_offers, IsOfferOf, AreOffersOf, object_of};
@@ -18,12 +20,12 @@ use std::alloc::Global;
 pub struct Offer {
     pub kind: CaseKind,
     pub channel: Value,
-    /// The value to send, else nil.
+    /// The value to send, or nil for a receive.
     pub value: Value,
     pub target: u32,
 }
 
-/// The cases of a `select` with their operands, in source order, and how many operands those are.
+/// The cases of a `select` with their operands, in source order, and the count of these operands.
 #[derive(Debug, Drop)]
 pub struct Offered {
     pub offers: List<Offer>,
@@ -72,7 +74,7 @@ fn receiving_offer(case: SelectCase, operands: &[Value]) -> Option<Offer>
     })
 }
 
-// A case with the last operands, if there are enough.
+// A case with the last operands, or `None` if there are too few.
 fn offer_of(case: SelectCase, operands: &[Value]) -> Option<Offer>
     ensures { IsOfferOf case (reverse operands.now) result }
 {
@@ -83,7 +85,7 @@ fn offer_of(case: SelectCase, operands: &[Value]) -> Option<Offer>
     }
 }
 
-/// The cases with their operands, if there are enough.
+/// Returns the cases with their operands, or `None` if there are too few operands.
 pub fn offers_of(
     alloc: Global,
     cases: &[SelectCase],
@@ -120,7 +122,7 @@ fn is_nil_or_channel(state: &State, value: Value) -> bool
     }
 }
 
-/// Whether each case is on nil or on a channel.
+/// Returns whether the channel of each case is nil or a channel.
 pub fn all_on_channels(state: &State, offers: &[Offer]) -> bool
     ensures { result ≡ all_on_channels state.now (plain_offers offers.now) }
 {
@@ -150,7 +152,7 @@ fn can_proceed(state: &State, kind: CaseKind, object: ObjectId, channel: &Channe
     }
 }
 
-// Whether a case would not block; one on nil would.
+// Whether a case would not block. A case on nil would.
 fn is_ready(state: &State, offer: &Offer) -> bool
     ensures { result ≡ is_ready state.now (plain_offer offer.now) }
 {
@@ -163,7 +165,7 @@ fn is_ready(state: &State, offer: &Offer) -> bool
     }
 }
 
-/// The ready cases, in source order.
+/// Returns the ready cases, in source order.
 pub fn ready_of(alloc: Global, state: &State, offers: &[Offer]) -> Result<List<Offer>, Memory>
     ensures { IfOk result (λ list. plain_offers list ≡ ready state.now (plain_offers offers.now)) }
 {
@@ -176,7 +178,7 @@ pub fn ready_of(alloc: Global, state: &State, offers: &[Offer]) -> Result<List<O
     Ok(list)
 }
 
-// What a goroutine waits on for a case on this channel.
+// The wait of a goroutine for a case on this channel.
 fn wait_of(offer: &Offer, object: ObjectId) -> Wait
     ensures { case_waits (plain_offer offer.now) (Value.Ref object) ≡ result ∷ [] }
 {
@@ -197,7 +199,7 @@ fn wait_of(offer: &Offer, object: ObjectId) -> Wait
     }
 }
 
-// The channel of a case; one on nil has none.
+// The channel of a case, or `None` for nil.
 fn object_of(value: Value) -> Option<ObjectId>
     ensures { result ≡ object_of value }
 {
@@ -208,7 +210,7 @@ fn object_of(value: Value) -> Option<ObjectId>
     }
 }
 
-/// What a goroutine waits on for these cases, in source order; nothing on nil.
+/// Returns the waits of a goroutine for these cases, in source order. A case on nil has none.
 pub fn waits_of(alloc: Global, offers: &[Offer]) -> Result<List<Wait>, Memory>
     ensures { IfOk result (λ waits. waits ≡ offered_waits (plain_offers offers.now)) }
 {
@@ -221,7 +223,7 @@ pub fn waits_of(alloc: Global, offers: &[Offer]) -> Result<List<Wait>, Memory>
     Ok(waits)
 }
 
-/// What a report says of a goroutine that blocks on these cases.
+/// Returns the kind of wait that a report names for a goroutine that blocks on these cases.
 pub fn select_kind(offers: &[Offer]) -> WaitKind
     ensures { result ≡ select_kind (plain_offers offers.now) }
 {

@@ -1,4 +1,6 @@
-//! A receive.
+//! A receive. On `Err` the state is unchanged.
+//!
+//! The values come in the order in which they were sent (Go specification, "Receive operator").
 
 ghost use Rattle.std.specs.Prelude.{◌≡◌, [], if◌then◌else◌, Some, None, IfOk, OnErr};
 ghost use Rattle.golf_theory.specs.Maps.{find};
@@ -17,8 +19,8 @@ use golf_state::{
 };
 use std::alloc::Global;
 
-/// What a receive does with the goroutine: where it goes on, without how many operands, and whether
-/// it also gets whether the value was sent.
+/// The effect of a receive on the goroutine: it goes on at `target`, without its last `taken` operands.
+/// With `with_ok` it also gets whether the value was sent.
 #[derive(Clone, Copy, Debug, PartialEq, Eq)]
 pub struct Receiving {
     pub target: u32,
@@ -26,7 +28,8 @@ pub struct Receiving {
     pub with_ok: bool,
 }
 
-// A receive of the first buffered value, in whose place the first sender's value is buffered.
+// Receives the first buffered value. The value of the first waiting sender joins the buffer, and that
+// sender runs.
 #[inline(always)]
 fn receive_buffered(
     state: &mut State,
@@ -54,8 +57,8 @@ fn receive_buffered(
     Ok(Outcome::Done)
 }
 
-// A receive from an empty channel: the first sender's value, else the zero value if it is
-// closed.
+// Receives from a channel with an empty buffer: the value of the first waiting sender, or the zero value if
+// the channel is closed. Else the goroutine blocks.
 #[inline(always)]
 fn receive_unbuffered(
     alloc: Global,
@@ -101,7 +104,7 @@ fn receive_unbuffered(
     Ok(Outcome::Blocked)
 }
 
-// What a closed channel gives.
+// The zero value of a closed channel, or `None` for an open one.
 #[inline(always)]
 fn zero_of_closed(channel: &Channel) -> Option<Value>
     ensures { result ≡ (if channel.now.closed then Some channel.now.zero else None) }
@@ -113,7 +116,7 @@ fn zero_of_closed(channel: &Channel) -> Option<Value>
     }
 }
 
-/// A receive from a channel, after which the goroutine goes on with what it gets.
+/// Receives from a channel. The goroutine goes on with the values, or blocks.
 #[inline(always)]
 pub fn receive_on(
     alloc: Global,
@@ -136,10 +139,14 @@ pub fn receive_on(
     }
 }
 
-/// The goroutine in its turn receives from the channel that is its last operand, and gets the value,
-/// and if that is asked for whether it was sent: the first buffered one, else that of the first
-/// sender, else the zero value if the channel is closed; else it blocks. On nil it blocks for
-/// ever.
+/// Receives from the channel that is the last operand, for the goroutine whose turn it is. With `with_ok`
+/// the goroutine also gets whether the value was sent. The value is the first of these:
+///
+/// - the first buffered value,
+/// - the value of the first waiting sender,
+/// - the zero value, if the channel is closed.
+///
+/// Without any of these the goroutine blocks. On nil it blocks for ever.
 #[inline(always)]
 pub fn receive(
     alloc: Global,

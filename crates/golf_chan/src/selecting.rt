@@ -1,4 +1,7 @@
-//! A `select`.
+//! A `select`. On `Err` the state is unchanged.
+//!
+//! The number of the turn chooses among the ready cases (Go specification, "Select statements"; this
+//! runtime's rule).
 
 ghost use Rattle.std.specs.Prelude.{◌≡◌, Some, reverse, drop, IfOk, OnErr, option_map};
 ghost use Rattle.golf_model.specs.Selecting.{selects, selects_from, selects_none, proceeds, chosen};
@@ -15,7 +18,7 @@ use golf_data::{CaseKind, SelectCase, Value};
 use golf_state::{Acting, Outcome, State, block_at, proceed};
 use std::alloc::Global;
 
-// All operands of a goroutine's innermost frame, the last one on top.
+// All operands of a goroutine's innermost frame, the top one last.
 fn operands(state: &State, g: GoroutineId) -> &[Value]
     ensures { reverse result.now ≡ operands_of g.0 state.now }
 {
@@ -25,7 +28,7 @@ fn operands(state: &State, g: GoroutineId) -> &[Value]
     }
 }
 
-// Of the ready cases, the one at this place, counted round.
+// The ready case at this place, counted round, or `None` if no case is ready.
 fn chosen(ready: &[Offer], choice: u64) -> Option<Offer>
     ensures { option_map plain_offer result ≡ chosen choice (plain_offers ready.now) }
 {
@@ -36,7 +39,7 @@ fn chosen(ready: &[Offer], choice: u64) -> Option<Offer>
     Some(ready[at as usize])
 }
 
-// A case is done as the operation alone would be, and the goroutine goes on at its target.
+// Takes a case as the operation alone would be done. The goroutine goes on at the target of the case.
 fn take_case(
     alloc: Global,
     state: &mut State,
@@ -73,7 +76,7 @@ fn take_case(
     }
 }
 
-// With no case ready: `default`, else the goroutine blocks.
+// With no case ready: goes on at `default`, or else blocks on all cases.
 fn take_none(
     alloc: Global,
     state: &mut State,
@@ -96,7 +99,7 @@ fn take_none(
     Ok(Outcome::Blocked)
 }
 
-// A `select` whose cases have their operands.
+// Does a `select` whose cases have their operands.
 fn select_from(
     alloc: Global,
     state: &mut State,
@@ -120,9 +123,9 @@ fn select_from(
     }
 }
 
-/// The goroutine in its turn does one of the cases, whose operands it has: of those that would not
-/// block, in source order, the one at the place `choice`, counted round. With none ready it goes on
-/// at the target of `default`, if there is one, else it blocks on the channels of all cases.
+/// Does one ready case of a `select`, for the goroutine whose turn it is. The case is the one at the place
+/// `choice`, counted round, of those that would not block, in source order. If none is ready, the goroutine
+/// goes on at `default`. Without a `default` it blocks on the channels of all cases.
 pub fn select(
     alloc: Global,
     state: &mut State,

@@ -1,4 +1,7 @@
-//! A send.
+//! A send. On `Err` the state is unchanged.
+//!
+//! A waiting receiver gets the value at once. Without one the value joins the buffer, if it has room (Go
+//! specification, "Send statements").
 
 ghost use Rattle.std.specs.Prelude.{◌≡◌, [], IfOk, OnErr};
 ghost use Rattle.golf_model.specs.Channels.{sends, sends_on};
@@ -15,8 +18,8 @@ use golf_state::{
 };
 use std::alloc::Global;
 
-/// A send of this value on a channel, after which the goroutine goes on at a place without so many
-/// operands.
+/// Sends this value on a channel. The goroutine goes on at `target`, without its last `taken` operands, or
+/// blocks.
 #[inline(always)]
 pub fn send_on(
     alloc: Global,
@@ -61,9 +64,9 @@ pub fn send_on(
     Ok(Outcome::Blocked)
 }
 
-/// The goroutine in its turn sends its last operand on the channel before it: to the first
-/// receiver, else into the buffer if there is room; else it blocks. On nil it blocks for ever,
-/// and on a closed channel it panics.
+/// Sends the last operand on the channel before it, for the goroutine whose turn it is. The first waiting
+/// receiver gets the value. If no goroutine waits to receive, the value joins the buffer, if that has room.
+/// Else the goroutine blocks. On nil it blocks for ever. A send on a closed channel panics.
 #[inline(always)]
 pub fn send(alloc: Global, state: &mut State, acting: Acting) -> Result<Outcome, Memory>
     requires { Stands acting.goroutine.0 acting.after state.old }

@@ -1,5 +1,5 @@
--- What the head of a function declares (Go specification, "Function declarations", "Method declarations"), what the
--- answers for declarations tell, and the passes over the declarations of a file.
+-- The declarations of the head of a function (Go specification, "Function declarations", "Method declarations"), the
+-- clauses of calls that check declarations, and the passes over the declarations of a file.
 use Rattle.std.specs.Prelude.{◌≡◌, ℕ, List, ◌∷◌, ◌++◌, [], map, flat_map, Option, Some, None, Result}
 use Rattle.golf_syntax_trees.specs.declared.declarations.Receiver.{Receiver}
 use Rattle.golf_syntax_trees.specs.declared.declarations.Func.{Func}
@@ -16,7 +16,7 @@ use Rattle.golf_check_types.specs.Files.{receiver_type, parameter_walk, end_faul
 use Rattle.golf_check_types.specs.Files.{none_above, type_faults, main_faults, with_types, with_forms, walk_faults}
 use Rattle.golf_check_types.specs.Files.{outside, file_scope, with_imports, no_imports}
 
--- a receiver's name with its type
+-- the name of a receiver with its type
 abbrev pub receiver_name : Scope → Option Receiver → Option (List ℕ × Option GoType)
 receiver_name file None = None
 receiver_name file (Some r) = Some (r.name, receiver_type file r.type_name)
@@ -25,15 +25,15 @@ abbrev pub optional_parameter : ℕ → Option (List ℕ × Option GoType) → W
 optional_parameter l None s = nothing
 optional_parameter l (Some p) s = parameter_walk l p s
 
--- a body and its end
+-- the walks of a body and of its end
 abbrev pub body_walks : Func → List Walk
 body_walks f = in_order (map walk f.body) ∷ (λ s. breaks (end_faults f)) ∷ []
 
--- parameters of these names and types, and a body after them
+-- the walks of parameters of these names and types, and of the body after them
 abbrev pub inner_walks : Func → List (List ℕ × Option GoType) → List Walk
 inner_walks f ps = in_order (map (parameter_walk f.line) ps) ∷ body_walks f
 
--- a receiver, parameters, and a body after them
+-- the walks of a receiver, of parameters, and of the body after them
 abbrev pub head_walks : Func → Option (List ℕ × Option GoType) → List (List ℕ × Option GoType) → List Walk
 head_walks f r ps = optional_parameter f.line r ∷ inner_walks f ps
 
@@ -43,18 +43,18 @@ arguments f r ps s =
     let t = behind s (optional_parameter f.line r s) in
     (behind t (in_order (map (parameter_walk f.line) ps) t)).next
 
--- a function with this head, and its fact
+-- the walk of a function with this head, with its fact
 abbrev pub function_walked : Func → Option (List ℕ × Option GoType) → List (List ℕ × Option GoType) → Walk
 function_walked f r ps s = of_function (arguments f r ps s) s (in_order (head_walks f r ps) s)
 
--- What the checker tells of a head and its body: beside what it tells of a statement, how many slots receiver and
+-- The clause of a call for a head and its body: besides that of a statement, the answer is how many slots receiver and
 -- parameters have.
 abbrev pub Counts : Result ℕ TypeFault → Walked → ℕ → Checker → Checker → Type 0
 Counts result w n old new = Tells result w.faults
     (λ k. (k ≡ n) × ((new.scope ≡ behind old.scope w) × (new.facts ≡ old.facts ++ w.facts)))
 
--- What the checker tells of a declaration: an answer comes if no rule is broken, and then the scope is as before, and
--- its facts were added.
+-- The clause of a call for a declaration: an answer comes only if no rule is broken. Then the scope is as before, and
+-- the facts of the declaration were added.
 abbrev pub Stays : {A : Type 0} → Result A TypeFault → Walked → Checker → Checker → Type 0
 Stays result w old new = Tells result w.faults (λ _. (new.scope ≡ old.scope) × (new.facts ≡ old.facts ++ w.facts))
 
@@ -62,11 +62,11 @@ Stays result w old new = Tells result w.faults (λ _. (new.scope ≡ old.scope) 
 abbrev pub typed_file : FileScope → List Decl → FileScope
 typed_file f xs = with_forms (with_types f xs) 0 xs
 
--- the passes over declarations, in the scope outside all functions in which names have no types yet
+-- the faults of the passes over declarations, in the scope outside all functions in which names have no types yet
 abbrev pub named_faults : Scope → List Decl → List Fault
 named_faults s xs = names_faults s.file none_above xs
     ++ (flat_map (type_faults s) xs ++ (main_faults xs ++ walk_faults (typed_file s.file xs) 0 xs))
 
--- what the names of a file mean outside all functions
+-- the scope of a file outside all functions
 unfoldable pub scope_of : File → Scope
 scope_of f = outside (file_scope (with_imports no_imports f.imports) f.declarations)

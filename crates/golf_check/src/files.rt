@@ -1,7 +1,7 @@
-//! Whether a file keeps the rules.
+//! The check of a whole file.
 //!
 //! The passes follow one another as in the definition of `Broken`: imports, names, written types, `main`, and then
-//! constants, initialisers and bodies. The first broken rule ends them.
+//! constants, initialisers and bodies. The first broken rule ends the check.
 
 ghost use Rattle.std.specs.Prelude.{◌≡◌, ◌++◌, IfOk};
 ghost use Rattle.golf_check_types.specs.Faults.{Tells};
@@ -20,18 +20,18 @@ use golf_check_types::{Fact, GoType, Imports, Scope, TypeFault, type_of};
 use golf_syntax_trees::{Decl, File};
 use std::alloc::Global;
 
-/// A file that keeps the rules, and what was found of its parts: constants, initialisers and
-/// functions in source order, and in them one fact for each expression of the tree, in the order in
-/// which their prints begin, an outer one before an inner one that begins at the same token, with
-/// facts of other kinds between them.
+/// A file that keeps the rules, and the facts of its constants, initialisers and functions in source order.
+///
+/// There is one fact for each expression of the tree, in the order in which their prints begin. An outer expression
+/// comes before an inner one that begins at the same token. Facts of other kinds are between them.
 pub struct Checked {
     pub file: File,
-    /// What names mean outside all functions.
+    /// The scope outside all functions.
     pub scope: Scope,
     pub facts: List<Fact>,
 }
 
-// Written out once here, so that no other crate goes through the fields where it lets a checked file go.
+// Written out once here, so that no other crate has to prove the drop of each field.
 impl Drop for Checked {
     fn drop(self) {
         let Checked {
@@ -43,8 +43,8 @@ impl Drop for Checked {
 }
 
 impl Checked {
-    /// The types of the expressions, in the order of their facts. `None` stands for a callee, a
-    /// package, a function's name, `_`, `nil` and a call without a result.
+    /// Returns the types of the expressions, in the order of their facts. The type is `None` for a callee, a package, a
+    /// function's name, `_`, `nil` and a call without a result.
     pub fn types(&self, alloc: Global) -> Result<List<Option<GoType>>, Memory>
         ensures { IfOk result (λ ts. ts ≡ types_told self.now.facts) }
     {
@@ -68,7 +68,7 @@ impl Checked {
     }
 }
 
-// A declaration, if so many globals stand above it.
+// Checks a declaration. `global_number` is the number of globals above it.
 #[tactic(auto, using(crate::proofs::Laws::var_stays, crate::proofs::Laws::func_stays))]
 fn declaration(checker: &mut Checker, global_number: u32, decl: &Decl) -> Result<(), TypeFault>
     requires { checker.old.scope ≡ outside checker.old.scope.file }
@@ -82,7 +82,7 @@ fn declaration(checker: &mut Checker, global_number: u32, decl: &Decl) -> Result
     }
 }
 
-// Constants, initialisers and bodies, in source order.
+// Checks constants, initialisers and bodies, in source order.
 fn declarations(checker: &mut Checker, decls: &[Decl]) -> Result<(), TypeFault>
     requires { checker.old.scope ≡ outside checker.old.scope.file }
     ensures { Tells result (walk_faults checker.old.scope.file 0 decls.now) (λ _. (checker.new.scope ≡ checker.old.scope) × (checker.new.facts ≡ checker.old.facts ++ walk_facts checker.old.scope.file 0 decls.now)) }
@@ -95,7 +95,7 @@ fn declarations(checker: &mut Checker, decls: &[Decl]) -> Result<(), TypeFault>
     Ok(())
 }
 
-// The same, if the names of the file have no types yet.
+// Does the same if the names of the file have no types yet.
 #[tactic(auto, using(crate::proofs::Laws::walked_tells))]
 fn untyped_declarations(checker: &mut Checker, decls: &[Decl]) -> Result<(), TypeFault>
     requires { checker.old.scope ≡ outside checker.old.scope.file }
@@ -105,7 +105,7 @@ fn untyped_declarations(checker: &mut Checker, decls: &[Decl]) -> Result<(), Typ
     declarations(checker, decls)
 }
 
-// Names, written types, `main`, and then the rest.
+// Checks names, written types and `main`, and then the rest.
 fn named_declarations(checker: &mut Checker, decls: &[Decl]) -> Result<(), TypeFault>
     requires { checker.old.scope ≡ outside checker.old.scope.file }
     ensures { Tells result (named_faults checker.old.scope decls.now) (λ _. (checker.new.scope ≡ outside (typed_file checker.old.scope.file decls.now)) × (checker.new.facts ≡ checker.old.facts ++ walk_facts (typed_file checker.old.scope.file decls.now) 0 decls.now)) }
@@ -116,7 +116,7 @@ fn named_declarations(checker: &mut Checker, decls: &[Decl]) -> Result<(), TypeF
     untyped_declarations(checker, decls)
 }
 
-// The checker after the declarations of a file with these imports.
+// Returns the checker after the declarations of a file with these imports.
 fn checked_declarations(
     alloc: Global,
     imports: Imports,
@@ -138,7 +138,7 @@ fn checked_declarations(
     }
 }
 
-// The checker after a file.
+// Returns the checker after a file.
 #[tactic(auto, unfolding(golf_check_types::specs::Files::Broken, golf_check_types::specs::Files::facts_in))]
 fn checked_file(alloc: Global, file: &File) -> Result<Checker, TypeFault>
     ensures { Tells result (Broken file.now) (λ c. (c.scope ≡ scope_of file.now) × (c.facts ≡ facts_in file.now)) }
@@ -149,7 +149,7 @@ fn checked_file(alloc: Global, file: &File) -> Result<Checker, TypeFault>
     checked_declarations(alloc, imports, decls)
 }
 
-/// Whether a file keeps all rules; the first broken one in the order of the walk otherwise.
+/// Returns the file with its scope and its facts, or the first broken rule in the order of the walk.
 pub fn check(alloc: Global, file: File) -> Result<Checked, TypeFault>
     ensures { Tells result (Broken file) (λ c. (c.file ≡ file) × ((c.scope ≡ scope_of file) × (c.facts ≡ facts_in file))) }
 {

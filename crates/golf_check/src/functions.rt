@@ -1,7 +1,7 @@
-//! Whether functions and methods keep the rules.
+//! The check of functions and methods.
 //!
-//! Receiver and parameters take the first slots, and the body goes on from there. After a function the scope is the one
-//! outside all functions again.
+//! Receiver and parameters take the first slots, and the body takes the slots after them. After a function the scope is
+//! again the one outside all functions.
 
 ghost use Rattle.std.specs.Prelude.{◌≡◌, [], map, IfOk, OnOk};
 ghost use Rattle.golf_check_types.specs.Faults.{Tells};
@@ -25,7 +25,7 @@ use golf_check_types::{
 use golf_syntax_trees::{Func, Receiver};
 use std::alloc::Global;
 
-// A receiver or parameter: it has no fact.
+// Passes over a receiver or parameter. It has no fact.
 fn parameter(
     checker: &mut Checker,
     line: u32,
@@ -39,7 +39,7 @@ fn parameter(
     Ok(())
 }
 
-// A receiver or parameter with its type.
+// Passes over a receiver or parameter with its type.
 fn typed_parameter(checker: &mut Checker, line: u32, named: &TypedName) -> Result<(), TypeFault>
     ensures { Walks result (parameter_walk line named.now checker.old.scope) checker.old checker.new }
 {
@@ -47,7 +47,7 @@ fn typed_parameter(checker: &mut Checker, line: u32, named: &TypedName) -> Resul
     parameter(checker, line, named.0.as_slice(), t)
 }
 
-// A receiver, if there is one.
+// Passes over a receiver, if there is one.
 #[tactic(auto, using(golf_check_types::proofs::WalkLaws::stays))]
 fn optional_parameter(
     checker: &mut Checker,
@@ -62,7 +62,7 @@ fn optional_parameter(
     }
 }
 
-// Parameters, from left to right.
+// Passes over parameters, from left to right.
 fn parameters(checker: &mut Checker, line: u32, names: &[TypedName]) -> Result<(), TypeFault>
     ensures { Walks result (in_order (map (parameter_walk line) names.now) checker.old.scope) checker.old checker.new }
 {
@@ -72,7 +72,7 @@ fn parameters(checker: &mut Checker, line: u32, names: &[TypedName]) -> Result<(
     Ok(())
 }
 
-// A function with a result ends in a terminating statement.
+// Checks that a function with a result ends in a terminating statement.
 fn ends(func: &Func) -> Result<(), TypeFault>
     ensures { Tells result (end_faults func.now) (λ _. Unit {0}) }
 {
@@ -80,7 +80,7 @@ fn ends(func: &Func) -> Result<(), TypeFault>
     require(func.line, NOT_TERMINATING, holds)
 }
 
-// A body, and how it ends.
+// Passes over a body, and checks how it ends.
 fn body(checker: &mut Checker, func: &Func) -> Result<(), TypeFault>
     ensures { Walks result (in_order (body_walks func.now) checker.old.scope) checker.old checker.new }
 {
@@ -88,7 +88,7 @@ fn body(checker: &mut Checker, func: &Func) -> Result<(), TypeFault>
     ends(func)
 }
 
-// Parameters and a body; how many slots receiver and parameters have.
+// Passes over parameters and a body. Returns how many slots receiver and parameters have.
 fn after_receiver(checker: &mut Checker, func: &Func, names: &[TypedName]) -> Result<u32, TypeFault>
     ensures { Counts result (in_order (inner_walks func.now names.now) checker.old.scope) (behind checker.old.scope (in_order (map (parameter_walk func.now.line) names.now) checker.old.scope)).next checker.old checker.new }
 {
@@ -98,7 +98,7 @@ fn after_receiver(checker: &mut Checker, func: &Func, names: &[TypedName]) -> Re
     Ok(arguments)
 }
 
-// A head and a body; how many slots receiver and parameters have.
+// Passes over a head and a body. Returns how many slots receiver and parameters have.
 fn head(
     checker: &mut Checker,
     func: &Func,
@@ -111,7 +111,7 @@ fn head(
     after_receiver(checker, func, names)
 }
 
-// The name of a receiver with its type.
+// Returns the name of a receiver with its type.
 fn named_receiver(alloc: Global, scope: &Scope, receiver: &Receiver) -> Result<TypedName, Memory>
     ensures { IfOk result (λ p. Some p ≡ receiver_name_of scope.now (Some receiver.now)) }
 {
@@ -120,7 +120,7 @@ fn named_receiver(alloc: Global, scope: &Scope, receiver: &Receiver) -> Result<T
     Ok((name, plain_type(alloc, pointer_to(meaning))))
 }
 
-// The name of a receiver with its type, if there is one.
+// Returns the name of a receiver with its type, if there is one.
 fn receiver_name(
     alloc: Global,
     scope: &Scope,
@@ -134,7 +134,7 @@ fn receiver_name(
     }
 }
 
-// The scope outside all functions again. On an `Err` nothing is said of the scope.
+// Restores the scope outside all functions. On `Err` nothing is said of the scope.
 fn leave(alloc: Global, scope: &mut Scope) -> Result<(), Memory>
     ensures { OnOk result (scope.new ≡ record scope.old { locals = []; result = None; next = 0 }) }
 {
@@ -144,7 +144,7 @@ fn leave(alloc: Global, scope: &mut Scope) -> Result<(), Memory>
     Ok(())
 }
 
-// A function of these types. The fact that counts its slots and facts is added before these.
+// Passes over a function of these types. The fact that counts its slots and facts is added before them.
 #[tactic(auto, using(crate::proofs::Laws::left_scope, golf_check_types::proofs::Seams::function_filled))]
 fn typed_function(
     checker: &mut Checker,
@@ -174,7 +174,7 @@ fn typed_function(
     Ok(())
 }
 
-/// A function or method. After an error nothing is said of the checker.
+/// Passes over a function or method. After an error nothing is said of the checker.
 pub fn function(checker: &mut Checker, func: &Func) -> Result<(), TypeFault>
     requires { checker.old.scope ≡ outside_of checker.old.scope.file }
     ensures { Stays result (func_walk func.now checker.old.scope) checker.old checker.new }

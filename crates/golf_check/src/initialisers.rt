@@ -1,7 +1,7 @@
-//! Whether constants and what globals begin with keep the rules.
+//! The check of constants and of the initialisers of globals.
 //!
-//! An initialiser is judged outside all functions. The scope has the number of its global while it is, so that a global
-//! below it is not read.
+//! An initialiser is judged outside all functions. Meanwhile the scope has the number of its global, so that no global
+//! below it can be read.
 
 ghost use Rattle.std.specs.Prelude.{◌≡◌};
 ghost use Rattle.golf_syntax_trees.specs.declared.statements.VarContent.TheVariants as content_as;
@@ -16,7 +16,7 @@ use golf_check_types::rules::{NIL_WITHOUT_TYPE, NOT_ASSIGNABLE};
 use golf_check_types::{Fact, TypeFault};
 use golf_syntax_trees::{Const, Expr, TypeExpr, Var, VarContent};
 
-/// A constant on a line. The fact of its value is added if it is an integer.
+/// Checks a constant on a line. The fact of its value is added if it is an integer.
 pub fn constant(checker: &mut Checker, line: u32, value: &Const) -> Result<(), TypeFault>
     ensures { Adds result (judges (const_faults line value.now) (const_facts value.now)) checker.old checker.new }
 {
@@ -35,7 +35,7 @@ pub fn constant(checker: &mut Checker, line: u32, value: &Const) -> Result<(), T
     }
 }
 
-// The initialiser of a global with a written type.
+// Checks the initialiser of a global with a written type.
 fn typed_initialiser(checker: &mut Checker, t: &TypeExpr, e: &Expr) -> Result<(), TypeFault>
     ensures { Adds result (initial_walk checker.old.line (content_as.Typed t.now e.now) checker.old.scope) checker.old checker.new }
 {
@@ -44,7 +44,7 @@ fn typed_initialiser(checker: &mut Checker, t: &TypeExpr, e: &Expr) -> Result<()
     checker.require(NOT_ASSIGNABLE, assignable(&value, &of_type))
 }
 
-// The initialiser of a global without one.
+// Checks the initialiser of a global without a written type.
 fn untyped_initialiser(checker: &mut Checker, e: &Expr) -> Result<(), TypeFault>
     ensures { Adds result (initial_walk checker.old.line (content_as.Untyped e.now) checker.old.scope) checker.old checker.new }
 {
@@ -52,7 +52,7 @@ fn untyped_initialiser(checker: &mut Checker, e: &Expr) -> Result<(), TypeFault>
     checker.require(NIL_WITHOUT_TYPE, !is_nil(&value))
 }
 
-// What a global begins with.
+// Checks the initialiser of a global, if it has one.
 fn initialiser(checker: &mut Checker, content: &VarContent) -> Result<(), TypeFault>
     ensures { Adds result (initial_walk checker.old.line content.now checker.old.scope) checker.old checker.new }
 {
@@ -63,7 +63,7 @@ fn initialiser(checker: &mut Checker, content: &VarContent) -> Result<(), TypeFa
     }
 }
 
-/// What the global of this number begins with. Its written type was judged before.
+/// Checks the initialiser of the global of this number. Its written type was checked before.
 pub fn global(checker: &mut Checker, number: u32, var: &Var) -> Result<(), TypeFault>
     requires { checker.old.scope.initialises ≡ None }
     ensures { Stays result (initial_walk var.now.line var.now.content (record checker.old.scope { initialises = Some number })) checker.old checker.new }

@@ -1,4 +1,5 @@
-//! Whether a file keeps the rules of names and types, and what is found of its parts.
+//! The checker of a file: it finds the first broken rule of names and types, or the facts of the
+//! file's parts.
 #![tactic(auto)]
 
 mod files;

@@ -1,6 +1,6 @@
 //! The scope outside all functions.
 //!
-//! It is made of the names of the file, and their types are added once the names are judged. It has no locals.
+//! It has the names of the file. Their types are added once the names are judged. It has no locals.
 
 ghost use Rattle.std.specs.Prelude.{◌≡◌, IfOk, OnOk};
 ghost use Rattle.golf_check_types.specs.Files.{bare_file, with_types, with_forms, outside as outside_of};
@@ -13,7 +13,7 @@ use golf_check_types::{FileScope, Imports, Locals, Scope};
 use golf_syntax_trees::Decl;
 use std::alloc::Global;
 
-// The scope outside all functions of a file.
+// Returns the scope outside all functions of a file.
 fn outside(alloc: Global, file: FileScope) -> Scope
     ensures { result ≡ outside_of file }
 {
@@ -29,7 +29,7 @@ fn outside(alloc: Global, file: FileScope) -> Scope
     }
 }
 
-/// Names without types.
+/// Returns the scope of the names of a file without types.
 pub fn bare_scope(alloc: Global, imports: Imports, decls: &[Decl]) -> Result<Scope, Memory>
     ensures { IfOk result (λ s. s ≡ outside_of (bare_file imports decls.now)) }
 {
@@ -38,7 +38,7 @@ pub fn bare_scope(alloc: Global, imports: Imports, decls: &[Decl]) -> Result<Sco
     Ok(outside(alloc, naming.into_file_scope(alloc, imports)))
 }
 
-// Adds the types that are written. On an `Err` nothing is said of the scope.
+// Adds the written types. On `Err` nothing is said of the scope.
 fn add_written_types(alloc: Global, scope: &mut Scope, decls: &[Decl]) -> Result<(), Memory>
     requires { scope.old ≡ outside_of scope.old.file }
     ensures { OnOk result (scope.new ≡ outside_of (with_types scope.old.file decls.now)) }
@@ -52,7 +52,7 @@ fn add_written_types(alloc: Global, scope: &mut Scope, decls: &[Decl]) -> Result
     Ok(())
 }
 
-/// Adds the types of fields, globals and functions. On an `Err` nothing is said of the scope.
+/// Adds the types of fields, globals and functions. On `Err` nothing is said of the scope.
 pub fn add_types(alloc: Global, scope: &mut Scope, decls: &[Decl]) -> Result<(), Memory>
     requires { scope.old ≡ outside_of scope.old.file }
     ensures { OnOk result (scope.new ≡ outside_of (with_forms (with_types scope.old.file decls.now) 0 decls.now)) }

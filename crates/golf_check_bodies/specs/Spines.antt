@@ -1,4 +1,4 @@
--- What an expression is after its left operand, and how the facts stand while expressions wait for theirs.
+-- The judgment of an expression after its left operand, and the facts while expressions wait for their left operands.
 use Rattle.std.specs.Prelude.{◌≡◌, ℕ, zero, suc, ◌+◌, ◌&&◌, List, [], ◌∷◌, ◌++◌, map, drop, length}
 use Rattle.std.specs.Borrow.{Bor}
 use Rattle.golf_syntax_trees.specs.declared.expressions.BinaryOperator.{BinaryOperator}
@@ -20,8 +20,8 @@ use Rattle.golf_check_types.specs.Expressions.{selected_from, result_base, binar
 use Rattle.golf_check_types.specs.Calls.{called_with}
 use Rattle.golf_check_types.specs.Judging.{judge, judge_at}
 
--- What an expression is after a left operand that is this: its meaning, the rules that it breaks then, and the facts of
--- its other parts.
+-- The judgment of an expression after a left operand with this meaning: its meaning, the rules that it breaks then, and
+-- the facts of its other parts.
 
 abbrev pub after_selector : ℕ → Scope → List ℕ → Operand → Judged
 after_selector l s n m = leaf (selected_from l s.file n m).meaning (selected_from l s.file n m).faults
@@ -58,24 +58,24 @@ after_step _ l s m = leaf m []
 unfoldable pub after : Expr → ℕ → Scope → Operand → Judged
 after e l s m = after_step (out-Expr e) l s m
 
--- a left operand, and the rest
+-- the judgment of a left operand, joined with that of the rest
 abbrev pub joined : Judged → Judged → Judged
 joined x y = record { meaning = y.meaning; faults = x.faults ++ y.faults; inner = facts_of x ++ y.inner }
 
--- an expression with this left operand
+-- the judgment of an expression, from that of its left operand
 abbrev pub raised : ℕ → Scope → Expr → Judged → Judged
 raised l s e x = joined x (after e l s x.meaning)
 
--- the places that are kept for the facts of so many
+-- the places that are kept for the facts of n expressions
 abbrev pub kept : ℕ → List Fact
 kept zero = []
 kept (suc n) = kept n ++ fact.Part 0 ∷ []
 
--- what was found, whose fact stands at this place before those of its parts
+-- the judgment of what was found; its fact is at this place, before those of its parts
 abbrev pub standing : Operand → ℕ → List Fact → Judged
 standing m at facts = record { meaning = m; faults = []; inner = drop (at + 1) facts }
 
--- These wait for what was found. Its fact stands behind the places that are kept for theirs.
+-- These expressions wait for what was found. Its fact comes after the places that are kept for theirs.
 abbrev pub Rising : ℕ → Scope → Expr → List Fact → List (Bor Expr) → Operand → ℕ → List Fact → Type 0
 Rising l s e old ws m at new = record {
   whole : risen (raised l s) (shown ws) (standing m at new) ≡ judge e l s;

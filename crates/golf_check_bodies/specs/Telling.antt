@@ -1,5 +1,5 @@
--- What the methods of a checker tell: an answer comes exactly if no rule is broken, and then the checker stands where
--- the walk of the definitions stands.
+-- The clauses of the checker's methods. An answer comes only if no rule is broken, and then the checker is where the
+-- walk of the definitions is.
 use Rattle.std.specs.Prelude.{◌≡◌, ℕ, Result, List, ◌++◌, map, flat_map, Option}
 use Rattle.golf_syntax_trees.specs.declared.expressions.Expr.{Expr}
 use Rattle.golf_check_types.specs.declared.fault.TypeFault.{TypeFault}
@@ -13,38 +13,38 @@ use Rattle.golf_check_types.specs.Expressions.{Judged, facts_of, put_facts, used
 use Rattle.golf_check_types.specs.Statements.{Walked, behind, received, carried}
 use Rattle.golf_check_bodies.specs.declared.checker.Checker.{Checker}
 
--- these facts more
+-- the checker with these facts added
 abbrev pub with_facts : Checker → List Fact → Checker
 with_facts c fs = record c { facts = c.facts ++ fs }
 
--- What an expression is; the facts of its parts were added.
+-- The answer is what an expression is, and the facts of its parts were added.
 abbrev pub Judges : Result Operand TypeFault → Judged → Checker → Checker → Type 0
 Judges result j old new = Tells result j.faults (λ m. (m ≡ j.meaning) × (new ≡ with_facts old j.inner))
 
--- the same, with its own fact
+-- the same, and its own fact was added, too
 abbrev pub JudgesWhole : Result Operand TypeFault → Judged → Checker → Checker → Type 0
 JudgesWhole result j old new = Tells result j.faults (λ m. (m ≡ j.meaning) × (new ≡ with_facts old (facts_of j)))
 
--- the same of an expression that stands as a value
+-- the same for an expression that is used as a value
 abbrev pub Gives : Result Given TypeFault → Judged → Checker → Checker → Type 0
 Gives result j old new = Tells result (used old.line j) (λ v. (v ≡ given_by j) × (new ≡ with_facts old (facts_of j)))
 
--- the same of one that may be a name of any kind
+-- the same for an expression that can be a name of any kind
 abbrev pub Takes : Result Operand TypeFault → Judged → Checker → Checker → Type 0
 Takes result j old new = Tells result (named_or_used old.line j)
     (λ m. (m ≡ j.meaning) × (new ≡ with_facts old (facts_of j)))
 
--- the same of several that stand as values
+-- the same for several expressions that are used as values
 abbrev pub GivesAll : Result (List Given) TypeFault → List Judged → Checker → Checker → Type 0
 GivesAll result js old new = Tells result (flat_map (used old.line) js)
     (λ vs. (vs ≡ map given_by js) × (new ≡ with_facts old (flat_map facts_of js)))
 
--- the same of what is put into fields of these names, before each of which the place of its field stands
+-- the same for the values for fields of these names; the place of its field comes before each value
 abbrev pub Puts : Option Base → List (List ℕ) → Result (List Given) TypeFault → List Judged → Checker → Checker → Type 0
 Puts b names result js old new = Tells result (flat_map (used old.line) js)
     (λ vs. (vs ≡ map given_by js) × (new ≡ with_facts old (put_facts old.scope.file b names js)))
 
--- What was received: its type; the facts of its parts were added.
+-- The answer is the type of the received value, and the facts of the parts were added.
 abbrev pub Receives : Result (Option GoType) TypeFault → Expr → Checker → Checker → Type 0
 Receives result e old new = Tells result (received old.line e old.scope).faults
     (λ t. (t ≡ carried old.line e old.scope) × (new ≡ with_facts old (received old.line e old.scope).facts))
@@ -53,7 +53,7 @@ Receives result e old new = Tells result (received old.line e old.scope).faults
 abbrev pub Adds : {A : Type 0} → Result A TypeFault → Walked → Checker → Checker → Type 0
 Adds result w old new = Tells result w.faults (λ _. new ≡ with_facts old w.facts)
 
--- Any statement: the scope is that after it, and its facts were added. The line is that of its last part.
+-- Any statement: the scope is the one after it, and its facts were added. The line is that of its last part.
 abbrev pub Walks : {A : Type 0} → Result A TypeFault → Walked → Checker → Checker → Type 0
 Walks result w old new = Tells result w.faults
     (λ _. (new.scope ≡ behind old.scope w) × (new.facts ≡ old.facts ++ w.facts))

@@ -1,9 +1,9 @@
 //! The checker of expressions and statements.
 //!
-//! A checker goes over trees in the order of the walk. It keeps where the walk stands: the line of the statement at
-//! hand, what names mean there, and the facts that were found so far. A method named after a construct passes over one
-//! of them: after it the checker stands where the walk of the definitions stands after that construct, or the method
-//! answers the first rule that is broken. After an error nothing is said of the checker.
+//! A checker goes over trees in the order of the walk. It keeps the line of the present statement, the scope there, and
+//! the facts found so far. A method named after a construct passes over one such construct. After it the checker is
+//! where the walk of the definitions is after that construct, or the method returns the first broken rule. After an
+//! error nothing is said of the checker.
 
 ghost use Rattle.std.specs.Prelude.{◌≡◌, ◌∷◌, []};
 ghost use Rattle.golf_check_types.specs.Faults.{Tells, broken as broken_of};
@@ -18,18 +18,18 @@ use golf_check_types::{
 };
 use std::alloc::Global;
 
-/// Where the walk over the bodies of a file stands.
+/// The present state of the walk over the bodies of a file.
 pub struct Checker {
     pub alloc: Global,
-    /// The line of the statement at hand. Each statement sets it as it begins.
+    /// The line of the present statement. Each statement sets it as it begins.
     pub line: u32,
-    /// What names mean here.
+    /// The scope at the present place.
     pub scope: Scope,
-    /// What was found so far.
+    /// The facts found so far.
     pub facts: List<Fact>,
 }
 
-// Written out once here, so that no other crate goes through the fields where it lets a checker go.
+// Written out once here, so that no other crate has to prove the drop of each field.
 impl Drop for Checker {
     fn drop(self) {
         let Checker {
@@ -42,7 +42,7 @@ impl Drop for Checker {
 }
 
 impl Checker {
-    /// What names mean where the walk stands, and what was found so far.
+    /// Returns the present scope and the facts found so far.
     pub fn into_found(self) -> (Scope, List<Fact>)
         ensures scope { result.0 ≡ self.scope }
         ensures facts { result.1 ≡ self.facts }
@@ -56,14 +56,14 @@ impl Checker {
         (scope, facts)
     }
 
-    /// The rule is broken on the line at hand, unless the test holds.
+    /// Returns `Ok` if the test holds, and otherwise the fault of this rule on the present line.
     pub fn require(&self, rule: u32, holds: bool) -> Result<(), TypeFault>
         ensures { Tells result (broken_of self.now.line rule holds) (λ _. Unit {0}) }
     {
         require(self.line, rule, holds)
     }
 
-    /// Declares a variable of this name and type in the next slot, and adds the fact of it.
+    /// Declares a variable of this name and type in the next slot, and adds its fact.
     pub fn declare(&mut self, name: &[u8], t: Option<GoType>) -> Result<(), TypeFault>
         ensures { Walks result (declares_one self.old.scope name.now t [] (new_target_of self.old.scope t ∷ [])) self.old self.new }
     {
@@ -76,7 +76,7 @@ impl Checker {
     }
 }
 
-/// Whether a value is `nil`.
+/// Returns whether a value is `nil`.
 pub fn is_nil(given: &Given) -> bool
     ensures { result ≡ is_nil_of given.now }
 {

@@ -1,6 +1,6 @@
-//! The sends and receives that a `select` chooses from.
+//! The sends and receives among which a `select` chooses.
 //!
-//! A communication is judged on the line of `select`, and its names on that of `case`.
+//! A communication is judged on the line of `select`, and its names on the line of `case`.
 
 ghost use Rattle.std.specs.Prelude.{◌≡◌};
 ghost use Rattle.golf_check_types.specs.Statements.{communication as communication_of, received};
@@ -11,7 +11,7 @@ use golf_check_types::TypeFault;
 use golf_syntax_trees::{Communication, Expr};
 
 impl Checker {
-    /// The communication of a case. Names that stand left of `:=` are declared.
+    /// Passes over the communication of a case. Names left of `:=` are declared.
     #[tactic(auto, using(golf_check_types::proofs::WalkLaws::stays))]
     pub(crate) fn communication(
         &mut self,

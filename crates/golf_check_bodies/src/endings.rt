@@ -1,6 +1,6 @@
 //! Terminating statements (Go specification, "Terminating statements").
 //!
-//! How a statement ends is asked of the tree alone, after the body of a function was judged. It says whether the
+//! The endings are computed from the tree alone, after the body of a function was judged. An ending says whether the
 //! statement is terminating, and whether a `break` in it leaves the statement around it.
 
 ghost use Rattle.std.specs.Prelude.{◌≡◌, ◌&&◌, not, map};
@@ -12,7 +12,7 @@ ghost use Rattle.golf_check_types.specs.Endings.{clause_ending};
 use golf_check_types::Terminates;
 use golf_syntax_trees::{Clause, Expr, Header, SimpleKind, Stmt};
 
-// Whether an expression is the name `panic`, in brackets or not.
+// Returns whether an expression is the name `panic`, in brackets or not.
 fn is_panic(e: &Expr) -> bool
     ensures { result ≡ (panics_of e.now).named }
 {
@@ -23,7 +23,7 @@ fn is_panic(e: &Expr) -> bool
     }
 }
 
-// Whether an expression is a call of that, in brackets or not. A call of a call is none.
+// Returns whether an expression is a call of `panic`, in brackets or not. A call of a call is none.
 fn panics(e: &Expr) -> bool
     ensures { result ≡ (panics_of e.now).called }
 {
@@ -34,7 +34,7 @@ fn panics(e: &Expr) -> bool
     }
 }
 
-// Whether a simple statement is a call of `panic`.
+// Returns whether a simple statement is a call of `panic`.
 fn simple_ends(kind: &SimpleKind) -> bool
     ensures { result ≡ simple_ends_of kind.now }
 {
@@ -44,7 +44,7 @@ fn simple_ends(kind: &SimpleKind) -> bool
     }
 }
 
-// Whether a loop has no condition and no `range`.
+// Returns whether a loop has no condition and no `range`.
 fn is_endless(header: &Header) -> bool
     ensures { result ≡ is_endless_of header.now }
 {
@@ -55,7 +55,7 @@ fn is_endless(header: &Header) -> bool
     }
 }
 
-/// How statements in order end.
+/// Returns the ending of statements in order.
 #[cycle(ending)]
 pub fn all_ending(stmts: &[Stmt]) -> Terminates
     ensures { result ≡ of_all (map ending_of stmts.now) }
@@ -74,7 +74,7 @@ pub fn all_ending(stmts: &[Stmt]) -> Terminates
     found
 }
 
-// Whether each clause of a `select` ends, and none has a `break` that leaves it.
+// Returns whether each clause of a `select` ends, and no clause has a `break` that leaves it.
 #[cycle(ending)]
 fn clauses_end(clauses: &[Clause]) -> bool
     ensures { result ≡ list_all (λ c. c.ends && not c.breaks) (map clause_ending clauses.now) }
@@ -88,7 +88,7 @@ fn clauses_end(clauses: &[Clause]) -> bool
     true
 }
 
-// How the statements of a clause end.
+// Returns the ending of the statements of a clause.
 #[cycle(ending)]
 fn clause_at(clause: &Clause) -> Terminates
     ensures { result ≡ clause_ending clause.now }
@@ -99,7 +99,7 @@ fn clause_at(clause: &Clause) -> Terminates
     }
 }
 
-// The statement behind `else`. A loop follows each `else if`, since nothing bounds their number.
+// Returns the ending of the statement after `else`. A loop follows each `else if`, since nothing bounds their number.
 #[cycle(ending)]
 #[tactic(auto, using(crate::proofs::EndingBranches::branch_steps))]
 fn otherwise_at(otherwise: &Stmt) -> Terminates
@@ -125,7 +125,7 @@ fn otherwise_at(otherwise: &Stmt) -> Terminates
     }
 }
 
-// How a statement ends.
+// Returns the ending of a statement.
 #[cycle(ending)]
 fn ending_at(stmt: &Stmt) -> Terminates
     ensures { result ≡ ending_of stmt.now }

@@ -1,8 +1,8 @@
-//! What expressions are, and whether they keep the rules.
+//! The judging of expressions: what they are, and whether they keep the rules.
 //!
-//! An expression has a fact, and those of its parts stand after it, from left to right. The parts are judged first, and
-//! the first broken rule among them is the answer. What an expression is whatever rules it breaks is asked before any
-//! body, of the globals without a written type alone: `golf_check_names/src/forms.rt` says why that is another evaluator.
+//! An expression has a fact, and the facts of its parts follow it, from left to right. The parts are judged first, and
+//! the first broken rule among them is the answer. The globals without a written type need a judgment that never
+//! refuses, before any body: `golf_check_names/src/forms.rt` is the evaluator for them and says why.
 
 ghost use Rattle.std.specs.Prelude.{◌≡◌, ◌∷◌, None, map};
 ghost use Rattle.golf_syntax_trees.specs.Spines.{left_of};
@@ -35,10 +35,10 @@ use golf_check_types::{
 use golf_syntax_trees::{BinaryOperator, Element, Expr, TypeExpr, UnaryOperator, spine};
 
 impl Checker {
-    /// An expression: what it is. Its fact and those of its parts are added.
+    /// Passes over an expression and returns what it is. Its fact and those of its parts are added.
     ///
-    /// A loop follows the spine of left operands, since nothing bounds how many of them stand in one another. The fact
-    /// of an expression stands before those of its left operand, so the places of all these facts are kept first.
+    /// A loop follows the spine of left operands, since nothing bounds its length. The fact of an expression comes
+    /// before those of its left operand, so places for all these facts are kept first.
     #[cycle(judging)]
     pub fn expression(&mut self, e: &Expr) -> Result<Operand, TypeFault>
         ensures { JudgesWhole result (judge e.now self.old.line self.old.scope) self.old self.new }
@@ -57,7 +57,7 @@ impl Checker {
         Ok(operand)
     }
 
-    // One without a left operand: what it is. The facts of its parts are added.
+    // Judges an expression without a left operand. The facts of its parts are added.
     #[cycle(judging)]
     #[tactic(auto, unfolding(golf_check_types::specs::Judging::judge, golf_syntax_trees::specs::Spines::left_of))]
     fn innermost(&mut self, e: &Expr) -> Result<Operand, TypeFault>
@@ -89,7 +89,7 @@ impl Checker {
         }
     }
 
-    // One whose left operand is this: what it is. The facts of its other parts are added.
+    // Judges an expression after its left operand. The facts of its other parts are added.
     #[cycle(judging)]
     #[tactic(auto, unfolding(crate::specs::Spines::after))]
     fn after_left(&mut self, e: &Expr, left: Operand) -> Result<Operand, TypeFault>
@@ -124,7 +124,7 @@ impl Checker {
         }
     }
 
-    /// An expression that stands as a value: what it gives.
+    /// Passes over an expression that is used as a value, and returns what it gives.
     #[cycle(judging)]
     pub fn given(&mut self, e: &Expr) -> Result<Given, TypeFault>
         ensures { Gives result (judge e.now self.old.line self.old.scope) self.old self.new }
@@ -134,7 +134,7 @@ impl Checker {
         Ok(value_of(self.alloc, operand))
     }
 
-    /// An expression that may be a name of any kind, as what is called: what it is.
+    /// Passes over an expression that can be a name of any kind, such as a callee, and returns what it is.
     #[cycle(judging)]
     pub fn name_or_value(&mut self, e: &Expr) -> Result<Operand, TypeFault>
         ensures { Takes result (judge e.now self.old.line self.old.scope) self.old self.new }
@@ -144,7 +144,7 @@ impl Checker {
         Ok(operand)
     }
 
-    // What each expression gives as a value.
+    // Returns what each expression gives as a value.
     #[cycle(judging)]
     fn all_given(&mut self, es: &[Expr]) -> Result<List<Given>, TypeFault>
         ensures { GivesAll result (map (judge_at self.old.line self.old.scope) es.now) self.old self.new }
@@ -156,8 +156,8 @@ impl Checker {
         Ok(values)
     }
 
-    // What is put into each field of the struct that a pointer leads to. The place of the field is added before its
-    // facts.
+    // Returns what is given for each field of the struct to which a pointer refers. The place of the field is added
+    // before the facts of its value.
     #[cycle(judging)]
     fn all_put(
         &mut self,
@@ -173,7 +173,7 @@ impl Checker {
         Ok(values)
     }
 
-    // What is put into one field.
+    // Returns what is given for one field.
     #[cycle(judging)]
     fn put(&mut self, base: Option<Base>, element: &Element) -> Result<Given, TypeFault>
         ensures { Tells result (used self.old.line (value_at self.old.line self.old.scope element.now)) (λ v. (v ≡ given_by (value_at self.old.line self.old.scope element.now)) × (self.new ≡ with_facts self.old (Fact.Field (field_place_of self.old.scope.file base element.now.field) ∷ facts_of (value_at self.old.line self.old.scope element.now)))) }
@@ -183,7 +183,7 @@ impl Checker {
         self.given(&element.value)
     }
 
-    // A literal of an integer. The fact of its value is added.
+    // Judges an integer literal. The fact of its value is added.
     fn integer(&mut self, digits: &[u8]) -> Result<Operand, TypeFault>
         ensures { Judges result (integer_of self.old.line digits.now) self.old self.new }
     {
@@ -242,7 +242,7 @@ impl Checker {
         made_sized(self.alloc, self.line, of_type, &size)
     }
 
-    // The index of what is indexed.
+    // Judges an index, after the slice.
     #[cycle(judging)]
     fn index(&mut self, slice: Operand, i: &Expr) -> Result<Operand, TypeFault>
         ensures { Judges result (after_index self.old.line slice (judge i.now self.old.line self.old.scope)) self.old self.new }
@@ -253,7 +253,7 @@ impl Checker {
         golf_check_operands::index(self.line, x, y)
     }
 
-    // The operand of a unary operator.
+    // Judges a unary operator with its operand.
     #[cycle(judging)]
     fn unary(&mut self, operator: UnaryOperator, e: &Expr) -> Result<Operand, TypeFault>
         ensures { Judges result (unary_judged self.old.line self.old.scope operator (judge e.now self.old.line self.old.scope)) self.old self.new }
@@ -262,7 +262,7 @@ impl Checker {
         golf_check_operands::unary(self.alloc, self.line, &self.scope, operator, x)
     }
 
-    // The second operand of a binary operator, after the first one.
+    // Judges a binary operator with its second operand, after the first one.
     #[cycle(judging)]
     fn binary(
         &mut self,
@@ -278,7 +278,7 @@ impl Checker {
         golf_check_operands::binary(self.alloc, self.line, operator, x, y)
     }
 
-    // The arguments of a call, after what is called.
+    // Judges the arguments of a call, after the callee.
     #[cycle(judging)]
     fn call(&mut self, f: &Operand, xs: &[Expr]) -> Result<Operand, TypeFault>
         ensures { Judges result (after_call self.old.line self.old.scope f.now (map (judge_at self.old.line self.old.scope) xs.now)) self.old self.new }
@@ -287,7 +287,7 @@ impl Checker {
         self.called(f, xs)
     }
 
-    /// A call of what may be called, after that: what it gives.
+    /// Judges a call of an operand that can be a name of any kind, and returns what the call gives.
     #[cycle(judging)]
     pub fn called(&mut self, f: &Operand, xs: &[Expr]) -> Result<Operand, TypeFault>
         ensures { Judges result (called_with self.old.line self.old.scope f.now (map (judge_at self.old.line self.old.scope) xs.now)) self.old self.new }
@@ -299,7 +299,7 @@ impl Checker {
         }
     }
 
-    // The arguments of any other call.
+    // Judges the arguments of a call that is no `SetFinalizer`.
     #[cycle(judging)]
     fn plain_call(&mut self, f: &Operand, xs: &[Expr]) -> Result<Operand, TypeFault>
         ensures { Judges result (plain_call_of self.old.line self.old.scope f.now (map (judge_at self.old.line self.old.scope) xs.now)) self.old self.new }
@@ -315,7 +315,7 @@ impl Checker {
         )
     }
 
-    // `SetFinalizer`: its second argument may be a name of any kind.
+    // Judges the arguments of `SetFinalizer`. The second one can be a name of any kind.
     #[cycle(judging)]
     fn finaliser_call(&mut self, f: &Operand, xs: &[Expr]) -> Result<Operand, TypeFault>
         ensures { Judges result (finaliser_call_of self.old.line self.old.scope f.now (map (judge_at self.old.line self.old.scope) xs.now)) self.old self.new }
@@ -333,7 +333,7 @@ impl Checker {
         }
     }
 
-    // The same with at least two arguments.
+    // Judges the same with at least two arguments.
     #[cycle(judging)]
     fn finaliser_with(
         &mut self,

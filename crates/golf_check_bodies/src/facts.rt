@@ -1,6 +1,6 @@
 //! Facts that count those after them.
 //!
-//! Such a fact stands before what it counts, so a place is kept for it, and filled once all facts after it are there.
+//! Such a fact comes before the facts that it counts. So a place is kept for it, and filled once these facts are there.
 
 ghost use Rattle.std.specs.Prelude.{◌≡◌, ◌-◌, ◌<◌, ◌++◌, length, slice_set, OnOk};
 ghost use Rattle.golf_check_bodies.specs.Spines.{kept};
@@ -9,7 +9,7 @@ use golf_base::{List, Memory};
 use golf_check_types::{Fact, Operand, copy_operand};
 use std::alloc::Global;
 
-/// Keeps places for the facts of so many expressions.
+/// Adds `count` places that are kept for facts of expressions.
 pub(crate) fn keep(count: usize, facts: &mut List<Fact>) -> Result<(), Memory>
     ensures { OnOk result (facts.new ≡ facts.old ++ kept count) }
 {
@@ -19,7 +19,7 @@ pub(crate) fn keep(count: usize, facts: &mut List<Fact>) -> Result<(), Memory>
     Ok(())
 }
 
-/// Fills the place that was kept for the fact of an expression: what it is, and how many facts stand after it.
+/// Fills the place that was kept for the fact of an expression: what it is, and how many facts follow.
 pub(crate) fn fill(
     alloc: Global,
     at: usize,
@@ -41,7 +41,7 @@ pub(crate) fn fill(
     Ok(())
 }
 
-/// Puts the number of the facts after a place into it.
+/// Stores at a place the number of the facts after it.
 pub(crate) fn count_part(facts: &mut List<Fact>, at: usize)
     requires { at < length facts.old }
     ensures { facts.new ≡ slice_set facts.old at (Fact.Part (length facts.old - at - 1)) }

@@ -1,4 +1,4 @@
-//! What stands in the headers of `if` and `for`: conditions and simple statements, each of which may be left out.
+//! The parts of the headers of `if` and `for`: conditions and simple statements. Each of them can be left out.
 
 ghost use Rattle.std.specs.Prelude.{◌≡◌};
 ghost use Rattle.golf_check_types.specs.Statements.{condition as condition_of, optional};
@@ -13,7 +13,7 @@ use golf_check_types::{Base, Fact, TypeFault};
 use golf_syntax_trees::{Expr, OwnedExpr, OwnedSimple};
 
 impl Checker {
-    /// A condition, which is `bool`.
+    /// Passes over a condition, which must be `bool`.
     pub(crate) fn condition(&mut self, e: &Expr) -> Result<(), TypeFault>
         ensures { Adds result (condition_of self.old.line e.now self.old.scope) self.old self.new }
     {
@@ -21,7 +21,7 @@ impl Checker {
         self.require(WRONG_OPERAND, has_base(Base::Bool, &value))
     }
 
-    /// A condition, if there is one.
+    /// Passes over a condition, if there is one.
     pub(crate) fn optional_condition(&mut self, test: &Option<OwnedExpr>) -> Result<(), TypeFault>
         ensures { Adds result (optional_test_of self.old.line test.now self.old.scope) self.old self.new }
     {
@@ -31,7 +31,7 @@ impl Checker {
         }
     }
 
-    /// A simple statement, if there is one.
+    /// Passes over a simple statement, if there is one.
     #[tactic(auto, using(golf_check_types::proofs::WalkLaws::stays))]
     pub(crate) fn optional_statement(
         &mut self,
@@ -45,8 +45,8 @@ impl Checker {
         }
     }
 
-    /// The last statement of the header of a `for`, if there is one. Its facts are counted, since its code stands after
-    /// the body.
+    /// Passes over the last statement of the header of a `for`, if there is one. Its facts are counted, since its code
+    /// comes after the body.
     #[tactic(auto, using(golf_check_types::proofs::Seams::part_filled))]
     pub(crate) fn post_statement(&mut self, post: &Option<OwnedSimple>) -> Result<(), TypeFault>
         ensures { Walks result (counted (optional post.now) self.old.scope) self.old self.new }

@@ -1,7 +1,7 @@
-//! Whether expressions and statements keep the rules of types, and what is found of their parts: the `Checker`.
+//! The checker of bodies: whether expressions and statements keep the rules of types, and the facts of their parts.
 //!
-//! It is asked for the bodies of functions and for what globals begin with. What the names of the file mean is known by
-//! then, and each method passes over one construct, in the order of the walk.
+//! It runs on the bodies of functions and on the initialisers of globals, when the names of the file are known. The
+//! main word is `Checker`: each of its methods passes over one construct, in the order of the walk.
 #![tactic(auto)]
 
 mod checker;

@@ -1,7 +1,7 @@
-//! Names left of `:=` and `=` beside a receive.
+//! Names left of `:=` and `=`, beside a receive.
 //!
-//! Left of `:=` a name that is not declared in this block is new, and any other is kept: the value is stored under it.
-//! The second of two names takes whether something was received.
+//! Left of `:=` a name that this block has not declared is new. Any other name is kept: the value is stored under it.
+//! The second of two names gets whether a value was received.
 
 ghost use Rattle.std.specs.Prelude.{◌≡◌, ◌∷◌, [], IfOk, unwrap_or};
 ghost use Rattle.golf_check_types.specs.Faults.{Tells};
@@ -27,21 +27,21 @@ use golf_check_types::{
 };
 use std::alloc::Global;
 
-// The type of whether something was received.
+// Returns `bool`, the type of the second name.
 fn truth_type(alloc: Global) -> Option<GoType>
     ensures { result ≡ bool_type }
 {
     Some(plain(alloc, Base::Bool))
 }
 
-// The fact of what is stored to.
+// Returns the fact of the target of a store.
 fn target(operand: Option<Operand>) -> Fact
     ensures { result ≡ Fact.Target (unwrap_or operand Operand.Unknown) }
 {
     Fact::Target(operand.unwrap_or(Operand::Unknown))
 }
 
-// Whether something can be stored to an operand. One that is not known takes any value.
+// Returns whether an operand can be stored to. An operand that is not known takes any value.
 fn takes_value(operand: &Option<Operand>) -> bool
     ensures { result ≡ takes_value_of operand.now }
 {
@@ -55,7 +55,7 @@ fn takes_value(operand: &Option<Operand>) -> bool
 }
 
 impl Checker {
-    /// The name of a received value, left of `:=`.
+    /// Declares the name of a received value, left of `:=`.
     pub(crate) fn declare_name(&mut self, name: &[u8], t: Option<GoType>) -> Result<(), TypeFault>
         ensures { Walks result (define_name self.old.line name.now t self.old.scope) self.old self.new }
     {
@@ -63,7 +63,7 @@ impl Checker {
         self.declare(name, t)
     }
 
-    /// Two names left of `:=`, of which the first takes a value of this type.
+    /// Passes over two names left of `:=`. The first takes a value of this type.
     pub(crate) fn declare_pair(
         &mut self,
         first: &[u8],
@@ -76,7 +76,7 @@ impl Checker {
         self.store_both(first, second, t)
     }
 
-    // Whether two names may stand left of `:=`.
+    // Checks that two names can be left of `:=`.
     fn pair_fits(&self, first: &[u8], second: &[u8], t: &Option<GoType>) -> Result<(), TypeFault>
         ensures { Tells result (pair_faults self.now.line self.now.scope first.now second.now t.now) (λ _. Unit {0}) }
     {
@@ -88,7 +88,7 @@ impl Checker {
         )
     }
 
-    // Whether neither name is reserved, and they are not one new name twice.
+    // Returns whether neither name is reserved, and they are not the same new name.
     #[tactic(auto, unfolding(golf_check_types::specs::Statements::pair_differs))]
     fn pair_differs(&self, first: &[u8], second: &[u8]) -> bool
         ensures { result ≡ pair_differs_of self.now.scope first.now second.now }
@@ -98,7 +98,7 @@ impl Checker {
             && !(first == second && is_new(&self.scope, first))
     }
 
-    // Whether kept names can take the values. One name that stands twice is not assigned.
+    // Checks that kept names can take the values. A name that comes twice is not assigned.
     fn kept_pair_fits(
         &self,
         first: &[u8],
@@ -114,7 +114,7 @@ impl Checker {
         self.kept_fits(second, &truth_type(self.alloc))
     }
 
-    // Whether a name that is declared in this block can take a value of this type.
+    // Checks that a name that this block has declared can take a value of this type.
     #[tactic(auto, unfolding(golf_check_types::specs::Statements::kept_faults))]
     fn kept_fits(&self, name: &[u8], t: &Option<GoType>) -> Result<(), TypeFault>
         ensures { Tells result (kept_faults self.now.line self.now.scope name.now t.now) (λ _. Unit {0}) }
@@ -125,7 +125,7 @@ impl Checker {
         }
     }
 
-    // The same of a variable. One of a block further out is not assigned.
+    // Checks the same for a variable. A variable of an outer block is not assigned.
     fn local_fits(&self, local: &Local, t: &Option<GoType>) -> Result<(), TypeFault>
         ensures { Tells result (kept_local_of self.now.line self.now.scope.depth (Some local.now) t.now) (λ _. Unit {0}) }
     {
@@ -137,7 +137,7 @@ impl Checker {
         }
     }
 
-    // Each name is declared if it is new, and the value is stored to it.
+    // Declares each name that is new, and adds the targets of the stores.
     fn store_both(
         &mut self,
         first: &[u8],
@@ -155,7 +155,7 @@ impl Checker {
         self.new_or_kept(second, second_new, second_kept, truth)
     }
 
-    // What is assigned if this name stands left.
+    // Returns the operand to which a name left of `=` assigns.
     fn assigned(&self, name: &[u8]) -> Result<Operand, Memory>
         ensures { IfOk result (λ m. m ≡ assigned_of self.now.scope name.now) }
     {
@@ -163,7 +163,7 @@ impl Checker {
         Ok(operand.unwrap_or(Operand::Unknown))
     }
 
-    /// Declares a variable if it is new, and adds the fact of what is stored to: its slot, or what was kept.
+    /// Declares a variable if it is new, and adds the fact of the store's target: its slot, or the kept operand.
     #[tactic(auto, using(golf_check_types::proofs::WalkLaws::stays))]
     pub(crate) fn new_or_kept(
         &mut self,
@@ -181,7 +181,7 @@ impl Checker {
         Ok(())
     }
 
-    /// A name left of `=` that takes a value of this type.
+    /// Passes over a name left of `=` that takes a value of this type.
     pub(crate) fn assign_name(&mut self, name: &[u8], t: &Option<GoType>) -> Result<(), TypeFault>
         ensures { Adds result (assign_name_of self.old.line name.now t.now self.old.scope) self.old self.new }
     {
@@ -191,7 +191,7 @@ impl Checker {
         Ok(())
     }
 
-    /// Two names left of `=`, of which the first takes a value of this type.
+    /// Passes over two names left of `=`. The first takes a value of this type.
     pub(crate) fn assign_pair(
         &mut self,
         first: &[u8],
@@ -208,7 +208,7 @@ impl Checker {
         Ok(())
     }
 
-    // Whether a value of this type may be stored to an operand.
+    // Checks that a value of this type can be stored to an operand.
     fn is_assigned(&self, operand: &Option<Operand>, t: &Option<GoType>) -> Result<(), TypeFault>
         ensures { Tells result (assigned_faults self.now.line operand.now t.now) (λ _. Unit {0}) }
     {
@@ -217,7 +217,7 @@ impl Checker {
         self.require(NO_PLACE, takes_value(operand))
     }
 
-    // Whether a value of this type and whether it was received may be stored to two operands.
+    // Checks that a value of this type, and a truth value, can be stored to two operands.
     fn are_assigned(
         &self,
         first: &Option<Operand>,
@@ -232,7 +232,7 @@ impl Checker {
         self.require(NO_PLACE, takes_value(first) && takes_value(second))
     }
 
-    // Whether an assigned operand can take a value of this type. One that is not known takes any.
+    // Checks that an assigned operand can take a value of this type. An operand that is not known takes any.
     #[tactic(auto, unfolding(golf_check_types::specs::Statements::put_in_faults))]
     fn put_in_fits(&self, operand: &Option<Operand>, t: &Option<GoType>) -> Result<(), TypeFault>
         ensures { Tells result (put_in_faults self.now.line operand.now t.now) (λ _. Unit {0}) }
@@ -243,7 +243,7 @@ impl Checker {
         }
     }
 
-    // The same of an operand that is known.
+    // Checks the same for an operand that is known.
     #[tactic(auto, unfolding(golf_check_types::specs::Statements::put_in_faults))]
     fn operand_fits(&self, operand: &Operand, t: &Option<GoType>) -> Result<(), TypeFault>
         ensures { Tells result (put_in_faults self.now.line (Some operand.now) t.now) (λ _. Unit {0}) }

@@ -1,7 +1,7 @@
 //! The header of a `for` with `range`.
 //!
-//! Over a slice there are three hidden slots (the slice, its length, the next index), over a channel one. The names come
-//! after them: an index and an element, or what the channel carries.
+//! A range over a slice has three hidden slots: the slice, its length and the next index. A range over a channel has
+//! one. The names come after them: an index and an element, or an element of the channel.
 
 ghost use Rattle.std.specs.Prelude.{◌≡◌, ◌++◌, [], IfOk};
 ghost use Rattle.golf_check_types.specs.Faults.{Tells};
@@ -27,7 +27,7 @@ use golf_check_types::{
 use golf_syntax_trees::{Expr, RangeNames};
 use std::alloc::Global;
 
-// Whether no name is reserved, and two are different.
+// Returns whether no name is reserved, and two names are different.
 #[tactic(auto, unfolding(golf_check_types::specs::Statements::range_names_differ))]
 fn range_names_differ(names: &RangeNames) -> bool
     ensures { result ≡ range_names_differ_of names.now }
@@ -43,7 +43,7 @@ fn range_names_differ(names: &RangeNames) -> bool
     }
 }
 
-// Whether a `range` has two names.
+// Returns whether a `range` has two names.
 fn are_two(names: &RangeNames) -> bool
     ensures { result ≡ are_two_of names.now }
 {
@@ -53,7 +53,7 @@ fn are_two(names: &RangeNames) -> bool
     }
 }
 
-// Whether layers are those of a channel that can only be sent on.
+// Returns whether the layers are those of a channel that can only be sent on.
 fn begins_only_taking(layers: &[Layer]) -> bool
     ensures { result ≡ starts_with only_takes layers.now }
 {
@@ -63,7 +63,7 @@ fn begins_only_taking(layers: &[Layer]) -> bool
     }
 }
 
-// Whether a value is a channel that can only be sent on.
+// Returns whether a value is a channel that can only be sent on.
 fn only_takes_values(given: &Given) -> bool
     ensures { result ≡ is_outer only_takes given.now }
 {
@@ -73,7 +73,7 @@ fn only_takes_values(given: &Given) -> bool
     }
 }
 
-// Whether a value is known to be a channel.
+// Returns whether a value is known to be a channel.
 fn is_channel(given: &Given) -> bool
     ensures { result ≡ is_outer is_channel_layer given.now }
 {
@@ -83,7 +83,7 @@ fn is_channel(given: &Given) -> bool
     }
 }
 
-// Whether a value is known to be a slice.
+// Returns whether a value is known to be a slice.
 fn is_slice(given: &Given) -> bool
     ensures { result ≡ is_outer is_slice_layer given.now }
 {
@@ -93,7 +93,7 @@ fn is_slice(given: &Given) -> bool
     }
 }
 
-// The type of the first name: an index, or what the channel carries.
+// Returns the type of the first name: an index, or the element type of the channel.
 fn first_type(alloc: Global, slice: bool, t: &Option<GoType>) -> Result<Option<GoType>, Memory>
     ensures { IfOk result (λ r. r ≡ first_type_of slice t.now) }
 {
@@ -105,7 +105,7 @@ fn first_type(alloc: Global, slice: bool, t: &Option<GoType>) -> Result<Option<G
 }
 
 impl Checker {
-    /// What a `range` goes over. The fact of its first hidden slot is added.
+    /// Passes over the expression of a `range` and returns what it gives. The fact of the first hidden slot is added.
     pub(crate) fn range_head(&mut self, names: &RangeNames, e: &Expr) -> Result<Given, TypeFault>
         ensures { Tells result (range_head_of self.old.line names.now e.now self.old.scope).faults (λ v. (v ≡ given_by (judge e.now self.old.line self.old.scope)) × (self.new ≡ with_facts self.old (range_head_of self.old.line names.now e.now self.old.scope).facts)) }
     {
@@ -115,7 +115,7 @@ impl Checker {
         Ok(value)
     }
 
-    // Whether a value can be gone over with these names.
+    // Checks that a `range` over a value can have these names.
     fn can_be_ranged(&self, names: &RangeNames, given: &Given) -> Result<(), TypeFault>
         ensures { Tells result (range_faults self.now.line names.now given.now) (λ _. Unit {0}) }
     {
@@ -125,7 +125,7 @@ impl Checker {
         self.require(WRONG_RANGE, fits)
     }
 
-    /// The hidden slots of a `range` over this value, and its names.
+    /// Hands out the hidden slots of a `range` over this value, and declares its names.
     pub(crate) fn range_slots(&mut self, names: &RangeNames, given: Given) -> Result<(), TypeFault>
         ensures { Walks result (range_slots_of names.now given self.old.scope) self.old self.new }
     {
@@ -134,7 +134,7 @@ impl Checker {
         self.range_names(names, slice, element(given))
     }
 
-    // Hands out the slots that have no name.
+    // Hands out the hidden slots.
     fn hide_slots(&mut self, slice: bool, given: &Given) -> Result<(), TypeFault>
         ensures { Walks result (hides (hidden slice (type_given_of given.now))) self.old self.new }
     {
@@ -146,7 +146,7 @@ impl Checker {
         Ok(())
     }
 
-    // Declares the names of a `range` over what has or carries this type.
+    // Declares the names of a `range` over elements of this type.
     #[tactic(auto, using(golf_check_types::proofs::WalkLaws::stays))]
     fn range_names(
         &mut self,
@@ -167,7 +167,7 @@ impl Checker {
         }
     }
 
-    // A name of a `range` is new unless it is `_`.
+    // Passes over a name of a `range`, which is new unless it is `_`.
     fn range_name(&mut self, name: &[u8], t: Option<GoType>) -> Result<(), TypeFault>
         ensures { Walks result (range_name_of name.now t self.old.scope) self.old self.new }
     {

@@ -1,6 +1,6 @@
-//! Simple statements, and the receives that stand in `select` too.
+//! Simple statements, and the receives that `select` has, too.
 //!
-//! What stands on both sides is judged first, from left to right, and then whether the sides fit each other.
+//! Both sides are judged first, from left to right. Then the checker looks whether they fit each other.
 
 ghost use Rattle.std.specs.Prelude.{◌≡◌, ◌++◌};
 ghost use Rattle.golf_check_types.specs.Faults.{Tells, broken as broken_of};
@@ -25,7 +25,7 @@ use golf_check_types::{
 };
 use golf_syntax_trees::{Expr, Simple, SimpleKind};
 
-/// Whether an operand is a variable, field or element.
+/// Returns whether an operand is a variable, a field or an element. An operand that is not known counts as one.
 pub(crate) fn is_place(operand: &Operand) -> bool
     ensures { result ≡ is_place_of operand.now }
 {
@@ -39,7 +39,7 @@ pub(crate) fn is_place(operand: &Operand) -> bool
 }
 
 impl Checker {
-    /// A simple statement.
+    /// Passes over a simple statement.
     #[tactic(auto, using(golf_check_types::proofs::WalkLaws::stays))]
     pub(crate) fn simple_statement(&mut self, simple: &Simple) -> Result<(), TypeFault>
         ensures { Walks result (simple_walk simple.now self.old.scope) self.old self.new }
@@ -62,7 +62,7 @@ impl Checker {
         }
     }
 
-    // An expression that stands alone: a call or a receive.
+    // Passes over an expression statement: a call or a receive.
     fn expression_statement(&mut self, e: &Expr) -> Result<(), TypeFault>
         ensures { Adds result (action self.old.line e.now self.old.scope) self.old self.new }
     {
@@ -70,7 +70,7 @@ impl Checker {
         self.stands_alone(&operand)
     }
 
-    // Whether an operand may stand as a statement.
+    // Checks that an operand can be a statement.
     fn stands_alone(&self, operand: &Operand) -> Result<(), TypeFault>
         ensures { Tells result (action_faults self.now.line operand.now) (λ _. Unit {0}) }
     {
@@ -93,7 +93,7 @@ impl Checker {
         self.can_be_sent(channel, &value)
     }
 
-    // Whether a value can be sent on a channel. What is no channel carries nothing.
+    // Checks that a value can be sent on a channel.
     fn can_be_sent(&self, channel: Given, value: &Given) -> Result<(), TypeFault>
         ensures { Tells result (send_faults self.now.line channel value.now) (λ _. Unit {0}) }
     {
@@ -114,7 +114,7 @@ impl Checker {
         self.can_step(left)
     }
 
-    // Whether an operand can be counted up or down.
+    // Checks that an operand can be counted up or down.
     fn can_step(&self, left: Operand) -> Result<(), TypeFault>
         ensures { Tells result (step_faults self.now.line left) (λ _. Unit {0}) }
     {
@@ -135,7 +135,7 @@ impl Checker {
         self.can_update(left, &value)
     }
 
-    // Whether an operand can be updated by a value.
+    // Checks that an operand can be updated by a value.
     fn can_update(&self, left: Operand, value: &Given) -> Result<(), TypeFault>
         ensures { Tells result (update_faults self.now.line left value.now) (λ _. Unit {0}) }
     {
@@ -155,7 +155,7 @@ impl Checker {
         self.can_be_assigned(&left, &value)
     }
 
-    // Whether an operand is anything to store to: a call without result is not.
+    // Checks that an operand can be on a left side: a call without a result cannot.
     fn may_stand_left(&self, left: &Operand) -> Result<(), TypeFault>
         ensures { Tells result (left_faults self.now.line left.now) (λ _. Unit {0}) }
     {
@@ -165,7 +165,7 @@ impl Checker {
         }
     }
 
-    // Whether a value can be assigned to an operand. `_` takes any.
+    // Checks that a value can be assigned to an operand. `_` takes any value.
     fn can_be_assigned(&self, left: &Operand, value: &Given) -> Result<(), TypeFault>
         ensures { Tells result (assign_faults self.now.line left.now value.now) (λ _. Unit {0}) }
     {
@@ -175,7 +175,7 @@ impl Checker {
         }
     }
 
-    // The same of an operand that is not `_`. The value is judged by its type first, even if it is no place.
+    // Checks the same for an operand that is not `_`. The types are judged first, even if the operand is no place.
     fn place_can_take(&self, left: &Operand, value: &Given) -> Result<(), TypeFault>
         ensures { Tells result (broken_of self.now.line NOT_ASSIGNABLE (assignable_of value.now (type_of_of left.now)) ++ broken_of self.now.line NO_PLACE (is_place_of left.now)) (λ _. Unit {0}) }
     {
@@ -195,7 +195,7 @@ impl Checker {
         self.declare(name, value.into_type())
     }
 
-    /// A receive beside names: the type of what it gives.
+    /// Passes over a receive beside names, and returns the type of the received value.
     pub(crate) fn receive(&mut self, e: &Expr) -> Result<Option<GoType>, TypeFault>
         ensures { Receives result e.now self.old self.new }
     {
@@ -204,7 +204,7 @@ impl Checker {
         Ok(element(channel))
     }
 
-    /// `first, second := <-e`, with the names on a line of their own.
+    /// Passes over `first, second := <-e`. The names are on a line of their own.
     pub(crate) fn declare_received(
         &mut self,
         names_line: u32,

@@ -1,4 +1,7 @@
-//! Statements that have no other statement in them: variables, calls that are begun, and returns.
+//! Statements that contain no other statement: variables, calls by `go` and `defer`, and returns.
+//!
+//! Types and expressions are judged first, then the other rules of the statement. Names are
+//! declared last.
 
 ghost use Rattle.std.specs.Prelude.{◌≡◌};
 ghost use Rattle.golf_check_types.specs.Faults.{Tells};
@@ -14,7 +17,7 @@ use golf_check_types::rules::{
 use golf_check_types::{BuiltIn, Given, Operand, TypeFault, may_be_declared};
 use golf_syntax_trees::{Expr, OwnedExpr, TypeExpr, Var, VarContent};
 
-// Whether a call of this may stand after `go` or `defer`.
+// Returns whether `go` and `defer` can call this.
 fn may_be_begun(callee: &Operand) -> bool
     ensures { result ≡ may_be_begun_of callee.now }
 {
@@ -36,7 +39,7 @@ fn may_be_begun(callee: &Operand) -> bool
 }
 
 impl Checker {
-    /// A variable: its type and its expression, and then its name.
+    /// Passes over a variable: its type and its expression, and then its name.
     pub(crate) fn variable(&mut self, var: &Var) -> Result<(), TypeFault>
         ensures { Walks result (var_content var.now.line var.now.name var.now.content self.old.scope) self.old self.new }
     {
@@ -79,7 +82,7 @@ impl Checker {
         self.declare(name, value.into_type())
     }
 
-    /// The call of `go` and `defer`.
+    /// Passes over the call of `go` or `defer`.
     pub(crate) fn begin_call(&mut self, f: &Expr, xs: &[Expr]) -> Result<(), TypeFault>
         ensures { Adds result (begin_call_of self.old.line f.now xs.now self.old.scope) self.old self.new }
     {
@@ -89,7 +92,8 @@ impl Checker {
         self.require(NOT_BEGUN, may_be_begun(&callee))
     }
 
-    // What the arguments of a call without result break comes last, since it is no value here.
+    // Reports the rule that the arguments of a call without a result break. It comes last, since
+    // the call is no value here.
     fn is_done(&self, operand: &Operand) -> Result<(), TypeFault>
         ensures { Tells result (done_faults self.now.line operand.now) (λ _. Unit {0}) }
     {
@@ -99,7 +103,7 @@ impl Checker {
         }
     }
 
-    /// `return`, with a value or without.
+    /// Passes over a `return`, with or without a value.
     pub(crate) fn return_statement(&mut self, e: &Option<OwnedExpr>) -> Result<(), TypeFault>
         ensures { Adds result (returned self.old.line e.now self.old.scope) self.old self.new }
     {
@@ -117,7 +121,7 @@ impl Checker {
         self.fits_result(&value)
     }
 
-    // Whether a value may be returned.
+    // Checks that a value can be returned.
     fn fits_result(&self, value: &Given) -> Result<(), TypeFault>
         ensures { Tells result (result_faults self.now.line self.now.scope.result value.now) (λ _. Unit {0}) }
     {

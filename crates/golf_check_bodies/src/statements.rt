@@ -1,17 +1,15 @@
-//! Whether statements keep the rules, and what they declare.
+//! The walk over statements: whether they keep the rules, and what they declare.
 //!
-//! A block ends with the names that it began with, so what it declares is not known after it. `break` and `continue`
-//! ask the scope whether they have something to leave.
+//! A block ends with the names with which it began, so its own names are not known after it.
+//! `break` and `continue` ask the scope whether there is a statement to leave.
 
 ghost use Rattle.std.specs.Prelude.{◌≡◌, map, OnOk};
 ghost use Rattle.golf_syntax_trees.specs.Spines.{risen};
-ghost use Rattle.golf_syntax_trees.specs.declared.statements.Stmt.{out-Stmt, size-Stmt};
 ghost use Rattle.golf_check_types.specs.Scopes.{closed_to};
 ghost use Rattle.golf_check_types.specs.Statements.{in_order, block as block_of, loop_body as loop_body_of, then_walk};
 ghost use Rattle.golf_check_types.specs.Statements.{if_walk, else_walk, steps, range_walk, header_walk, for_walk};
 ghost use Rattle.golf_check_types.specs.Statements.{case_walk, default_walk, breaking, walk, walk_clause};
 ghost use Rattle.golf_check_types.specs.Statements.{walk_clause_at};
-ghost use Rattle.golf_syntax_trees.specs.Elses.{else_of, IsShorter};
 ghost use Rattle.golf_check_bodies.specs.Telling.{Walks};
 
 use crate::checker::Checker;
@@ -20,31 +18,9 @@ use golf_base::{List, Memory};
 use golf_check_types::rules::NOTHING_TO_LEAVE;
 use golf_check_types::{Fact, Scope, TypeFault, begin as begin_block, end as end_block};
 use golf_syntax_trees::{
-    Clause, Communication, Expr, Header, OwnedExpr, OwnedSimple, RangeNames, Stmt,
+    Clause, Communication, Expr, Header, OwnedExpr, OwnedSimple, RangeNames, Stmt, behind_else,
 };
 use std::alloc::Global;
-
-// Returns the statement behind the `else` of an `if`, or the statement itself if it has none.
-#[tactic(auto, unfolding(golf_syntax_trees::specs::Elses::else_of))]
-fn behind_else(stmt: &Stmt) -> &Stmt
-    ensures is { result.now ≡ else_of stmt.now }
-    ensures smaller { IsShorter (out-Stmt stmt.now) (size-Stmt result.now) (size-Stmt stmt.now) }
-{
-    match stmt {
-        Stmt::IfElse(_, _, _, _, otherwise) => otherwise.get(),
-        Stmt::Var(_) => stmt,
-        Stmt::Simple(_) => stmt,
-        Stmt::Go(_, _, _) => stmt,
-        Stmt::Defer(_, _, _) => stmt,
-        Stmt::Return(_, _) => stmt,
-        Stmt::Break(_) => stmt,
-        Stmt::Continue(_) => stmt,
-        Stmt::Block(_, _) => stmt,
-        Stmt::If(_, _, _, _) => stmt,
-        Stmt::For(_, _, _) => stmt,
-        Stmt::Select(_, _) => stmt,
-    }
-}
 
 // Ends the blocks with these marks, the last one first.
 fn end_all(alloc: Global, scope: &mut Scope, mut marks: List<usize>) -> Result<(), Memory>
@@ -57,7 +33,7 @@ fn end_all(alloc: Global, scope: &mut Scope, mut marks: List<usize>) -> Result<(
 }
 
 impl Checker {
-    /// A statement.
+    /// Passes over a statement.
     #[cycle(walking)]
     #[tactic(auto, unfolding(golf_check_types::specs::Statements::walk), using(golf_check_types::proofs::WalkLaws::stays))]
     pub fn statement(&mut self, stmt: &Stmt) -> Result<(), TypeFault>
@@ -106,7 +82,7 @@ impl Checker {
         }
     }
 
-    /// Statements in order, in one block.
+    /// Passes over statements in order, in one block.
     #[cycle(walking)]
     pub fn statements(&mut self, stmts: &[Stmt]) -> Result<(), TypeFault>
         ensures { Walks result (in_order (map walk stmts.now) self.old.scope) self.old self.new }
@@ -117,7 +93,7 @@ impl Checker {
         Ok(())
     }
 
-    // A block: what it declares is not known after it.
+    // Passes over a block. Its names are not known after it.
     #[cycle(walking)]
     fn block(&mut self, body: &[Stmt]) -> Result<(), TypeFault>
         ensures { Walks result (block_of (map walk body.now) self.old.scope) self.old self.new }
@@ -128,7 +104,7 @@ impl Checker {
         Ok(())
     }
 
-    // A block that `break` and `continue` leave.
+    // Passes over a block that `break` and `continue` can leave.
     #[cycle(walking)]
     fn loop_body(&mut self, body: &[Stmt]) -> Result<(), TypeFault>
         ensures { Walks result (loop_body_of (map walk body.now) self.old.scope) self.old self.new }
@@ -143,7 +119,7 @@ impl Checker {
         Ok(())
     }
 
-    // `first; test { body }` of an `if`, in the block that the `if` has begun.
+    // Passes over `first; test { body }` of an `if`, in the block that the `if` has begun.
     #[cycle(walking)]
     fn then_branch(
         &mut self,
@@ -176,7 +152,7 @@ impl Checker {
         Ok(())
     }
 
-    // `if first; test { body } else otherwise`: the other statement knows what the first one declares.
+    // `if first; test { body } else otherwise`. The names that `first` declares are known in `otherwise`.
     #[cycle(walking)]
     fn if_else(
         &mut self,
@@ -194,8 +170,8 @@ impl Checker {
         Ok(())
     }
 
-    // The statement behind `else`. A loop follows each `else if`, since nothing bounds their number. The marks are those
-    // of the blocks that it opens.
+    // Passes over the statement after `else`. A loop follows each `else if`, since nothing bounds their number. The
+    // marks are those of the blocks that it begins.
     #[cycle(walking)]
     fn otherwise(&mut self, otherwise: &Stmt) -> Result<(), TypeFault>
         ensures { Walks result (walk otherwise.now self.old.scope) self.old self.new }
@@ -214,7 +190,7 @@ impl Checker {
         Ok(())
     }
 
-    // A loop is a block around its header and its body.
+    // Passes over a loop, which is a block around its header and its body.
     #[cycle(walking)]
     fn for_statement(&mut self, header: &Header, body: &[Stmt]) -> Result<(), TypeFault>
         ensures { Walks result (for_walk self.old.line header.now (map walk body.now) self.old.scope) self.old self.new }
@@ -225,7 +201,7 @@ impl Checker {
         Ok(())
     }
 
-    // The header and the body of a loop.
+    // Passes over the header and the body of a loop.
     #[cycle(walking)]
     fn for_header(&mut self, header: &Header, body: &[Stmt]) -> Result<(), TypeFault>
         ensures { Walks result (header_walk self.old.line header.now (map walk body.now) self.old.scope) self.old self.new }
@@ -270,7 +246,7 @@ impl Checker {
         self.loop_body(body)
     }
 
-    // The clauses of a `select`, each of which is on its line.
+    // Passes over the clauses of a `select`. Each clause is judged from the line of the `select`.
     #[cycle(walking)]
     fn select_statement(&mut self, clauses: &[Clause]) -> Result<(), TypeFault>
         ensures { Walks result (in_order (map (walk_clause_at self.old.line) clauses.now) self.old.scope) self.old self.new }
@@ -283,7 +259,7 @@ impl Checker {
         Ok(())
     }
 
-    // A clause of a `select`.
+    // Passes over a clause of a `select`.
     #[cycle(walking)]
     #[tactic(auto, unfolding(golf_check_types::specs::Statements::walk_clause, golf_check_types::specs::Statements::walk))]
     fn clause(&mut self, clause: &Clause) -> Result<(), TypeFault>
@@ -297,7 +273,7 @@ impl Checker {
         }
     }
 
-    // A case, whose facts are counted, since the generator passes over it.
+    // Passes over a case. Its facts are counted, since the generator passes over it at first.
     #[cycle(walking)]
     #[tactic(auto, using(golf_check_types::proofs::Seams::part_filled))]
     fn case(
@@ -318,7 +294,7 @@ impl Checker {
         Ok(())
     }
 
-    // The default clause, whose facts are counted like those of a case.
+    // Passes over the default clause. Its facts are counted like those of a case.
     #[cycle(walking)]
     #[tactic(auto, using(golf_check_types::proofs::Seams::part_filled))]
     fn default_clause(&mut self, body: &[Stmt]) -> Result<(), TypeFault>
@@ -333,7 +309,7 @@ impl Checker {
         Ok(())
     }
 
-    // The statements of a clause, which `break` leaves.
+    // Passes over the statements of a clause, which `break` can leave.
     #[cycle(walking)]
     fn clause_body(&mut self, body: &[Stmt]) -> Result<(), TypeFault>
         ensures { Walks result (breaking (in_order (map walk body.now)) self.old.scope) self.old self.new }

@@ -1,5 +1,5 @@
--- What an expression is by its form, whatever rules it breaks (Go specification, "Variable declarations": a variable
--- has the type of its initialiser).
+-- The forms of expressions: what they are, whatever rules they break (Go specification, "Variable declarations": a
+-- variable has the type of its initialiser).
 use Rattle.std.specs.Prelude.{◌≡◌, ℕ, slice_get, None, Result, Ok, Err}
 use Rattle.golf_base.specs.declared.Memory.{Memory}
 use Rattle.golf_syntax_trees.specs.declared.declarations.Decl.{Decl}
@@ -15,7 +15,7 @@ abbrev pub without_late : Operand → Operand
 without_late (operand.Nothing late) = operand.Nothing None
 without_late m = m
 
--- the answer is this operand, but for the rule that the arguments of a call break
+-- the answer is this operand, except for the rule that the arguments of a call break
 abbrev pub Forms : Result Operand Memory → Operand → Type 0
 Forms (Ok m) found = without_late m ≡ without_late found
 Forms (Err e) found = Unit {0}
@@ -27,7 +27,7 @@ called_form f (operand.Method k) = signature_result (slice_get f.functions k)
 called_form f (operand.BuiltIn b) = built_in_result b None
 called_form f _ = operand.Outcome None
 
--- the types after one declaration more, if g globals stand above
+-- the types after one more declaration; g is the number of globals above it
 abbrev pub formed_decl : FileScope → ℕ → Decl → FileScope
 formed_decl f g (d.Var v) = formed_content f v.line g v.content
 formed_decl f g _ = f

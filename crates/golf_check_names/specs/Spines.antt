@@ -1,4 +1,4 @@
--- What an expression is by the form of its left operand.
+-- The form of an expression, from the form of its left operand.
 use Rattle.std.specs.Prelude.{ℕ}
 use Rattle.golf_syntax_trees.specs.declared.expressions.Expr.{Expr, out-Expr}
 use Rattle.golf_syntax_trees.specs.declared.expressions.Element.{Element}
@@ -17,7 +17,7 @@ formed_step (Call f xs) l s m = called_form s.file m
 formed_step (Binary o a b) l s m = value (result_base o)
 formed_step _ l s m = m
 
--- what an expression is whose left operand is this
+-- what an expression with this left operand is
 unfoldable pub formed : Expr → ℕ → Scope → Operand → Operand
 formed e l s m = formed_step (out-Expr e) l s m
 

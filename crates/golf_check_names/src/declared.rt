@@ -1,7 +1,7 @@
-//! Whether the names that a file declares, the types that it writes and its `main` keep the rules.
+//! The rules for the names that a file declares, the types that it writes, and its `main`.
 //!
-//! Each check is one pass over the declarations in source order, before any body. Methods are put after the fields of
-//! their structs first, so that a name which comes twice is found at the second place.
+//! Each check is one pass over the declarations in source order, before any body. Before these passes, methods are
+//! added after the fields of their structs, so that a name that comes twice is found at its second place.
 
 ghost use Rattle.std.specs.Prelude.{◌≡◌, flat_map, slice_get, OnOk, option_and_then};
 ghost use Rattle.golf_check_types.specs.Faults.{Tells, broken as broken_of};
@@ -29,7 +29,7 @@ use golf_check_types::{
 use golf_syntax_trees::{Decl, Field, Func, Name, OwnedType, Receiver, VarContent};
 use std::alloc::Global;
 
-// The struct of the file with this name.
+// Returns the number of the struct of the file with this name, or `None`.
 fn struct_named(names: &Table, entities: &[Entity], name: &[u8]) -> Option<u32>
     ensures { result ≡ struct_number_of (option_and_then (slice_get entities.now) (number_of names.now name.now)) }
 {
@@ -45,7 +45,7 @@ fn struct_named(names: &Table, entities: &[Entity], name: &[u8]) -> Option<u32>
     }
 }
 
-// The struct of the file that a receiver points to, if there is one.
+// Returns the struct of the file to which a receiver points, or `None`.
 fn receiver_struct(naming: &Naming, receiver: &Option<Receiver>) -> Option<u32>
     ensures { result ≡ receiver_struct_of naming.now receiver.now }
 {
@@ -59,7 +59,7 @@ fn receiver_struct(naming: &Naming, receiver: &Option<Receiver>) -> Option<u32>
     }
 }
 
-// Adds a method of this number after the members so far.
+// Adds a method of this number after the present members.
 fn add_method(alloc: Global, members: &mut Members, name: &[u8], number: u32) -> Result<(), Memory>
     ensures { OnOk result (members.new ≡ with_method members.old name.now number) }
 {
@@ -69,7 +69,7 @@ fn add_method(alloc: Global, members: &mut Members, name: &[u8], number: u32) ->
     Ok(())
 }
 
-// Adds a method to the struct that owns it, if one does.
+// Adds a method to the struct that owns it, if there is one.
 fn put_method(
     alloc: Global,
     structs: &mut List<Members>,
@@ -89,7 +89,7 @@ fn put_method(
     Ok(())
 }
 
-/// Puts the methods after the fields of their structs.
+/// Adds the methods after the fields of their structs. On `Err` nothing is said of the names.
 pub fn add_methods(alloc: Global, naming: &mut Naming, decls: &[Decl]) -> Result<(), Memory>
     ensures { OnOk result (naming.new ≡ record naming.old { structs = methods_added naming.old 0 naming.old.structs decls.now }) }
 {
@@ -110,7 +110,7 @@ pub fn add_methods(alloc: Global, naming: &mut Naming, decls: &[Decl]) -> Result
     Ok(())
 }
 
-// Whether a name was found at this number.
+// Returns whether a name was found at this number.
 fn is_number(found: Option<usize>, number: usize) -> bool
     ensures { result ≡ is_number_of found number }
 {
@@ -120,7 +120,7 @@ fn is_number(found: Option<usize>, number: usize) -> bool
     }
 }
 
-// Whether the declaration at this place may have the name: it is the first of that name.
+// Returns whether the declaration at this place may have the name: it must be the first of that name.
 #[tactic(auto, unfolding(golf_check_types::specs::Files::may_be_named))]
 fn may_be_named(file: &FileScope, at: usize, name: &[u8]) -> bool
     ensures { result ≡ may_be_named_of file.now at name.now }
@@ -128,7 +128,7 @@ fn may_be_named(file: &FileScope, at: usize, name: &[u8]) -> bool
     !is_blank(name) && !is_reserved(name) && is_number(file.names.number_of(name), at)
 }
 
-// What a name is among the members of the struct of this number.
+// Returns the kind of a name among the members of the struct of this number, or `None`.
 fn kind_of(structs: &[Members], number: usize, name: &[u8]) -> Option<Member>
     ensures { result ≡ kind_of_of structs.now number name.now }
 {
@@ -138,7 +138,7 @@ fn kind_of(structs: &[Members], number: usize, name: &[u8]) -> Option<Member>
     }
 }
 
-// Whether a member is the field at this place.
+// Returns whether a member is the field at this place.
 fn is_field(kind: Option<Member>, place: usize) -> bool
     ensures { result ≡ is_field_of kind place }
 {
@@ -151,7 +151,7 @@ fn is_field(kind: Option<Member>, place: usize) -> bool
     }
 }
 
-// Whether a member is the method of this number.
+// Returns whether a member is the method of this number.
 fn is_method(kind: Option<Member>, number: u32) -> bool
     ensures { result ≡ is_method_of kind number }
 {
@@ -164,7 +164,7 @@ fn is_method(kind: Option<Member>, number: u32) -> bool
     }
 }
 
-// Whether each name is its own field.
+// Returns whether each name is the field of its own place.
 fn fields_are(structs: &[Members], number: usize, names: &[Name]) -> bool
     ensures { result ≡ fields_are_of structs.now number 0 names.now }
 {
@@ -176,7 +176,7 @@ fn fields_are(structs: &[Members], number: usize, names: &[Name]) -> bool
     true
 }
 
-// Whether a method is that of its name in the struct that owns it.
+// Returns whether the name is this method in the struct that owns it.
 fn method_is(structs: &[Members], owner: Option<u32>, name: &[u8], number: u32) -> bool
     ensures { result ≡ method_is_of structs.now owner name.now number }
 {
@@ -186,7 +186,7 @@ fn method_is(structs: &[Members], owner: Option<u32>, name: &[u8], number: u32) 
     }
 }
 
-// Whether a method has a struct of the file and a name that is new to it.
+// Checks that a method has a struct of the file and a name that is new to it.
 fn method_is_named(
     file: &FileScope,
     line: u32,
@@ -208,7 +208,7 @@ fn method_is_named(
     )
 }
 
-// Whether a function or method may have its name.
+// Checks that a function or method may have its name.
 fn function_is_named(
     file: &FileScope,
     names: usize,
@@ -228,7 +228,7 @@ fn function_is_named(
     }
 }
 
-// Whether a struct may have its name, and has at most 64 fields of different names.
+// Checks that a struct may have its name, and that it has at most 64 fields of different names.
 fn struct_is_named(
     alloc: Global,
     file: &FileScope,
@@ -249,7 +249,7 @@ fn struct_is_named(
     )
 }
 
-// Whether a declaration may have its names, if so many names, structs and functions stand above it.
+// Checks that a declaration may have its names. The numbers say how many names, structs and functions are above it.
 fn is_named(
     alloc: Global,
     file: &FileScope,
@@ -286,7 +286,7 @@ fn is_named(
     }
 }
 
-// How many names of the file a declaration has. A method is none.
+// Returns how many names of the file a declaration has. A method has none.
 fn names_in(decl: &Decl) -> usize
     ensures { result ≡ names_in_of decl.now }
 {
@@ -299,7 +299,7 @@ fn names_in(decl: &Decl) -> usize
     }
 }
 
-// How many structs a declaration is.
+// Returns how many structs a declaration has: one or none.
 fn structs_in(decl: &Decl) -> usize
     ensures { result ≡ structs_in_of decl.now }
 {
@@ -309,7 +309,7 @@ fn structs_in(decl: &Decl) -> usize
     }
 }
 
-// How many functions or methods a declaration is.
+// Returns how many functions or methods a declaration has: one or none.
 fn functions_in(decl: &Decl) -> u32
     ensures { result ≡ functions_in_of decl.now }
 {
@@ -319,7 +319,7 @@ fn functions_in(decl: &Decl) -> u32
     }
 }
 
-/// The declared names: `NOT_DECLARABLE` and `WRONG_MEMBER`.
+/// Checks the declared names: `NOT_DECLARABLE` and `WRONG_MEMBER`.
 pub fn names_are_good(alloc: Global, file: &FileScope, decls: &[Decl]) -> Result<(), TypeFault>
     ensures { Tells result (names_faults file.now none_above decls.now) (λ _. Unit {0}) }
 {
@@ -335,7 +335,7 @@ pub fn names_are_good(alloc: Global, file: &FileScope, decls: &[Decl]) -> Result
     Ok(())
 }
 
-// Whether the types of fields or parameters are there.
+// Checks that the language has the types of fields or parameters.
 fn fields_are_typed(
     alloc: Global,
     line: u32,
@@ -350,7 +350,7 @@ fn fields_are_typed(
     Ok(())
 }
 
-// Whether the type of a variable is there, if one is written.
+// Checks that the language has the written type of a variable, if there is one.
 fn content_is_typed(
     alloc: Global,
     line: u32,
@@ -366,7 +366,7 @@ fn content_is_typed(
     }
 }
 
-// Whether the type of a result is there, if one is written.
+// Checks that the language has the written type of a result, if there is one.
 fn result_is_typed(
     alloc: Global,
     line: u32,
@@ -381,7 +381,7 @@ fn result_is_typed(
     }
 }
 
-// Whether the types of parameters and result are there.
+// Checks that the language has the types of parameters and result.
 fn func_is_typed(alloc: Global, scope: &Scope, func: &Func) -> Result<(), TypeFault>
     ensures { Tells result (type_faults scope.now (Decl.Func func.now)) (λ _. Unit {0}) }
 {
@@ -389,7 +389,7 @@ fn func_is_typed(alloc: Global, scope: &Scope, func: &Func) -> Result<(), TypeFa
     result_is_typed(alloc, func.line, scope, &func.result)
 }
 
-// Whether all types that a declaration writes outside bodies are there.
+// Checks that the language has all types that a declaration writes outside bodies.
 fn decl_is_typed(alloc: Global, scope: &Scope, decl: &Decl) -> Result<(), TypeFault>
     ensures { Tells result (type_faults scope.now decl.now) (λ _. Unit {0}) }
 {
@@ -401,7 +401,7 @@ fn decl_is_typed(alloc: Global, scope: &Scope, decl: &Decl) -> Result<(), TypeFa
     }
 }
 
-/// The written types: `UNKNOWN_NAME` and `UNKNOWN_TYPE`.
+/// Checks the written types: `UNKNOWN_NAME` and `UNKNOWN_TYPE`.
 pub fn types_are_there(alloc: Global, scope: &Scope, decls: &[Decl]) -> Result<(), TypeFault>
     ensures { Tells result (flat_map (type_faults scope.now) decls.now) (λ _. Unit {0}) }
 {
@@ -411,7 +411,7 @@ pub fn types_are_there(alloc: Global, scope: &Scope, decls: &[Decl]) -> Result<(
     Ok(())
 }
 
-// Whether a name is `main`.
+// Returns whether a name is `main`.
 #[tactic(auto, unfolding(golf_check_types::specs::Files::is_main))]
 fn is_main(name: &[u8]) -> bool
     ensures { result ≡ is_main_of name.now }
@@ -419,7 +419,7 @@ fn is_main(name: &[u8]) -> bool
     name == b"main".as_slice()
 }
 
-// Whether a declaration is a function without parameters and result.
+// Returns whether a declaration is a function without receiver, parameters and result.
 fn fits_main(decl: &Decl) -> bool
     ensures { result ≡ fits_main_of decl.now }
 {
@@ -431,7 +431,7 @@ fn fits_main(decl: &Decl) -> bool
     }
 }
 
-/// Whether a declaration declares `main`.
+/// Returns whether a declaration declares `main`.
 pub fn declares_main(decl: &Decl) -> bool
     ensures { result ≡ declares_main_of decl.now }
 {
@@ -443,7 +443,7 @@ pub fn declares_main(decl: &Decl) -> bool
     }
 }
 
-/// The line of a declaration.
+/// Returns the line of a declaration.
 pub fn line_of(decl: &Decl) -> u32
     ensures { result ≡ line_of_of decl.now }
 {
@@ -455,7 +455,7 @@ pub fn line_of(decl: &Decl) -> u32
     }
 }
 
-/// `main`: `NO_MAIN`.
+/// Checks `main`: `NO_MAIN`. Without a `main` the fault is on line 1.
 pub fn main_is_there(decls: &[Decl]) -> Result<(), TypeFault>
     ensures { Tells result (main_faults decls.now) (λ _. Unit {0}) }
 {

@@ -1,9 +1,9 @@
-//! What expressions are by their form, whatever rules they break.
+//! The forms of expressions: what an expression is, whatever rules it breaks.
 //!
-//! There are two evaluators of expressions. This one gives globals their types before any body, and never refuses: a
+//! There are two evaluators of expressions. This one gives globals their types before any body, and never refuses. A
 //! global whose initialiser breaks a rule still has a type, by which the functions above it are judged. The other one,
-//! `Checker` of `golf_check_bodies`, judges each initialiser in its turn and stops at the first broken rule. With one
-//! alone a function above such a global would break another rule first.
+//! `Checker` of `golf_check_bodies`, judges each initialiser in its turn and stops at the first broken rule. With only
+//! the checker, a function above such a global would break another rule first.
 
 ghost use Rattle.std.specs.Prelude.{◌≡◌, None, IfOk, slice_get};
 ghost use Rattle.golf_syntax_trees.specs.Spines.{left_of};
@@ -29,7 +29,7 @@ use golf_check_types::{
 use golf_syntax_trees::{Expr, TypeExpr, UnaryOperator, spine};
 use std::alloc::Global;
 
-// What a name is. One that is not known is a value of no known type.
+// Returns what a name is. A name that is not known is a value of no known type.
 fn named(alloc: Global, line: u32, scope: &Scope, name: &[u8]) -> Result<Operand, Memory>
     ensures { Forms result (named_of line scope.now name.now).meaning }
 {
@@ -42,7 +42,7 @@ fn named(alloc: Global, line: u32, scope: &Scope, name: &[u8]) -> Result<Operand
     }
 }
 
-// A pointer to the struct of this name.
+// Returns a pointer to the struct of this name.
 fn pointer(alloc: Global, scope: &Scope, name: &[u8]) -> Result<Operand, Memory>
     ensures { Forms result (pointer_value (pointer_to_of (meaning_of scope.now name.now))) }
 {
@@ -50,7 +50,7 @@ fn pointer(alloc: Global, scope: &Scope, name: &[u8]) -> Result<Operand, Memory>
     Ok(Operand::Value(plain_type(alloc, pointer_to(meaning))))
 }
 
-// A slice of elements of the written type.
+// Returns a slice of elements of the written type.
 fn slice(alloc: Global, line: u32, scope: &Scope, t: &TypeExpr) -> Result<Operand, Memory>
     ensures { Forms result (Operand.Value (with_layer_of Layer.Slice (write t.now line scope.now).type)) }
 {
@@ -58,14 +58,14 @@ fn slice(alloc: Global, line: u32, scope: &Scope, t: &TypeExpr) -> Result<Operan
     Ok(Operand::Value(with_layer(alloc, Layer::Slice, inner)?))
 }
 
-// A value of the written type.
+// Returns a value of the written type.
 fn made(alloc: Global, line: u32, scope: &Scope, t: &TypeExpr) -> Result<Operand, Memory>
     ensures { Forms result (Operand.Value (write t.now line scope.now).type) }
 {
     Ok(Operand::Value(written_type(alloc, line, scope, t)?))
 }
 
-// What a unary operator gives.
+// Returns what a unary operator gives.
 fn unary(alloc: Global, operator: UnaryOperator, x: Given) -> Operand
     ensures { result ≡ unary_meaning operator x }
 {
@@ -76,7 +76,7 @@ fn unary(alloc: Global, operator: UnaryOperator, x: Given) -> Operand
     }
 }
 
-// What stands after a dot. What breaks a rule there is not known.
+// Returns the member after a dot. If a rule is broken there, the member is not known.
 fn selected(
     alloc: Global,
     line: u32,
@@ -95,7 +95,7 @@ fn selected(
     }
 }
 
-// What a call of the function or method of this number gives.
+// Returns what a call of the function or method of this number gives.
 fn function_result(alloc: Global, file: &FileScope, number: u32) -> Result<Operand, Memory>
     ensures { Forms result (signature_result (slice_get file.now.functions number)) }
 {
@@ -108,7 +108,7 @@ fn function_result(alloc: Global, file: &FileScope, number: u32) -> Result<Opera
     }
 }
 
-// What a call gives, whatever its arguments are.
+// Returns what a call gives, whatever its arguments are.
 fn called(alloc: Global, file: &FileScope, callee: Operand) -> Result<Operand, Memory>
     ensures { Forms result (called_form file.now callee) }
 {
@@ -124,7 +124,7 @@ fn called(alloc: Global, file: &FileScope, callee: Operand) -> Result<Operand, M
     }
 }
 
-// What an expression in parentheses is by its form.
+// Returns the form of an expression in parentheses.
 #[cycle(forming)]
 #[tactic(auto, using(crate::proofs::Laws::same_parens))]
 fn parens_form(alloc: Global, line: u32, scope: &Scope, e: &Expr) -> Result<Operand, Memory>
@@ -134,7 +134,7 @@ fn parens_form(alloc: Global, line: u32, scope: &Scope, e: &Expr) -> Result<Oper
     Ok(without_package(inner))
 }
 
-// What an expression gives as a value, by its form.
+// Returns what an expression gives as a value, by its form.
 #[cycle(forming)]
 #[tactic(auto, using(crate::proofs::Laws::same_given))]
 fn value_form(alloc: Global, line: u32, scope: &Scope, e: &Expr) -> Result<Given, Memory>
@@ -144,7 +144,7 @@ fn value_form(alloc: Global, line: u32, scope: &Scope, e: &Expr) -> Result<Given
     Ok(value_of(alloc, operand))
 }
 
-// What a unary operator gives by the form of its operand.
+// Returns what a unary operator gives, by the form of its operand.
 #[cycle(forming)]
 fn unary_form(
     alloc: Global,
@@ -159,7 +159,7 @@ fn unary_form(
     Ok(unary(alloc, operator, x))
 }
 
-// What an expression is whose left operand is this.
+// Returns the form of an expression with this left operand.
 #[tactic(auto, unfolding(crate::specs::Spines::formed))]
 fn rise(alloc: Global, line: u32, scope: &Scope, e: &Expr, left: Operand) -> Result<Operand, Memory>
     ensures { Forms result (formed e.now line scope.now left) }
@@ -188,7 +188,7 @@ fn rise(alloc: Global, line: u32, scope: &Scope, e: &Expr, left: Operand) -> Res
     }
 }
 
-/// What an expression is by its form; of a call without a result not which rule it breaks.
+/// Returns the form of an expression. For a call without a result it does not say which rule the arguments break.
 ///
 /// A loop follows the spine of left operands.
 #[cycle(forming)]
@@ -203,7 +203,7 @@ pub fn form(alloc: Global, line: u32, scope: &Scope, e: &Expr) -> Result<Operand
     Ok(operand)
 }
 
-// What an expression without a left operand is.
+// Returns the form of an expression without a left operand.
 #[cycle(forming)]
 #[tactic(auto, unfolding(golf_check_types::specs::Judging::judge, golf_syntax_trees::specs::Spines::left_of))]
 fn whole(alloc: Global, line: u32, scope: &Scope, e: &Expr) -> Result<Operand, Memory>

@@ -1,7 +1,7 @@
 //! The types of globals without a written type.
 //!
-//! They are found before any body is judged, since a function may use a global that is declared below it. Each has the
-//! type of the form of its initialiser, for which the globals above it are known.
+//! They are computed before any body is judged, since a function may use a global that is declared below it. Each such
+//! global has the type of the form of its initialiser, computed with the types of the globals above it.
 
 ghost use Rattle.std.specs.Prelude.{◌≡◌, slice_set, IfOk, OnOk};
 ghost use Rattle.golf_check_types.specs.Types.{type_given};
@@ -16,7 +16,7 @@ use golf_check_types::{GoType, Scope, type_of};
 use golf_syntax_trees::{Decl, Expr, VarContent};
 use std::alloc::Global;
 
-// The type of an expression by its form, if it has one.
+// Returns the type of an expression by its form, or `None` if it has none.
 #[tactic(auto, using(crate::proofs::Laws::same_given, crate::proofs::Laws::type_of_given))]
 fn form_type(alloc: Global, line: u32, scope: &Scope, e: &Expr) -> Result<Option<GoType>, Memory>
     ensures { IfOk result (λ t. t ≡ type_given (given_by (judge e.now line scope.now))) }
@@ -25,7 +25,7 @@ fn form_type(alloc: Global, line: u32, scope: &Scope, e: &Expr) -> Result<Option
     type_of(alloc, &operand)
 }
 
-// The global of this number has this type, if there is such a global.
+// Gives the global of this number this type, if there is such a global.
 #[tactic(auto, using(crate::proofs::Laws::set_past))]
 fn set_global(scope: &mut Scope, global: u32, t: Option<GoType>)
     ensures { scope.new ≡ record scope.old { file = record scope.old.file { globals = slice_set scope.old.file.globals global t } } }
@@ -36,7 +36,7 @@ fn set_global(scope: &mut Scope, global: u32, t: Option<GoType>)
     }
 }
 
-// Gives the global of this number the type of the form that it begins with, if it has no written one.
+// Gives the global of this number the type of its initialiser's form, if it has no written type.
 fn form_content(
     alloc: Global,
     line: u32,
@@ -57,7 +57,7 @@ fn form_content(
     }
 }
 
-// The same for a declaration, if so many globals stand above it.
+// Does the same for a declaration. `global` is the number of globals above it.
 fn form_decl(alloc: Global, scope: &mut Scope, global: u32, decl: &Decl) -> Result<(), Memory>
     requires { scope.old ≡ outside scope.old.file }
     ensures { OnOk result (scope.new ≡ outside (formed_decl scope.old.file global decl.now)) }
@@ -71,7 +71,7 @@ fn form_decl(alloc: Global, scope: &mut Scope, global: u32, decl: &Decl) -> Resu
     }
 }
 
-/// How many globals stand above the next declaration.
+/// Returns how many globals are above the next declaration.
 pub fn next_global(global: u32, decl: &Decl) -> Result<u32, Memory>
     ensures { IfOk result (λ n. n ≡ globals_above global decl.now) }
 {
@@ -81,8 +81,7 @@ pub fn next_global(global: u32, decl: &Decl) -> Result<u32, Memory>
     }
 }
 
-/// The types of globals without a written type, by the forms of what they begin with. On an `Err`
-/// nothing is said of the scope.
+/// Gives globals without a written type the types of their initialisers' forms. On `Err` nothing is said of the scope.
 #[tactic(auto, using(crate::proofs::Laws::with_forms_step))]
 pub fn form_globals(alloc: Global, scope: &mut Scope, decls: &[Decl]) -> Result<(), Memory>
     requires { scope.old ≡ outside scope.old.file }

@@ -1,6 +1,6 @@
-//! Which packages a file imports.
+//! The imports of a file (Go specification, "Import declarations").
 //!
-//! There are three packages. Each is imported once at most, in whatever declaration.
+//! There are three packages. Each can be imported at most once, by any declaration.
 
 ghost use Rattle.std.specs.Prelude.{◌≡◌};
 ghost use Rattle.golf_check_types.specs.Faults.{Tells, broken as broken_of};
@@ -13,7 +13,7 @@ use golf_check_types::rules::WRONG_IMPORT;
 use golf_check_types::{Imports, Package, TypeFault, require};
 use golf_syntax_trees::{Import, Name};
 
-// The package of this path, if it is one of the language.
+// Returns the package of this path, or `None` if the language does not have it.
 #[tactic(auto, unfolding(golf_check_types::specs::Files::package_of))]
 fn package_of(path: &[u8]) -> Option<Package>
     ensures { result ≡ package_of_of path.now }
@@ -30,7 +30,7 @@ fn package_of(path: &[u8]) -> Option<Package>
     None
 }
 
-// Whether a package is known and not yet imported.
+// Returns whether a package is known and not imported yet.
 fn is_new_import(imports: Imports, from: Option<Package>) -> bool
     ensures { result ≡ is_new_import_of imports from }
 {
@@ -44,7 +44,7 @@ fn is_new_import(imports: Imports, from: Option<Package>) -> bool
     }
 }
 
-// The imports with one package more.
+// Returns the imports with one more package.
 fn with_import(imports: Imports, from: Option<Package>) -> Imports
     ensures { result ≡ with_import_of imports from }
 {
@@ -70,7 +70,7 @@ fn with_import(imports: Imports, from: Option<Package>) -> Imports
     }
 }
 
-// The imports after one path, which is that of a package that is not yet imported.
+// Returns the imports after one path. Its package must be known and not imported yet.
 fn import_path(line: u32, imports: Imports, path: &[u8]) -> Result<Imports, TypeFault>
     ensures { Tells result (broken_of line WRONG_IMPORT (is_new_import_of imports (package_of_of path.now))) (λ i. i ≡ with_import_of imports (package_of_of path.now)) }
 {
@@ -79,7 +79,7 @@ fn import_path(line: u32, imports: Imports, path: &[u8]) -> Result<Imports, Type
     Ok(with_import(imports, from))
 }
 
-// The imports after these paths.
+// Returns the imports after these paths.
 fn import_paths(line: u32, imports: Imports, paths: &[Name]) -> Result<Imports, TypeFault>
     ensures { Tells result (path_faults line imports paths.now) (λ i. i ≡ with_paths imports paths.now) }
 {
@@ -90,7 +90,7 @@ fn import_paths(line: u32, imports: Imports, paths: &[Name]) -> Result<Imports, 
     Ok(imports)
 }
 
-// The imports after one declaration.
+// Returns the imports after one declaration.
 fn import_one(imports: Imports, import: &Import) -> Result<Imports, TypeFault>
     ensures { Tells result (path_faults (import_line import.now) imports (import_paths_of import.now)) (λ i. i ≡ with_paths imports (import_paths_of import.now)) }
 {
@@ -100,7 +100,7 @@ fn import_one(imports: Imports, import: &Import) -> Result<Imports, TypeFault>
     }
 }
 
-/// Which packages are imported: `WRONG_IMPORT`.
+/// Returns the packages that are imported. It checks `WRONG_IMPORT`.
 pub fn imported(imports: &[Import]) -> Result<Imports, TypeFault>
     ensures { Tells result (import_faults no_imports imports.now) (λ i. i ≡ with_imports no_imports imports.now) }
 {

@@ -1,7 +1,7 @@
-//! What the names of a file are, and which types they have: imports, declared names, written types, `main`, and the
-//! types of globals by the forms of their initialisers.
+//! The passes over a file before any body is judged: imports, declared names, written types, `main`, and the types of
+//! globals by the forms of their initialisers.
 //!
-//! These are the passes over a file before any body is judged. They leave the scope outside all functions complete.
+//! After them the scope outside all functions is complete: what the names of the file are, and which types they have.
 #![tactic(auto)]
 
 mod declared;

@@ -1,7 +1,7 @@
-//! What the names of a file are.
+//! The names of a file.
 //!
-//! Constants, globals, structs and functions are numbered in source order, each kind by itself. The first declaration of
-//! a name counts; whether there is a second one is judged by `names_are_good`.
+//! Constants, globals, structs and functions are numbered in source order, each kind separately.
+//! The first declaration of a name counts. `names_are_good` judges whether there is a second one.
 
 ghost use Rattle.std.specs.Prelude.{◌≡◌, ◌∷◌, ◌++◌, ◌+◌, [], fold, flat_map, length, IfOk, OnOk};
 ghost use Rattle.golf_check_types.specs.Files.{const_base as const_base_of, field_names, with_field as with_field_of};
@@ -13,7 +13,7 @@ use golf_check_types::{Base, Entity, Member, Members, Naming, Table, copy_name};
 use golf_syntax_trees::{Const, Decl, Field, Name, Receiver};
 use std::alloc::Global;
 
-/// The type of a constant.
+/// Returns the base of the type of a constant.
 fn const_base(value: &Const) -> Base
     ensures { result ≡ const_base_of value.now }
 {
@@ -26,7 +26,7 @@ fn const_base(value: &Const) -> Base
     }
 }
 
-// The number after the last.
+// Returns the number of the next entry, which is the count so far.
 fn number(count: usize) -> Result<u32, Memory>
     ensures { IfOk result (λ n. n ≡ count) }
 {
@@ -36,7 +36,7 @@ fn number(count: usize) -> Result<u32, Memory>
     }
 }
 
-// Adds a field after the members so far.
+// Adds a field after the present members.
 fn add_field(alloc: Global, members: &mut Members, name: &[u8]) -> Result<(), Memory>
     ensures { OnOk result (members.new ≡ with_field_of members.old name.now) }
 {
@@ -47,7 +47,7 @@ fn add_field(alloc: Global, members: &mut Members, name: &[u8]) -> Result<(), Me
     Ok(())
 }
 
-// Adds the names that one declaration of fields has.
+// Adds the names of one declaration of fields.
 fn add_names(alloc: Global, names: &mut List<Name>, field: &Field) -> Result<(), Memory>
     ensures { OnOk result (names.new ≡ names.old ++ field_names field.now) }
 {
@@ -58,7 +58,7 @@ fn add_names(alloc: Global, names: &mut List<Name>, field: &Field) -> Result<(),
     Ok(())
 }
 
-/// The names of fields or parameters.
+/// Returns the names of fields or parameters.
 pub(crate) fn names_of(alloc: Global, fields: &[Field]) -> Result<List<Name>, Memory>
     ensures { IfOk result (λ ns. ns ≡ flat_map field_names fields.now) }
 {
@@ -79,7 +79,7 @@ fn add_all_fields(alloc: Global, members: &mut Members, names: &[Name]) -> Resul
     Ok(())
 }
 
-// The fields of a struct, numbered from 0.
+// Returns the fields of a struct, numbered from 0.
 fn members_of(alloc: Global, fields: &[Field]) -> Result<Members, Memory>
     ensures { IfOk result (λ m. m ≡ members_of_of fields.now) }
 {
@@ -92,7 +92,7 @@ fn members_of(alloc: Global, fields: &[Field]) -> Result<Members, Memory>
     Ok(members)
 }
 
-// Adds a name of the file that means this, unless a declaration above has it.
+// Adds a name of the file with this meaning, unless a declaration above has the name.
 fn add_name(alloc: Global, naming: &mut Naming, name: &[u8], meaning: Entity) -> Result<(), Memory>
     ensures { OnOk result (naming.new ≡ name_added naming.old name.now meaning) }
 {
@@ -137,7 +137,7 @@ fn add_struct(
     Ok(())
 }
 
-// Adds a function. A method has no name here, and a number alone.
+// Adds a function. A method only takes a number, and adds no name of the file.
 fn add_function(
     alloc: Global,
     naming: &mut Naming,
@@ -158,7 +158,7 @@ fn add_function(
     Ok(())
 }
 
-// Adds what a declaration declares.
+// Adds the names that a declaration declares.
 fn add_decl(alloc: Global, naming: &mut Naming, decl: &Decl) -> Result<(), Memory>
     ensures { OnOk result (naming.new ≡ decl_added naming.old decl.now) }
 {
@@ -174,7 +174,7 @@ fn add_decl(alloc: Global, naming: &mut Naming, decl: &Decl) -> Result<(), Memor
     }
 }
 
-/// The names of a file's first declarations.
+/// Returns the names of a list of declarations. Of two declarations of one name the first one counts.
 pub fn naming_of(alloc: Global, decls: &[Decl]) -> Result<Naming, Memory>
     ensures { IfOk result (λ n. n ≡ naming_of_of decls.now) }
 {

@@ -1,7 +1,7 @@
-//! The types of fields, globals and functions, as they are written.
+//! The written types of fields, globals and functions.
 //!
-//! Whether the types are there was judged before (`types_are_there`), so nothing here answers a fault. A type that is not
-//! known is None.
+//! `types_are_there` checks before that the language has these types, so nothing here reports a fault. A type that is
+//! not known is `None`.
 
 ghost use Rattle.std.specs.Prelude.{◌≡◌, ◌++◌, flat_map, IfOk, OnOk};
 ghost use Rattle.golf_check_types.specs.Written.{write_at};
@@ -17,10 +17,10 @@ use golf_check_types::{GoType, Scope, Signature, copy_name, copy_optional};
 use golf_syntax_trees::{Decl, Field, Func, Name, OwnedType, VarContent};
 use std::alloc::Global;
 
-/// A name of a field or parameter, and its type, `None` if it is not known.
+/// A name of a field or parameter, and its type. The type is `None` if it is not known.
 pub type TypedName = (Name, Option<GoType>);
 
-// A name of a field or parameter, with its type.
+// Returns a name of a field or parameter with its type.
 fn typed_name(alloc: Global, scope: &Scope, name: &[u8], field: &Field) -> Result<TypedName, Memory>
     ensures { IfOk result (λ p. p ≡ (name.now, (write_at 0 scope.now field.now.of_type).type)) }
 {
@@ -29,7 +29,7 @@ fn typed_name(alloc: Global, scope: &Scope, name: &[u8], field: &Field) -> Resul
     Ok((copy, of_type))
 }
 
-// Adds the names that one declaration of fields has, each with its type.
+// Adds the names of one declaration of fields, each with its type.
 fn add_typed_names(
     alloc: Global,
     scope: &Scope,
@@ -45,7 +45,7 @@ fn add_typed_names(
     Ok(())
 }
 
-/// Each name of fields or parameters, with its type.
+/// Returns each name of fields or parameters with its type.
 pub fn typed_names(
     alloc: Global,
     scope: &Scope,
@@ -60,7 +60,7 @@ pub fn typed_names(
     Ok(names)
 }
 
-// The types of these names.
+// Returns the types of these names.
 fn types_alone(alloc: Global, names: &[TypedName]) -> Result<List<Option<GoType>>, Memory>
     ensures { IfOk result (λ ts. ts ≡ types_alone_of names.now) }
 {
@@ -71,7 +71,7 @@ fn types_alone(alloc: Global, names: &[TypedName]) -> Result<List<Option<GoType>
     Ok(types)
 }
 
-// The types of fields or parameters.
+// Returns the types of fields or parameters.
 fn field_types(
     alloc: Global,
     scope: &Scope,
@@ -83,7 +83,7 @@ fn field_types(
     types_alone(alloc, names.as_slice())
 }
 
-/// The type of a result, if there is one and it is known.
+/// Returns the type of a result, or `None` if there is none or it is not known.
 pub fn result_type(
     alloc: Global,
     scope: &Scope,
@@ -97,7 +97,7 @@ pub fn result_type(
     }
 }
 
-// The types of the parameters and of the result.
+// Returns the types of the parameters and of the result.
 fn signature_of(alloc: Global, scope: &Scope, func: &Func) -> Result<Signature, Memory>
     ensures { IfOk result (λ f. f ≡ signature_of_of scope.now func.now) }
 {
@@ -106,7 +106,7 @@ fn signature_of(alloc: Global, scope: &Scope, func: &Func) -> Result<Signature, 
     Ok(Signature { parameters, result })
 }
 
-// Adds the types of the fields, if a declaration is a struct.
+// Adds the types of the fields, if the declaration is a struct.
 fn add_struct_types(
     alloc: Global,
     scope: &Scope,
@@ -125,7 +125,7 @@ fn add_struct_types(
     }
 }
 
-/// The types of the fields of each struct.
+/// Returns the types of the fields of each struct.
 pub fn struct_types(
     alloc: Global,
     scope: &Scope,
@@ -140,7 +140,7 @@ pub fn struct_types(
     Ok(all)
 }
 
-// The type of a variable, if one is written and known.
+// Returns the written type of a variable, or `None` if there is none or it is not known.
 fn content_type(
     alloc: Global,
     scope: &Scope,
@@ -155,7 +155,7 @@ fn content_type(
     }
 }
 
-// Adds the written type, if a declaration is a global.
+// Adds the written type, if the declaration is a global.
 fn add_global_type(
     alloc: Global,
     scope: &Scope,
@@ -174,7 +174,7 @@ fn add_global_type(
     }
 }
 
-/// The written types of globals, `None` if none is written.
+/// Returns the written types of globals. The type is `None` if none is written.
 pub fn global_types(
     alloc: Global,
     scope: &Scope,
@@ -189,7 +189,7 @@ pub fn global_types(
     Ok(all)
 }
 
-// Adds the types of its parameters and result, if a declaration is a function or method.
+// Adds the types of parameters and result, if the declaration is a function or method.
 fn add_function_type(
     alloc: Global,
     scope: &Scope,
@@ -208,7 +208,7 @@ fn add_function_type(
     }
 }
 
-/// The types of functions and methods.
+/// Returns the types of functions and methods.
 pub fn function_types(
     alloc: Global,
     scope: &Scope,

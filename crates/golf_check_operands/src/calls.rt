@@ -1,8 +1,8 @@
-//! What calls ask of their arguments, and what they give.
+//! Calls: the rules for their arguments, and what they give.
 //!
-//! The arguments were judged before. What the arguments of `Println`, `panic` and `SetFinalizer` break is not answered
-//! here but carried in what the call gives (`Operand::Nothing`), since a call without result that stands as a value
-//! breaks a rule before that.
+//! The arguments are judged before. A rule that the arguments of `Println`, `panic` or `SetFinalizer` break is not
+//! reported here. It is carried in what the call gives (`Operand::Nothing`), since a call without a result that is used
+//! as a value breaks another rule before it.
 
 ghost use Rattle.std.specs.Prelude.{◌≡◌, slice_get, IfOk};
 ghost use Rattle.std.specs.List.{list_all};
@@ -33,7 +33,7 @@ use golf_check_types::{
 };
 use std::alloc::Global;
 
-// Whether each leading pair is assignable.
+// Checks that each value is assignable to its parameter, if it has one.
 fn arguments_fit(
     line: u32,
     parameters: &[Option<GoType>],
@@ -60,7 +60,7 @@ fn same_number(parameters: &[Option<GoType>], values: &[Given]) -> bool
     parameters.len() == values.len()
 }
 
-// Whether the values fit the parameters, and there are as many: `NOT_ASSIGNABLE` and `WRONG_CALL`.
+// Checks that the values fit the parameters and that there are as many: `NOT_ASSIGNABLE` and `WRONG_CALL`.
 fn fit(line: u32, parameters: &[Option<GoType>], values: &[Given]) -> Result<(), TypeFault>
     ensures { Tells result (parameter_faults line parameters.now values.now) (λ _. Unit {0}) }
 {
@@ -68,7 +68,7 @@ fn fit(line: u32, parameters: &[Option<GoType>], values: &[Given]) -> Result<(),
     require(line, WRONG_CALL, same_number(parameters, values))
 }
 
-// What a call gives whose function has this result.
+// Returns what a call of a function with this result gives.
 fn of_result(result_type: Option<GoType>) -> Operand
     ensures { result ≡ of_result_of result_type }
 {
@@ -78,7 +78,7 @@ fn of_result(result_type: Option<GoType>) -> Operand
     }
 }
 
-// A call of the function or method of this number.
+// Judges a call of the function or method of this number.
 fn call_function(
     alloc: Global,
     line: u32,
@@ -97,7 +97,7 @@ fn call_function(
     }
 }
 
-// The types of the parameters of a built-in. None stands for a parameter that takes any type.
+// Returns the types of the parameters of a built-in. `None` is a parameter that takes any type.
 fn parameters_of(alloc: Global, built_in: BuiltIn) -> Result<List<Option<GoType>>, Memory>
     ensures { IfOk result (λ ps. ps ≡ parameters_of_of built_in) }
 {
@@ -142,7 +142,8 @@ fn first_is_text(values: &[Given]) -> bool
     }
 }
 
-// Whether the values may be the arguments of a built-in: `WRONG_OPERAND`, `NOT_ASSIGNABLE`, `WRONG_CALL` and `WRONG_CHANNEL`.
+// Checks that the values can be the arguments of a built-in: `WRONG_OPERAND`, `NOT_ASSIGNABLE`, `WRONG_CALL` and
+// `WRONG_CHANNEL`.
 fn built_in_fits(
     alloc: Global,
     line: u32,
@@ -166,7 +167,7 @@ fn built_in_fits(
     }
 }
 
-/// The rule, unless the test holds.
+/// Returns the rule, or `None` if the test holds.
 pub fn rule_unless(rule: u32, holds: bool) -> Option<u32>
     ensures { result ≡ rule_unless_of rule holds }
 {
@@ -205,7 +206,7 @@ fn built_in_result(alloc: Global, built_in: BuiltIn, late: Option<u32>) -> Opera
     }
 }
 
-// Whether a call of this may stand in the initialiser of a global.
+// Returns whether the initialiser of a global may call this.
 fn is_steady(callee: &Operand) -> bool
     ensures { result ≡ is_steady_of callee.now }
 {
@@ -219,14 +220,14 @@ fn is_steady(callee: &Operand) -> bool
     }
 }
 
-/// Whether a call may stand in the initialiser of a global: `NOT_STEADY`.
+/// Checks that the initialiser of a global may call this: `NOT_STEADY`. Elsewhere any call is allowed.
 pub fn keeps_steady(line: u32, initialises: Option<u32>, callee: &Operand) -> Result<(), TypeFault>
     ensures { Tells result (steady_faults line initialises callee.now) (λ _. Unit {0}) }
 {
     require(line, NOT_STEADY, initialises.is_none() || is_steady(callee))
 }
 
-/// Whether an operand is `runtime.SetFinalizer`.
+/// Returns whether an operand is `runtime.SetFinalizer`.
 pub fn sets_finaliser(callee: &Operand) -> bool
     ensures { result ≡ sets_finaliser_of callee.now }
 {
@@ -239,7 +240,8 @@ pub fn sets_finaliser(callee: &Operand) -> bool
     }
 }
 
-/// What a call of an operand makes, after its arguments: `WRONG_OPERAND`, `NOT_ASSIGNABLE`, `WRONG_CALL` and `WRONG_CHANNEL`.
+/// Returns what a call of an operand gives. The arguments are judged already. It checks `WRONG_OPERAND`,
+/// `NOT_ASSIGNABLE`, `WRONG_CALL` and `WRONG_CHANNEL`.
 pub fn call(
     alloc: Global,
     line: u32,
@@ -289,7 +291,7 @@ fn is_struct_pointer(given: &Given) -> bool
     }
 }
 
-// Whether a parameter, if its type is known, has the type of a value, if that is known.
+// Returns whether the types of a parameter and a value are the same. A type that is not known is the same as any.
 fn same_known(parameter: &Option<GoType>, given: &Given) -> bool
     ensures { result ≡ same_known_of parameter.now (type_given_of given.now) }
 {
@@ -330,7 +332,7 @@ fn finalises_by(file: &FileScope, given: &Given, finaliser: &Operand) -> bool
     }
 }
 
-/// Whether a value may have a finaliser: `WRONG_FINALISER`.
+/// Returns whether the value can have this finaliser: `WRONG_FINALISER` if not.
 pub fn finalises(file: &FileScope, given: &Given, finaliser: &Operand) -> bool
     ensures { result ≡ finalises_of file.now given.now finaliser.now }
 {

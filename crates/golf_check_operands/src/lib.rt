@@ -1,7 +1,7 @@
-//! What operands, operators, names, literals, selectors and calls are, and which rules they break.
+//! Judgments of operands, operators, names, literals, selectors and calls.
 //!
-//! Nothing here looks into a tree: the checker of bodies (`golf_check_bodies`) finds the operands, and asks here what is
-//! made of them. Each call answers the first broken rule of its construct, in the order of the walk.
+//! Nothing here looks into a tree. The checker of bodies (`golf_check_bodies`) finds the operands, and asks here what
+//! is made of them. Each call returns the first broken rule of its construct, in the order of the walk.
 #![tactic(auto)]
 
 mod calls;

@@ -1,7 +1,7 @@
 //! Names and literals, `make` and `new`.
 //!
-//! Of a literal of a struct each value is judged by its field, if that is known, and then the fields themselves. A field
-//! or name that is not known has no type, and a value without a type breaks no rule.
+//! Each value of a struct literal is judged by the field for it, if the field is known. Then the fields themselves are
+//! judged. A field or name that is not known has no type, and a value without a type breaks no rule.
 
 ghost use Rattle.std.specs.Prelude.{◌≡◌, ◌≤◌, ◌++◌, [], pos, map, flat_map, SomeIff, IfOk, is_some, slice_get};
 ghost use Rattle.std.specs.Prelude.{option_and_then};
@@ -37,7 +37,7 @@ use std::alloc::Global;
 /// The largest `int`.
 const MAX_INT: u64 = 9223372036854775807;
 
-// The number of the global that is read, if it is one.
+// Returns the number of the global that an operand reads, or `None` if it reads none.
 fn reads_global(operand: &Operand) -> Option<u32>
     ensures { result ≡ reads_global_of operand.now }
 {
@@ -50,7 +50,7 @@ fn reads_global(operand: &Operand) -> Option<u32>
     }
 }
 
-// Whether a global may be read if another is initialised.
+// Returns whether a global may be read while another is initialised.
 fn is_above(initialises: Option<u32>, read: Option<u32>) -> bool
     ensures { result ≡ is_above_of initialises read }
 {
@@ -63,7 +63,7 @@ fn is_above(initialises: Option<u32>, read: Option<u32>) -> bool
     }
 }
 
-// A name that means this, unless it reads a global that is not above the one that is initialised.
+// Returns the operand of a name, unless it reads a global that is not above the one that is initialised.
 fn found(line: u32, initialises: Option<u32>, operand: Operand) -> Result<Operand, TypeFault>
     ensures { Finds result (found_name line initialises operand) }
 {
@@ -75,7 +75,7 @@ fn found(line: u32, initialises: Option<u32>, operand: Operand) -> Result<Operan
     Ok(operand)
 }
 
-// A name that means this, if it means anything.
+// Returns the operand of a name, if the name is known.
 fn known(
     line: u32,
     initialises: Option<u32>,
@@ -92,7 +92,7 @@ fn known(
     }
 }
 
-/// What a name is: `UNKNOWN_NAME` and `NOT_STEADY`.
+/// Returns what a name is. It checks `UNKNOWN_NAME` and `NOT_STEADY`.
 pub fn named(alloc: Global, line: u32, scope: &Scope, name: &[u8]) -> Result<Operand, TypeFault>
     ensures { Finds result (named_of line scope.now name.now) }
 {
@@ -103,7 +103,7 @@ pub fn named(alloc: Global, line: u32, scope: &Scope, name: &[u8]) -> Result<Ope
     known(line, scope.initialises, meaning)
 }
 
-// The number that digits stand for, if an `int` can hold it.
+// Returns the number for which the digits stand, or `None` if an `int` cannot hold it.
 fn small_value(digits: &[u8]) -> Option<u64>
     ensures { SomeIff result (value_from 0 digits.now ≤ MAX_INT) (value_from 0 digits.now) }
 {
@@ -118,7 +118,7 @@ fn small_value(digits: &[u8]) -> Option<u64>
     Some(value)
 }
 
-/// The number that digits stand for: `TOO_LARGE`.
+/// Returns the number for which the digits stand. It checks `TOO_LARGE`.
 #[tactic(auto, unfolding(golf_check_types::specs::Expressions::fits_int))]
 pub fn int_value(line: u32, digits: &[u8]) -> Result<i64, TypeFault>
     ensures { Tells result (broken_of line TOO_LARGE (fits_int_of digits.now)) (λ n. n ≡ pos (value_from 0 digits.now)) }
@@ -132,7 +132,7 @@ pub fn int_value(line: u32, digits: &[u8]) -> Result<i64, TypeFault>
     }
 }
 
-/// `new(T)`: `UNKNOWN_TYPE`.
+/// Returns what `new(T)` gives. It checks `UNKNOWN_TYPE`.
 pub fn made_struct(
     alloc: Global,
     line: u32,
@@ -147,7 +147,7 @@ pub fn made_struct(
     Ok(Operand::Value(plain_type(alloc, base)))
 }
 
-// The type of a field, if this member is one.
+// Returns the type of a field, if this member is a field.
 fn field_of_member(
     alloc: Global,
     file: &FileScope,
@@ -165,7 +165,7 @@ fn field_of_member(
     }
 }
 
-/// The type of a field, by its place in the struct of this number.
+/// Returns the type of a field, by its place in the struct of this number, or `None` if it is not known.
 pub fn type_of_field(
     alloc: Global,
     file: &FileScope,
@@ -180,7 +180,7 @@ pub fn type_of_field(
     }
 }
 
-// The type of the field of this name of the struct that a pointer leads to, if there is one.
+// Returns the type of the field of this name in the struct to which a pointer refers, if there is such a field.
 #[tactic(auto, unfolding(golf_check_types::specs::Expressions::field_type))]
 fn field_type(
     alloc: Global,
@@ -201,7 +201,7 @@ fn field_type(
     }
 }
 
-/// The number of the struct that a pointer leads to, or 0.
+/// Returns the number of the struct to which a pointer refers, or 0 if it is no such pointer.
 pub fn struct_of(base: Option<Base>) -> u32
     ensures { result ≡ struct_of_of base }
 {
@@ -214,7 +214,7 @@ pub fn struct_of(base: Option<Base>) -> u32
     }
 }
 
-/// The place of a field of the struct that a pointer leads to, or 0.
+/// Returns the place of a field of the struct to which a pointer refers, or 0 if there is no such field.
 pub fn field_place(file: &FileScope, base: Option<Base>, name: &[u8]) -> u32
     ensures { result ≡ field_place_of file.now base name.now }
 {
@@ -227,7 +227,7 @@ pub fn field_place(file: &FileScope, base: Option<Base>, name: &[u8]) -> u32
     }
 }
 
-// Whether a value fits the field that it is put into, if that is known.
+// Checks that a value fits the field for it, if the field is known.
 fn put_fits(line: u32, field: &Option<Option<GoType>>, given: &Given) -> Result<(), TypeFault>
     ensures { Tells result (put_faults line field.now given.now) (λ _. Unit {0}) }
 {
@@ -237,7 +237,7 @@ fn put_fits(line: u32, field: &Option<Option<GoType>>, given: &Given) -> Result<
     }
 }
 
-// The same of an element of a struct literal.
+// Checks the same for an element of a struct literal.
 fn element_fits(
     alloc: Global,
     line: u32,
@@ -252,7 +252,7 @@ fn element_fits(
     put_fits(line, &field, given)
 }
 
-/// Whether what is put into fields that are known fits them: `NOT_ASSIGNABLE`.
+/// Checks that each value fits the field for it, if the field is known: `NOT_ASSIGNABLE`.
 pub fn all_fit(
     alloc: Global,
     line: u32,
@@ -276,7 +276,7 @@ pub fn all_fit(
     Ok(())
 }
 
-// Whether a field of this name is among those of the elements.
+// Returns whether one of the elements is for the field of this name.
 fn is_among(elements: &[Element], name: &[u8]) -> bool
     ensures { result ≡ list_any (bytes_eq name.now) (map (λ e. e.field) elements.now) }
 {
@@ -288,7 +288,7 @@ fn is_among(elements: &[Element], name: &[u8]) -> bool
     false
 }
 
-/// Whether each element is that of a field, and no field comes twice.
+/// Returns whether each element is for a field, and no two are for the same field.
 pub fn fields_differ(
     alloc: Global,
     file: &FileScope,
@@ -307,7 +307,7 @@ pub fn fields_differ(
     Ok(true)
 }
 
-/// Whether each value fits the elements of a slice: `NOT_ASSIGNABLE`.
+/// Checks that each value fits the elements of a slice: `NOT_ASSIGNABLE`.
 pub fn elements_fit(line: u32, values: &[Given], t: &Option<GoType>) -> Result<(), TypeFault>
     ensures { Tells result (flat_map (λ v. broken_of line NOT_ASSIGNABLE (assignable_of v t.now)) values.now) (λ _. Unit {0}) }
 {
@@ -317,7 +317,7 @@ pub fn elements_fit(line: u32, values: &[Given], t: &Option<GoType>) -> Result<(
     Ok(())
 }
 
-/// `make(T)`, after its type: `WRONG_CALL`.
+/// Returns what `make(T)` gives, after its type. It checks `WRONG_CALL`.
 pub fn made(alloc: Global, line: u32, t: Option<GoType>) -> Result<Operand, TypeFault>
     ensures { Tells result (broken_of line WRONG_CALL (has_layer is_channel (given_of (Operand.Value t)))) (λ m. m ≡ Operand.Value t) }
 {
@@ -326,7 +326,7 @@ pub fn made(alloc: Global, line: u32, t: Option<GoType>) -> Result<Operand, Type
     Ok(Operand::Value(own))
 }
 
-/// `make(T, e)`, after its type and size: `WRONG_OPERAND` and `WRONG_CALL`.
+/// Returns what `make(T, e)` gives, after its type and its size. It checks `WRONG_OPERAND` and `WRONG_CALL`.
 pub fn made_sized(
     alloc: Global,
     line: u32,

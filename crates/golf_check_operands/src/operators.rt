@@ -1,6 +1,6 @@
-//! How operands stand, and what operators make of them.
+//! Uses of operands, and what operators give.
 //!
-//! An operand may stand as a value (`is_value`) or as a name of any kind (`is_name`). Operators take values.
+//! An operand can be used as a value (`is_value`) or as a name of any kind (`is_name`). Operators take values.
 
 ghost use Rattle.std.specs.Prelude.{◌≡◌, ◌&&◌};
 ghost use Rattle.golf_check_types.specs.Faults.{Tells, broken as broken_of};
@@ -17,7 +17,7 @@ use golf_check_types::{Base, Given, Operand, Scope, TypeFault, plain, require, v
 use golf_syntax_trees::{BinaryOperator, UnaryOperator};
 use std::alloc::Global;
 
-/// The rule that the arguments of a call without a result break, if any.
+/// Reports the rule that the arguments of a call without a result break, if there is one.
 pub fn late(line: u32, rule: Option<u32>) -> Result<(), TypeFault>
     ensures { Tells result (late_faults line rule) (λ _. Unit {0}) }
 {
@@ -27,7 +27,7 @@ pub fn late(line: u32, rule: Option<u32>) -> Result<(), TypeFault>
     }
 }
 
-/// Whether an operand is a value: `UNKNOWN_NAME` and `WRONG_USE`.
+/// Checks that an operand is a value: `UNKNOWN_NAME` and `WRONG_USE`.
 pub fn is_value(line: u32, operand: &Operand) -> Result<(), TypeFault>
     ensures { Tells result (value_faults line operand.now) (λ _. Unit {0}) }
 {
@@ -58,7 +58,7 @@ pub fn is_value(line: u32, operand: &Operand) -> Result<(), TypeFault>
     }
 }
 
-/// Whether an operand may stand where a name of any kind may: `UNKNOWN_NAME` and `WRONG_USE`.
+/// Checks that an operand can be used as a name of any kind: `UNKNOWN_NAME` and `WRONG_USE`.
 pub fn is_name(line: u32, operand: &Operand) -> Result<(), TypeFault>
     ensures { Tells result (name_faults line operand.now) (λ _. Unit {0}) }
 {
@@ -75,7 +75,7 @@ pub fn is_name(line: u32, operand: &Operand) -> Result<(), TypeFault>
     }
 }
 
-/// What an operand gives as a value.
+/// Returns what an operand gives as a value, if it is one.
 pub(crate) fn as_value(alloc: Global, line: u32, operand: Operand) -> Result<Given, TypeFault>
     ensures { Tells result (value_faults line operand) (λ v. v ≡ given_of operand) }
 {
@@ -83,14 +83,14 @@ pub(crate) fn as_value(alloc: Global, line: u32, operand: Operand) -> Result<Giv
     Ok(value_of(alloc, operand))
 }
 
-/// A value of a type without layers.
+/// Returns a value of a type without layers.
 pub fn value(alloc: Global, base: Base) -> Operand
     ensures { result ≡ value_of_base base }
 {
     Operand::Value(Some(plain(alloc, base)))
 }
 
-/// What stands in parentheses: a package there is no qualifier.
+/// Returns the operand of an expression in parentheses. A package in parentheses cannot be a qualifier.
 pub fn without_package(operand: Operand) -> Operand
     ensures { result ≡ without_package_of operand }
 {
@@ -100,7 +100,7 @@ pub fn without_package(operand: Operand) -> Operand
     }
 }
 
-/// What a unary operator makes.
+/// Returns what a unary operator gives. It checks the rules of its operand.
 pub fn unary(
     alloc: Global,
     line: u32,
@@ -127,7 +127,7 @@ pub fn unary(
     }
 }
 
-/// What a binary operator gives.
+/// Returns the base of the type that a binary operator gives.
 pub fn result_base(operator: BinaryOperator) -> Base
     ensures { result ≡ result_base_of operator }
 {
@@ -141,7 +141,7 @@ pub fn result_base(operator: BinaryOperator) -> Base
     }
 }
 
-// What both operands of a binary operator are, unless it compares.
+// Returns the base of both operands of a binary operator that is no `==` or `!=`.
 fn operand_base(operator: BinaryOperator) -> Base
     ensures { result ≡ operand_base_of operator }
 {
@@ -151,7 +151,7 @@ fn operand_base(operator: BinaryOperator) -> Base
     }
 }
 
-// Whether two values may stand at a binary operator.
+// Returns whether two values can be the operands of a binary operator.
 fn binary_fits(operator: BinaryOperator, x: &Given, y: &Given) -> bool
     ensures { result ≡ binary_fits_of operator x.now y.now }
 {
@@ -164,7 +164,7 @@ fn binary_fits(operator: BinaryOperator, x: &Given, y: &Given) -> bool
     }
 }
 
-/// What a binary operator makes.
+/// Returns what a binary operator gives. It checks `WRONG_OPERAND`.
 pub fn binary(
     alloc: Global,
     line: u32,
@@ -178,7 +178,7 @@ pub fn binary(
     Ok(value(alloc, result_base(operator)))
 }
 
-/// The element that an index leads to.
+/// Returns the element at an index. It checks `WRONG_OPERAND`.
 pub fn index(line: u32, x: Given, i: Given) -> Result<Operand, TypeFault>
     ensures { Tells result (broken_of line WRONG_OPERAND (has_layer is_slice x && has_base_of Base.Int i)) (λ m. m ≡ Operand.Element (element_of x)) }
 {

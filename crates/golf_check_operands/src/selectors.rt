@@ -1,7 +1,7 @@
-//! Selectors: fields, methods, and what packages have.
+//! Selectors: fields, methods, and members of packages.
 //!
-//! What stands before the dot is a package, or a value whose type says which names may follow. `select` is the one
-//! entry; a method that is selected is an operand that can only be called.
+//! A package is before the dot, or a value whose type says which names may follow. `select` is the only entry. A
+//! selected method is an operand that can only be called.
 
 ghost use Rattle.std.specs.Prelude.{◌≡◌};
 ghost use Rattle.golf_check_types.specs.Judging.{Finds};
@@ -26,7 +26,7 @@ use golf_check_types::{
 };
 use std::alloc::Global;
 
-// What package fmt has of this name.
+// Returns the function of package fmt of this name, or `None`.
 #[tactic(auto, unfolding(golf_check_types::specs::Expressions::fmt_member))]
 fn fmt_member(name: &[u8]) -> Option<BuiltIn>
     ensures { result ≡ fmt_member_of name.now }
@@ -37,7 +37,7 @@ fn fmt_member(name: &[u8]) -> Option<BuiltIn>
     None
 }
 
-// What package runtime has of this name.
+// Returns the function of package runtime of this name, or `None`.
 #[tactic(auto, unfolding(golf_check_types::specs::Expressions::runtime_member))]
 fn runtime_member(name: &[u8]) -> Option<BuiltIn>
     ensures { result ≡ runtime_member_of name.now }
@@ -51,7 +51,7 @@ fn runtime_member(name: &[u8]) -> Option<BuiltIn>
     None
 }
 
-// What can be called in package sync by this name.
+// Returns the function of package sync of this name, or `None`.
 #[tactic(auto, unfolding(golf_check_types::specs::Expressions::sync_member))]
 fn sync_member(name: &[u8]) -> Option<BuiltIn>
     ensures { result ≡ sync_member_of name.now }
@@ -62,7 +62,7 @@ fn sync_member(name: &[u8]) -> Option<BuiltIn>
     None
 }
 
-// What can be called in a package by this name.
+// Returns the function of a package of this name, or `None`.
 fn package_member(from: Package, name: &[u8]) -> Option<BuiltIn>
     ensures { result ≡ package_member_of from name.now }
 {
@@ -73,7 +73,7 @@ fn package_member(from: Package, name: &[u8]) -> Option<BuiltIn>
     }
 }
 
-// Whether a package has a type of this name.
+// Returns whether a package has a type of this name.
 fn has_type(from: Package, name: &[u8]) -> bool
     ensures { result ≡ has_type_of from name.now }
 {
@@ -83,7 +83,7 @@ fn has_type(from: Package, name: &[u8]) -> bool
     }
 }
 
-// What is called, if there is something of its name.
+// Returns the operand of a built-in, or reports `UNKNOWN_NAME` if there is none.
 fn called_name(line: u32, name: Option<BuiltIn>) -> Result<Operand, TypeFault>
     ensures { Finds result (called_name_of line name) }
 {
@@ -96,7 +96,7 @@ fn called_name(line: u32, name: Option<BuiltIn>) -> Result<Operand, TypeFault>
     }
 }
 
-// What a package has: a type, which is no value, or what is called. `UNKNOWN_NAME`.
+// Returns a member of a package: a type, which is no value, or a function. It checks `UNKNOWN_NAME`.
 fn package_selected(line: u32, from: Package, name: &[u8]) -> Result<Operand, TypeFault>
     ensures { Finds result (package_selected_of line from name.now) }
 {
@@ -106,7 +106,7 @@ fn package_selected(line: u32, from: Package, name: &[u8]) -> Result<Operand, Ty
     called_name(line, package_member(from, name))
 }
 
-// The method of a mutex of this name.
+// Returns the method of a mutex of this name, or `None`.
 #[tactic(auto, unfolding(golf_check_types::specs::Expressions::mutex_method))]
 fn mutex_method(name: &[u8]) -> Option<BuiltIn>
     ensures { result ≡ mutex_method_of name.now }
@@ -120,7 +120,7 @@ fn mutex_method(name: &[u8]) -> Option<BuiltIn>
     None
 }
 
-// The method of a wait group of this name.
+// Returns the method of a wait group of this name, or `None`.
 #[tactic(auto, unfolding(golf_check_types::specs::Expressions::group_method))]
 fn group_method(name: &[u8]) -> Option<BuiltIn>
     ensures { result ≡ group_method_of name.now }
@@ -137,7 +137,7 @@ fn group_method(name: &[u8]) -> Option<BuiltIn>
     None
 }
 
-// The method of a reader and writer mutex, for a writer.
+// Returns the method of a reader and writer mutex for a writer, or `None`.
 #[tactic(auto, unfolding(golf_check_types::specs::Expressions::write_method))]
 fn write_method(name: &[u8]) -> Option<BuiltIn>
     ensures { result ≡ write_method_of name.now }
@@ -151,7 +151,7 @@ fn write_method(name: &[u8]) -> Option<BuiltIn>
     None
 }
 
-// The method of a reader and writer mutex, for readers or a writer.
+// Returns the method of a reader and writer mutex, for readers or for a writer, or `None`.
 #[tactic(auto, unfolding(golf_check_types::specs::Expressions::read_method))]
 fn read_method(name: &[u8]) -> Option<BuiltIn>
     ensures { result ≡ read_method_of name.now }
@@ -165,7 +165,7 @@ fn read_method(name: &[u8]) -> Option<BuiltIn>
     write_method(name)
 }
 
-// The method of a condition of this name.
+// Returns the method of a condition of this name, or `None`.
 #[tactic(auto, unfolding(golf_check_types::specs::Expressions::condition_method))]
 fn condition_method(name: &[u8]) -> Option<BuiltIn>
     ensures { result ≡ condition_method_of name.now }
@@ -182,7 +182,7 @@ fn condition_method(name: &[u8]) -> Option<BuiltIn>
     None
 }
 
-// What a condition has of this name: its mutex, or a method.
+// Returns the member of a condition of this name: its mutex, or a method.
 #[tactic(auto, unfolding(golf_check_types::specs::Expressions::condition_member))]
 fn condition_member(alloc: Global, line: u32, name: &[u8]) -> Result<Operand, TypeFault>
     ensures { Finds result (condition_member_of line name.now) }
@@ -193,7 +193,7 @@ fn condition_member(alloc: Global, line: u32, name: &[u8]) -> Result<Operand, Ty
     called_name(line, condition_method(name))
 }
 
-// A field or method of the struct of this number, if the name is one.
+// Returns a field or method of the struct of this number, if the name is one.
 fn struct_member(
     alloc: Global,
     line: u32,
@@ -218,7 +218,7 @@ fn struct_member(
     }
 }
 
-// What stands after the dot of a value of a type without layers.
+// Returns a member of a value whose type has no layers.
 fn base_member(
     alloc: Global,
     line: u32,
@@ -243,7 +243,7 @@ fn base_member(
     }
 }
 
-// What stands after the dot of a value. One whose type is not known may have anything.
+// Returns a member of a value. A value whose type is not known may have any member.
 fn value_member(
     alloc: Global,
     line: u32,
@@ -269,7 +269,7 @@ fn value_member(
     }
 }
 
-/// What stands after a dot: of a package, or of a value. `UNKNOWN_NAME`, `WRONG_OPERAND` and `WRONG_USE`.
+/// Returns the member of a package or a value. It checks `UNKNOWN_NAME`, `WRONG_OPERAND` and `WRONG_USE`.
 pub fn select(
     alloc: Global,
     line: u32,

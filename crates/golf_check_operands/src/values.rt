@@ -1,7 +1,7 @@
 //! Tests of values (Go specification, "Assignability", "Comparison operators").
 //!
 //! They answer yes or no and name no rule. A value whose type is not known passes all of them, so that only the first
-//! fault of an expression is told.
+//! fault of an expression is reported.
 
 ghost use Rattle.std.specs.Prelude.{◌≡◌};
 ghost use Rattle.golf_check_types.specs.Types.{has_base as has_base_of, has_layer, starts_with, is_slice, is_channel};
@@ -12,7 +12,7 @@ ghost use Rattle.golf_check_types.specs.Types.{comparable as comparable_of};
 
 use golf_check_types::{Base, Given, GoType, Layer, same_base, same_layers, same_type};
 
-/// Whether a value has this type without layers.
+/// Returns whether a value has this type without layers.
 pub fn has_base(base: Base, given: &Given) -> bool
     ensures { result ≡ has_base_of base given.now }
 {
@@ -23,7 +23,7 @@ pub fn has_base(base: Base, given: &Given) -> bool
     }
 }
 
-/// Whether layers are those of a slice.
+/// Returns whether the layers are those of a slice.
 pub fn begins_slice(layers: &[Layer]) -> bool
     ensures { result ≡ starts_with is_slice layers.now }
 {
@@ -33,7 +33,7 @@ pub fn begins_slice(layers: &[Layer]) -> bool
     }
 }
 
-/// Whether a value is a slice.
+/// Returns whether a value is a slice.
 pub(crate) fn has_slice(given: &Given) -> bool
     ensures { result ≡ has_layer is_slice given.now }
 {
@@ -44,7 +44,7 @@ pub(crate) fn has_slice(given: &Given) -> bool
     }
 }
 
-/// Whether layers are those of a channel.
+/// Returns whether the layers are those of a channel.
 pub fn begins_channel(layers: &[Layer]) -> bool
     ensures { result ≡ starts_with is_channel layers.now }
 {
@@ -56,7 +56,7 @@ pub fn begins_channel(layers: &[Layer]) -> bool
     }
 }
 
-/// Whether a value is a channel.
+/// Returns whether a value is a channel.
 pub fn has_channel(given: &Given) -> bool
     ensures { result ≡ has_layer is_channel given.now }
 {
@@ -67,7 +67,7 @@ pub fn has_channel(given: &Given) -> bool
     }
 }
 
-/// Whether a value is a slice or a channel.
+/// Returns whether a value is a slice or a channel.
 pub fn has_any(given: &Given) -> bool
     ensures { result ≡ has_layer is_any given.now }
 {
@@ -81,7 +81,7 @@ pub fn has_any(given: &Given) -> bool
     }
 }
 
-// Whether layers are those of a channel that can be received from.
+// Returns whether the layers are those of a channel that can be received from.
 fn begins_giving(layers: &[Layer]) -> bool
     ensures { result ≡ starts_with gives layers.now }
 {
@@ -92,7 +92,7 @@ fn begins_giving(layers: &[Layer]) -> bool
     }
 }
 
-/// Whether a value is a channel that can be received from.
+/// Returns whether a value is a channel that can be received from.
 pub fn can_give(given: &Given) -> bool
     ensures { result ≡ has_layer gives given.now }
 {
@@ -103,7 +103,7 @@ pub fn can_give(given: &Given) -> bool
     }
 }
 
-// Whether layers are those of a channel that can be sent on.
+// Returns whether the layers are those of a channel that can be sent on.
 fn begins_taking(layers: &[Layer]) -> bool
     ensures { result ≡ starts_with takes layers.now }
 {
@@ -114,7 +114,7 @@ fn begins_taking(layers: &[Layer]) -> bool
     }
 }
 
-/// Whether a value is a channel that can be sent on and closed.
+/// Returns whether a value is a channel that can be sent on and closed.
 pub fn can_take(given: &Given) -> bool
     ensures { result ≡ has_layer takes given.now }
 {
@@ -125,14 +125,14 @@ pub fn can_take(given: &Given) -> bool
     }
 }
 
-/// What a slice has or a channel carries.
+/// Returns the element type of a slice or a channel, or `None` for any other value.
 pub fn element(given: Given) -> Option<GoType>
     ensures { result ≡ element_of given }
 {
     given.into_element()
 }
 
-// Whether `nil` is a value of this type: a pointer, slice or channel.
+// Returns whether `nil` is a value of this type: a pointer, a slice or a channel.
 fn takes_nil(t: &GoType) -> bool
     ensures { result ≡ takes_nil_of t.now.layers t.now.base }
 {
@@ -145,7 +145,8 @@ fn takes_nil(t: &GoType) -> bool
     }
 }
 
-// Whether layers are those of a channel of both directions, and the others those of the same channel in one.
+// Returns whether the first layers are those of a channel of both directions, and the second those of the same channel
+// in one direction.
 fn narrows(a: &[Layer], b: &[Layer]) -> bool
     ensures { result ≡ narrows_of a.now b.now }
 {
@@ -159,7 +160,7 @@ fn narrows(a: &[Layer], b: &[Layer]) -> bool
     }
 }
 
-// Whether a value of the first type may be assigned to what has the second one.
+// Returns whether a value of the first type is assignable to the second type.
 fn assignable_type(a: &GoType, b: &GoType) -> bool
     ensures { result ≡ assignable_type_of a.now b.now }
 {
@@ -167,7 +168,7 @@ fn assignable_type(a: &GoType, b: &GoType) -> bool
         || (narrows(a.layers.as_slice(), b.layers.as_slice()) && same_base(a.base, b.base))
 }
 
-/// Whether a value may be assigned to what has this type.
+/// Returns whether a value is assignable to this type.
 pub fn assignable_to(given: &Given, t: &GoType) -> bool
     ensures { result ≡ assignable_to_of given.now t.now }
 {
@@ -178,7 +179,7 @@ pub fn assignable_to(given: &Given, t: &GoType) -> bool
     }
 }
 
-/// The same of a type that may not be known.
+/// Returns the same for a type that may not be known. Any value is assignable to an unknown type.
 pub fn assignable(given: &Given, t: &Option<GoType>) -> bool
     ensures { result ≡ assignable_of given.now t.now }
 {
@@ -188,7 +189,7 @@ pub fn assignable(given: &Given, t: &Option<GoType>) -> bool
     }
 }
 
-/// Whether two values may be compared by `==` and `!=`.
+/// Returns whether two values can be compared by `==` and `!=`.
 pub fn comparable(x: &Given, y: &Given) -> bool
     ensures { result ≡ comparable_of x.now y.now }
 {

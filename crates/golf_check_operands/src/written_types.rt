@@ -1,7 +1,7 @@
-//! Types as they are written.
+//! Written types (Go specification, "Types").
 //!
-//! `written_type` says what a type is, `type_is_there` whether it is one of the language, and `written` does both. A
-//! type that is not there is None, and a value of it has no type.
+//! `written_type` returns the type, `type_is_there` checks that the language has it, and `written` does both. A type
+//! that the language does not have is `None`, and a value of it has no type.
 
 ghost use Rattle.std.specs.Prelude.{◌≡◌, IfOk, option_map};
 ghost use Rattle.golf_check_types.specs.Faults.{Tells};
@@ -20,7 +20,7 @@ use golf_check_types::{
 use golf_syntax_trees::TypeExpr;
 use std::alloc::Global;
 
-// What a name alone stands for as a type.
+// Returns the base of a predeclared type name, or `None`.
 #[tactic(auto, unfolding(golf_check_types::specs::Written::named_base))]
 fn named_base(name: &[u8]) -> Option<Base>
     ensures { result ≡ named_base_of name.now }
@@ -37,7 +37,7 @@ fn named_base(name: &[u8]) -> Option<Base>
     None
 }
 
-/// What package sync has and `new` makes.
+/// Returns the type of package sync of this name that `new` makes, or `None`.
 #[tactic(auto, unfolding(golf_check_types::specs::Written::made_base))]
 pub fn made_base(name: &[u8]) -> Option<Base>
     ensures { result ≡ made_base_of name.now }
@@ -54,7 +54,7 @@ pub fn made_base(name: &[u8]) -> Option<Base>
     None
 }
 
-/// What package sync has.
+/// Returns the type of package sync of this name, or `None`.
 #[tactic(auto, unfolding(golf_check_types::specs::Written::sync_base))]
 pub fn sync_base(name: &[u8]) -> Option<Base>
     ensures { result ≡ sync_base_of name.now }
@@ -65,7 +65,7 @@ pub fn sync_base(name: &[u8]) -> Option<Base>
     made_base(name)
 }
 
-/// A pointer to what is a struct of the file.
+/// Returns the pointer to a struct of the file, or `None` if the name means no struct.
 pub fn pointer_to(meaning: Option<Operand>) -> Option<Base>
     ensures { result ≡ pointer_to_of meaning }
 {
@@ -78,7 +78,7 @@ pub fn pointer_to(meaning: Option<Operand>) -> Option<Base>
     }
 }
 
-/// A type without layers, if there is one.
+/// Returns a type without layers, if there is a base.
 pub fn plain_type(alloc: Global, base: Option<Base>) -> Option<GoType>
     ensures { result ≡ option_map plain_of base }
 {
@@ -88,7 +88,7 @@ pub fn plain_type(alloc: Global, base: Option<Base>) -> Option<GoType>
     }
 }
 
-/// The type that is written, if it is one of the language's.
+/// Returns the written type, or `None` if the language does not have it.
 #[tactic(auto, unfolding(golf_check_types::specs::Written::write))]
 pub fn written_type(
     alloc: Global,
@@ -129,7 +129,7 @@ pub fn written_type(
     }
 }
 
-// Whether package sync is imported, and has such a type.
+// Checks that package sync is imported and has such a type.
 fn sync_type_is_there(line: u32, imported: bool, base: Option<Base>) -> Result<(), TypeFault>
     ensures { Tells result (of_sync line imported base).faults (λ _. Unit {0}) }
 {
@@ -137,7 +137,7 @@ fn sync_type_is_there(line: u32, imported: bool, base: Option<Base>) -> Result<(
     require(line, UNKNOWN_TYPE, base.is_some())
 }
 
-/// Whether a written type is one of the language's: `UNKNOWN_NAME` and `UNKNOWN_TYPE`.
+/// Checks that the language has a written type: `UNKNOWN_NAME` and `UNKNOWN_TYPE`.
 #[tactic(auto, unfolding(golf_check_types::specs::Written::write))]
 pub fn type_is_there(alloc: Global, line: u32, scope: &Scope, t: &TypeExpr) -> Result<(), TypeFault>
     ensures { Tells result (write t.now line scope.now).faults (λ _. Unit {0}) }
@@ -161,7 +161,7 @@ pub fn type_is_there(alloc: Global, line: u32, scope: &Scope, t: &TypeExpr) -> R
     }
 }
 
-/// The type that is written: `UNKNOWN_NAME` and `UNKNOWN_TYPE`.
+/// Returns the written type. It checks `UNKNOWN_NAME` and `UNKNOWN_TYPE`.
 pub fn written(
     alloc: Global,
     line: u32,
@@ -174,7 +174,7 @@ pub fn written(
     Ok(written_type(alloc, line, scope, t)?)
 }
 
-/// `&sync.T{}` and `new(sync.T)`.
+/// Returns what `&sync.T{}` and `new(sync.T)` give. It checks that package sync is imported and has the type.
 pub fn made_sync(alloc: Global, line: u32, scope: &Scope, name: &[u8]) -> Result<Operand, TypeFault>
     ensures { Finds result (made_sync_of line scope.now name.now) }
 {

@@ -1,5 +1,5 @@
--- What calls ask of their arguments, and what they give (Go specification, "Calls", "Built-in functions"; packages fmt,
--- runtime and sync).
+-- The rules for the arguments of calls, and what calls give (Go specification, "Calls", "Built-in functions"; packages
+-- fmt, runtime and sync).
 use Rattle.std.specs.Prelude.{ℕ, ◌==◌, Bool, true, false, ◌&&◌, ◌||◌, cond, is_none, List, [], ◌∷◌, ◌++◌, length, map}
 use Rattle.std.specs.Prelude.{flat_map, slice_get, Option, Some, None}
 use Rattle.std.specs.List.{list_all}
@@ -22,7 +22,7 @@ use Rattle.golf_check_types.specs.Faults.{Fault, broken}
 use Rattle.golf_check_types.specs.Types.{same_type, plain, type_given, has_base, has_layer, is_any, takes, assignable}
 use Rattle.golf_check_types.specs.Expressions.{Judged, facts_of, used, named_or_used, given_by}
 
--- Rule 9 of the leading pairs.
+-- Rule 9 for the arguments that have a parameter.
 abbrev pub argument_faults : ℕ → List (Option GoType) → List Given → List Fault
 argument_faults l (p ∷ ps) (v ∷ vs) = broken l NOT_ASSIGNABLE (assignable v p) ++ argument_faults l ps vs
 argument_faults l _ _ = []
@@ -30,7 +30,7 @@ argument_faults l _ _ = []
 abbrev pub same_number : List (Option GoType) → List Given → Bool
 same_number ps vs = length ps == length vs
 
--- Rules 9 and 11 of these parameters.
+-- Rules 9 and 11 for these parameters.
 abbrev pub parameter_faults : ℕ → List (Option GoType) → List Given → List Fault
 parameter_faults l ps vs = argument_faults l ps vs ++ broken l WRONG_CALL (same_number ps vs)
 
@@ -67,7 +67,7 @@ abbrev pub all_first : (Given → Bool) → List Given → Bool
 all_first fits [] = true
 all_first fits (v ∷ vs) = fits v
 
--- Rule 8 of `len`, rules 9 and 11, rule 16 of `close`. `Println` takes any number.
+-- Rule 8 for `len`, rules 9 and 11 for all, rule 16 for `close`. `Println` takes any number of arguments.
 abbrev pub built_in_faults : ℕ → BuiltIn → List Given → List Fault
 built_in_faults l built_in.Length vs = broken l WRONG_OPERAND (all_first (has_layer is_any) vs)
     ++ parameter_faults l (parameters_of built_in.Length) vs
@@ -80,7 +80,7 @@ abbrev pub is_empty : List Judged → Bool
 is_empty [] = true
 is_empty (x ∷ xs) = false
 
--- Rules 21 and 22, after rule 18.
+-- Rules 21 and 22, which are judged after rule 18.
 
 abbrev pub rule_unless : ℕ → Bool → Option ℕ
 rule_unless rule true = None
@@ -97,7 +97,7 @@ abbrev pub is_struct_type : List Layer → Base → Bool
 is_struct_type [] b = is_struct_base b
 is_struct_type (x ∷ xs) b = false
 
--- a pointer to a struct of the file
+-- whether the value is a pointer to a struct of the file
 abbrev pub is_struct_pointer : Given → Bool
 is_struct_pointer (given_as.Typed t) = is_struct_type t.layers t.base
 is_struct_pointer given_as.Nil = false
@@ -107,7 +107,7 @@ abbrev pub same_known : Option GoType → Option GoType → Bool
 same_known (Some a) (Some b) = same_type a b
 same_known _ _ = true
 
--- a function with one parameter, of this type
+-- whether the parameters are exactly one of this type
 abbrev pub takes_alone : Option GoType → List (Option GoType) → Bool
 takes_alone t (p ∷ []) = same_known p t
 takes_alone t _ = false
@@ -136,7 +136,7 @@ built_in_result _ late = operand.Nothing late
 
 -- Any call.
 
--- Rule 7: the initialiser of a global calls `len` and `NewCond` alone.
+-- Rule 7: the initialiser of a global calls only `len` and `NewCond`.
 abbrev pub is_steady : Operand → Bool
 is_steady (operand.BuiltIn built_in.Length) = true
 is_steady (operand.BuiltIn built_in.NewCondition) = true
@@ -145,7 +145,7 @@ is_steady _ = false
 abbrev pub steady_faults : ℕ → Option ℕ → Operand → List Fault
 steady_faults l initialises f = broken l NOT_STEADY (is_none initialises || is_steady f)
 
--- Rules 8, 9, 11 and 16. What may be a method breaks none.
+-- Rules 8, 9, 11 and 16. An operand that is not known may be a method, and breaks none.
 abbrev pub call_faults : ℕ → FileScope → Operand → List Given → List Fault
 call_faults l f (operand.Function k) vs = signature_faults l (slice_get f.functions k) vs
 call_faults l f (operand.Method k) vs = signature_faults l (slice_get f.functions k) vs
@@ -167,7 +167,7 @@ plain_call l s f xs = record {
   inner = flat_map facts_of xs;
 }
 
--- `SetFinalizer`: the second argument may be a name of any kind
+-- `SetFinalizer`: the second argument can be a name of any kind
 abbrev pub finaliser_call : ℕ → Scope → Operand → List Judged → Judged
 finaliser_call l s f (x ∷ (y ∷ ys)) = record {
   meaning = operand.Nothing (rule_unless WRONG_FINALISER (finalises s.file (given_by x) y.meaning));

@@ -34,7 +34,7 @@ simple_ends _ = false
 abbrev pub neither : Terminates
 neither = record { ends = false; breaks = false }
 
--- of statements in order: whether the last is terminating, and whether one has a break
+-- for statements in order: whether the last one is terminating, and whether one has a break
 abbrev pub along : Terminates → List Terminates → Terminates
 along found [] = found
 along found (e ∷ es) = along (record { ends = e.ends; breaks = found.breaks || e.breaks }) es
@@ -42,13 +42,13 @@ along found (e ∷ es) = along (record { ends = e.ends; breaks = found.breaks ||
 abbrev pub of_all : List Terminates → Terminates
 of_all es = along neither es
 
--- without a condition and without `range`
+-- whether a header has neither a condition nor a `range`
 abbrev pub is_endless : Header → Bool
 is_endless header.Forever = true
 is_endless (header.Steps first None post) = true
 is_endless _ = false
 
--- Whether a statement is terminating. Whether it has a break of the statement around it.
+-- Whether a statement is terminating, and whether it has a `break` that leaves the statement around it.
 abbrev pub ending_step : Stmt-F Terminates Terminates → Terminates
 ending_step (S.Simple x) = record { ends = simple_ends x.kind; breaks = false }
 ending_step (S.Return l e) = record { ends = true; breaks = false }

@@ -1,4 +1,5 @@
--- What expressions are, which rules they break, and the facts of their parts (Go specification, "Expressions").
+-- The judgments of expressions: what they are, which rules they break, and the facts of their parts (Go specification,
+-- "Expressions").
 use Rattle.std.specs.Prelude.{ℕ, ◌+◌, ◌*◌, ◌-◌, Bool, true, false, not, ◌&&◌, nat_le, cond, is_some, List, [], ◌∷◌}
 use Rattle.std.specs.Prelude.{◌++◌, map, flat_map, slice_get, Option, Some, None, codes, pos}
 use Rattle.std.specs.List.{list_any}
@@ -38,13 +39,13 @@ use Rattle.golf_check_types.specs.Names.{is_blank}
 use Rattle.golf_check_types.specs.Scopes.{meaning, type_at, member}
 use Rattle.golf_check_types.specs.Written.{Written, made_base, sync_base, of_sync}
 
--- What an expression is, the rules that it breaks, and the facts of its parts in the order of their prints.
+-- A judgment: what an expression is, the rules that it breaks, and the facts of its parts in the order of their prints.
 pub record Judged : Type 0 where
   pub meaning : Operand
   pub faults : List Fault
   pub inner : List Fact
 
--- its fact and those of its parts
+-- the fact of an expression and those of its parts
 abbrev pub facts_of : Judged → List Fact
 facts_of j = with_parts j.meaning j.inner
 
@@ -54,9 +55,9 @@ value b = operand.Value (Some (plain b))
 abbrev pub leaf : Operand → List Fault → Judged
 leaf m faults = record { meaning = m; faults = faults; inner = [] }
 
--- How an expression stands.
+-- The rules for the use of an expression.
 
--- the rule that the arguments of a call without a result break
+-- the rule that the arguments of a call without a result break, if there is one
 abbrev pub late_faults : ℕ → Option ℕ → List Fault
 late_faults l None = []
 late_faults l (Some rule) = broken l rule false
@@ -65,7 +66,7 @@ late_faults l (Some rule) = broken l rule false
 abbrev pub nothing_faults : ℕ → Option ℕ → List Fault
 nothing_faults l late = broken l WRONG_USE false ++ late_faults l late
 
--- As a value: rules 3 and 18.
+-- Used as a value: rules 3 and 18.
 abbrev pub value_faults : ℕ → Operand → List Fault
 value_faults l operand.Blank = broken l UNKNOWN_NAME false
 value_faults l (operand.Nothing late) = nothing_faults l late
@@ -77,18 +78,18 @@ value_faults l (operand.Struct k) = broken l UNKNOWN_NAME false
 value_faults l operand.TypeName = broken l UNKNOWN_NAME false
 value_faults l _ = []
 
--- As what is called, as the second argument of `SetFinalizer`, or on a left side that is read: `_` is not read, and a
--- call without a result is nothing.
+-- Used as the callee, as the second argument of `SetFinalizer`, or on a left side that is read: `_` cannot be read, and
+-- a call without a result is nothing.
 abbrev pub name_faults : ℕ → Operand → List Fault
 name_faults l operand.Blank = broken l UNKNOWN_NAME false
 name_faults l (operand.Nothing late) = nothing_faults l late
 name_faults l _ = []
 
--- an expression that stands as a value
+-- the faults of an expression that is used as a value
 abbrev pub used : ℕ → Judged → List Fault
 used l j = j.faults ++ value_faults l j.meaning
 
--- an expression that may be a name of any kind
+-- the faults of an expression that can be a name of any kind
 abbrev pub named_or_used : ℕ → Judged → List Fault
 named_or_used l j = j.faults ++ name_faults l j.meaning
 
@@ -97,12 +98,12 @@ given_by j = given j.meaning
 
 -- Names.
 
--- the number of the global that is read
+-- the number of the global that a name reads, if it reads one
 abbrev pub reads_global : Operand → Option ℕ
 reads_global (operand.Variable (place.Global k) t) = Some k
 reads_global _ = None
 
--- Rule 7: the initialiser of a global reads globals above it alone.
+-- Rule 7: the initialiser of a global reads only globals above it.
 abbrev pub is_above : Option ℕ → Option ℕ → Bool
 is_above None k = true
 is_above (Some g) None = true
@@ -111,7 +112,7 @@ is_above (Some g) (Some k) = nat_le (k + 1) g
 abbrev pub found_name : ℕ → Option ℕ → Operand → Judged
 found_name l g m = leaf m (broken l NOT_STEADY (is_above g (reads_global m)))
 
--- Rule 3: a name is known.
+-- Rule 3: the name is known.
 abbrev pub known_name : ℕ → Option ℕ → Option Operand → Judged
 known_name l g None = leaf (operand.Value None) (broken l UNKNOWN_NAME false)
 known_name l g (Some m) = found_name l g m
@@ -119,7 +120,7 @@ known_name l g (Some m) = found_name l g m
 abbrev pub named : ℕ → Scope → List ℕ → Judged
 named l s n = cond (is_blank n) (leaf operand.Blank []) (known_name l s.initialises (meaning s n))
 
--- A package in parentheses is no qualifier.
+-- A package in parentheses cannot be a qualifier.
 abbrev pub without_package : Operand → Operand
 without_package (operand.Package p) = operand.TypeName
 without_package m = m
@@ -129,7 +130,7 @@ in_parens x = record { meaning = without_package x.meaning; faults = x.faults; i
 
 -- Literals, `make` and `new`.
 
--- the number that digits stand for, after those of n
+-- the number for which the digits of n and then these digits stand
 abbrev pub value_from : ℕ → List ℕ → ℕ
 value_from n [] = n
 value_from n (d ∷ ds) = value_from (10 * n + (d - 48)) ds
@@ -138,7 +139,7 @@ value_from n (d ∷ ds) = value_from (10 * n + (d - 48)) ds
 unfoldable pub fits_int : List ℕ → Bool
 fits_int digits = nat_le (value_from 0 digits) 9223372036854775807
 
--- a literal of an integer, after whose fact its value stands
+-- an integer literal; its value comes after its fact
 abbrev pub integer : ℕ → List ℕ → Judged
 integer l digits = record {
   meaning = value base.Int;
@@ -154,11 +155,11 @@ made_sync l s n = leaf (operand.Value (of_sync l s.file.imports.sync (made_base 
 abbrev pub pointer_value : Option Base → Operand
 pointer_value b = operand.Value (option_map plain b)
 
--- Rule 4 of `new(T)`.
+-- Rule 4 for `new(T)`.
 abbrev pub made_struct : ℕ → Option Base → Judged
 made_struct l b = leaf (pointer_value b) (broken l UNKNOWN_TYPE (is_some b))
 
--- the type of a field of the struct that a pointer leads to
+-- the type of a field of the struct to which a pointer refers
 abbrev pub field_of_member : FileScope → ℕ → Option Member → Option (Option GoType)
 field_of_member f k (Some (members.Field i)) = Some (option_and_then (λ ts. type_at ts i) (slice_get f.fields k))
 field_of_member f k _ = None
@@ -167,23 +168,23 @@ unfoldable pub field_type : FileScope → Option Base → List ℕ → Option (O
 field_type f (Some (base.Pointer k)) n = field_of_member f k (member f k n)
 field_type f _ n = None
 
--- Rule 9 of what is put into a field that is known.
+-- Rule 9 for a value that is put into a known field.
 abbrev pub put_faults : ℕ → Option (Option GoType) → Given → List Fault
 put_faults l None v = []
 put_faults l (Some t) v = broken l NOT_ASSIGNABLE (assignable v t)
 
--- the fields of these names, and the values after them
+-- the faults of the values for the fields of these names
 abbrev pub all_put_faults : ℕ → FileScope → Option Base → List (List ℕ) → List Given → List Fault
 all_put_faults l f b (n ∷ ns) (v ∷ vs) = put_faults l (field_type f b n) v ++ all_put_faults l f b ns vs
 all_put_faults l f b _ _ = []
 
--- whether each name is that of a field, and none comes twice
+-- whether each name is a field, and none comes twice
 abbrev pub fields_differ : FileScope → Option Base → List (List ℕ) → List (List ℕ) → Bool
 fields_differ f b seen [] = true
 fields_differ f b seen (n ∷ ns) = (is_some (field_type f b n) && not (list_any (bytes_eq n) seen))
     && fields_differ f b (seen ++ n ∷ []) ns
 
--- the number of a struct that a pointer leads to
+-- the number of the struct to which a pointer refers
 abbrev pub struct_of : Option Base → ℕ
 struct_of (Some (base.Pointer k)) = k
 struct_of _ = 0
@@ -196,12 +197,12 @@ place_of _ = 0
 abbrev pub field_place : FileScope → Option Base → List ℕ → ℕ
 field_place f b n = place_of (member f (struct_of b) n)
 
--- before the facts of what is put into a field, the place of the field
+-- the facts of the values for fields, each after the place of its field
 abbrev pub put_facts : FileScope → Option Base → List (List ℕ) → List Judged → List Fact
 put_facts f b (n ∷ ns) (x ∷ xs) = fact.Field (field_place f b n) ∷ (facts_of x ++ put_facts f b ns xs)
 put_facts f b _ _ = []
 
--- `&T{f: e, ..}`: the values from left to right, rule 9 of each, then rule 20
+-- `&T{f: e, ..}`: the values from left to right, rule 9 for each, then rule 20
 abbrev pub struct_literal : ℕ → FileScope → Option Base → List (List ℕ) → List Judged → Judged
 struct_literal l f b names xs = record {
   meaning = pointer_value b;
@@ -210,7 +211,7 @@ struct_literal l f b names xs = record {
   inner = put_facts f b names xs;
 }
 
--- `[]T{e, ..}`: the type, the values from left to right, then rule 9 of each
+-- `[]T{e, ..}`: the type, the values from left to right, then rule 9 for each
 abbrev pub slice_literal : ℕ → Written → Option GoType → List Judged → Judged
 slice_literal l t slice xs = record {
   meaning = operand.Value slice;
@@ -219,12 +220,12 @@ slice_literal l t slice xs = record {
   inner = flat_map facts_of xs;
 }
 
--- Rule 11 of `make(T)`: a channel.
+-- Rule 11 for `make(T)`: T is a channel.
 abbrev pub made : ℕ → Written → Judged
 made l t = leaf (operand.Value t.type) (t.faults
     ++ broken l WRONG_CALL (has_layer is_channel (given (operand.Value t.type))))
 
--- Rules 8 and 11 of `make(T, e)`: a slice or a channel, and a size.
+-- Rules 8 and 11 for `make(T, e)`: T is a slice or a channel, and e is a size.
 abbrev pub made_sized : ℕ → Written → Judged → Judged
 made_sized l t e = record {
   meaning = operand.Value t.type;
@@ -255,12 +256,12 @@ abbrev pub has_type : Package → List ℕ → Bool
 has_type packages.Sync n = is_some (sync_base n)
 has_type p n = false
 
--- Rule 3: what stands after a dot is known.
+-- Rule 3: the name after a dot is known.
 abbrev pub called_name : ℕ → Option BuiltIn → Judged
 called_name l None = leaf operand.Unknown (broken l UNKNOWN_NAME false)
 called_name l (Some b) = leaf (operand.BuiltIn b) []
 
--- what a package has: a type, which is no value, or what is called
+-- a name of a package: a type, which is no value, or a function
 abbrev pub package_selected : ℕ → Package → List ℕ → Judged
 package_selected l p n = cond (has_type p n) (leaf operand.TypeName []) (called_name l (package_member p n))
 
@@ -288,7 +289,7 @@ condition_method n =
     (cond (bytes_eq n (codes "Signal")) (Some built_in.Signal)
     (cond (bytes_eq n (codes "Broadcast")) (Some built_in.Broadcast) None))
 
--- The mutex of a condition is no place.
+-- The mutex of a condition is a value and no place.
 unfoldable pub condition_member : ℕ → List ℕ → Judged
 condition_member l n = cond (bytes_eq n (codes "L")) (leaf (value base.Mutex) []) (called_name l (condition_method n))
 
@@ -301,7 +302,7 @@ struct_member l f k (Some (members.Method m)) = leaf (operand.Method m) []
 abbrev pub wrong_selector : ℕ → Judged
 wrong_selector l = leaf operand.Unknown (broken l WRONG_OPERAND false)
 
--- Rule 8: a selector takes a pointer to a struct of the file, or of package sync.
+-- Rule 8: a selector is on a pointer to a struct of the file or of package sync.
 abbrev pub base_member : ℕ → FileScope → List ℕ → Base → Judged
 base_member l f n (base.Pointer k) = struct_member l f k (member f k n)
 base_member l f n base.Mutex = called_name l (mutex_method n)
@@ -314,13 +315,13 @@ abbrev pub type_member : ℕ → FileScope → List ℕ → List Layer → Base 
 type_member l f n [] b = base_member l f n b
 type_member l f n (x ∷ xs) b = wrong_selector l
 
--- A value whose type is not known may have what stands after the dot.
+-- A value whose type is not known may have any member.
 abbrev pub value_member : ℕ → FileScope → List ℕ → Given → Judged
 value_member l f n (given_as.Typed t) = type_member l f n t.layers t.base
 value_member l f n given_as.Nil = wrong_selector l
 value_member l f n given_as.Unknown = leaf operand.Unknown []
 
--- what stands after a dot: of a package, or of a value
+-- the name after the dot of a package, or of a value
 abbrev pub selected_from : ℕ → FileScope → List ℕ → Operand → Judged
 selected_from l f n (operand.Package p) = package_selected l p n
 selected_from l f n m = record {
@@ -371,7 +372,7 @@ operand_base binary.Or = base.Bool
 operand_base binary.And = base.Bool
 operand_base _ = base.Int
 
--- Rule 8 of two operands.
+-- Rule 8 for two operands.
 abbrev pub binary_fits : BinaryOperator → Given → Given → Bool
 binary_fits binary.Equal x y = comparable x y
 binary_fits binary.NotEqual x y = comparable x y

@@ -1,4 +1,4 @@
--- The rules that are broken, in the order of the walk, and what an answer tells of them.
+-- Faults: the broken rules in the order of the walk, and what an answer says about them.
 use Rattle.std.specs.Prelude.{◌≡◌, ℕ, Bool, cond, List, [], ◌∷◌, Result, Ok, Err}
 use Rattle.golf_check_types.specs.declared.fault.TypeFault.{TypeFault}
 use Rattle.golf_check_types.specs.declared.fault.TypeFault.TheVariants as answers
@@ -12,17 +12,17 @@ pub record Fault : Type 0 where
 abbrev pub broken : ℕ → ℕ → Bool → List Fault
 broken line rule holds = cond holds [] (record { rule = rule; line = line } ∷ [])
 
--- this rule on this line is the first that is broken
+-- the first fault is this rule on this line
 abbrev pub IsFirst : ℕ → ℕ → List Fault → Type 0
 IsFirst rule line [] = ⊥
 IsFirst rule line (f ∷ fs) = record { rule = rule; line = line } ≡ f
 
--- What stops a check: memory, at any time, or the first rule that is broken.
+-- The reason why a check stops: memory, at any time, or the first broken rule.
 abbrev pub Refuses : TypeFault → List Fault → Type 0
 Refuses answers.Memory faults = Unit {0}
 Refuses (answers.At line rule) faults = IsFirst rule line faults
 
--- An answer comes exactly if no rule is broken.
+-- An answer comes only if no rule is broken. Without an answer, memory ran out or the first broken rule is reported.
 abbrev pub Tells : {A : Type 0} → Result A TypeFault → List Fault → (A → Type 0) → Type 0
 Tells (Ok a) faults Good = (faults ≡ []) × Good a
 Tells (Err e) faults Good = Refuses e faults

@@ -1,5 +1,5 @@
--- Which rules a file breaks, in the order of the walk (Go specification, "Source file organization", "Declarations and
--- scope", "Packages", "Program execution").
+-- The rules that a file breaks, in the order of the walk (Go specification, "Source file organization", "Declarations
+-- and scope", "Packages", "Program execution").
 use Rattle.std.specs.Prelude.{◌≡◌, ℕ, ◌+◌, ◌==◌, Bool, true, false, not, ◌&&◌, ◌||◌, nat_le, cond, is_none, fold, List}
 use Rattle.std.specs.Prelude.{[], ◌∷◌, ◌++◌, length, map, flat_map, slice_get, slice_set, Option, Some, None, codes}
 use Rattle.std.specs.Prelude.{pos, neg_ℤ}
@@ -57,7 +57,7 @@ package_of path =
     (cond (bytes_eq path (codes "runtime")) (Some packages.Runtime)
     (cond (bytes_eq path (codes "sync")) (Some packages.Sync) None))
 
--- a package that is known and not yet imported
+-- whether the package is known and not imported yet
 abbrev pub is_new_import : Imports → Option Package → Bool
 is_new_import i None = false
 is_new_import i (Some packages.Fmt) = not i.fmt
@@ -99,7 +99,7 @@ with_imports i (x ∷ xs) = with_imports (with_paths i (import_paths x)) xs
 abbrev pub no_imports : Imports
 no_imports = record { fmt = false; runtime = false; sync = false }
 
--- What the names of the file are.
+-- The meanings of the names of the file.
 
 abbrev pub const_base : Const → Base
 const_base (const.Integer n) = base.Int
@@ -111,7 +111,7 @@ const_base const.False = base.Bool
 abbrev pub field_names : Field → List (List ℕ)
 field_names f = f.first ∷ f.more
 
--- the fields of a struct, numbered from here on
+-- adds one more field of a struct; fields are numbered in order
 abbrev pub with_field : Members → List ℕ → Members
 with_field m n = record {
   names = with_name m.names n (length m.kinds);
@@ -125,7 +125,7 @@ no_members = record { names = []; kinds = [] }
 abbrev pub members_of : List Field → Members
 members_of fields = fold with_field no_members (flat_map field_names fields)
 
--- one name more
+-- adds one more name
 abbrev pub name_added : Naming → List ℕ → Entity → Naming
 name_added k n m = record k { names = with_name k.names n (length k.entities); entities = k.entities ++ m ∷ [] }
 
@@ -133,7 +133,7 @@ abbrev pub function_added : Naming → Option Receiver → List ℕ → Naming
 function_added k None n = record (name_added k n (meant.Function k.functions)) { functions = k.functions + 1 }
 function_added k (Some r) n = record k { functions = k.functions + 1 }
 
--- the names after one declaration more; a method has none here
+-- the names after one more declaration; a method adds no name
 abbrev pub decl_added : Naming → Decl → Naming
 decl_added k (d.Const l n c) = record (name_added k n
     (meant.Constant k.constants (const_base c))) { constants = k.constants + 1 }
@@ -158,7 +158,7 @@ struct_number _ = None
 abbrev pub struct_named : Naming → List ℕ → Option ℕ
 struct_named k n = struct_number (option_and_then (slice_get k.entities) (number_of k.names n))
 
--- Methods stand after all fields, in source order.
+-- Methods come after all fields, in source order.
 
 abbrev pub with_method : Members → List ℕ → ℕ → Members
 with_method m n f = record { names = with_name m.names n (length m.kinds); kinds = m.kinds ++ member_as.Method f ∷ [] }
@@ -175,7 +175,7 @@ abbrev pub receiver_struct : Naming → Option Receiver → Option ℕ
 receiver_struct k None = None
 receiver_struct k (Some r) = struct_named k r.type_name
 
--- the members after these declarations, if f functions and methods stand above
+-- the members after these declarations; f is the number of functions and methods declared above
 abbrev pub methods_added : Naming → ℕ → List Members → List Decl → List Members
 methods_added k f structs [] = structs
 methods_added k f structs (d.Func x ∷ xs) =
@@ -184,13 +184,13 @@ methods_added k f structs (x ∷ xs) = methods_added k f structs xs
 
 -- The declared names: rules 2 and 5.
 
--- how many declarations of each kind stand above
+-- how many declarations of each kind are above
 pub record Above : Type 0 where
   pub names : ℕ
   pub structs : ℕ
   pub functions : ℕ
 
--- a method is no name of the file
+-- how many names a function adds; a method adds no name of the file
 abbrev pub function_names : Option Receiver → ℕ
 function_names None = 1
 function_names (Some r) = 0
@@ -214,7 +214,7 @@ next_above a x = record {
   functions = a.functions + functions_in x;
 }
 
--- Rule 2: neither `_` nor reserved, and no declaration above has the name.
+-- Rule 2: the name is neither `_` nor reserved, and no declaration above has it.
 unfoldable pub may_be_named : FileScope → ℕ → List ℕ → Bool
 may_be_named f at n = not (is_blank n) && (not (is_reserved n) && is_number (number_of f.names n) at)
 
@@ -229,7 +229,7 @@ is_method _ f = false
 abbrev pub kind_of : List Members → ℕ → List ℕ → Option Member
 kind_of structs k n = option_and_then (λ m. kind_in m n) (slice_get structs k)
 
--- whether each name is its own field, counted from i
+-- whether each name is the field of its own number, counted from i
 abbrev pub fields_are : List Members → ℕ → ℕ → List (List ℕ) → Bool
 fields_are structs k i [] = true
 fields_are structs k i (n ∷ ns) = is_field (kind_of structs k n) i && fields_are structs k (i + 1) ns
@@ -238,7 +238,7 @@ abbrev pub method_is : List Members → Option ℕ → List ℕ → ℕ → Bool
 method_is structs None n f = false
 method_is structs (Some k) n f = is_method (kind_of structs k n) f
 
--- Rule 2, and a function is not named `init`.
+-- Rule 2, and a function is not named `init`; rule 5 for a method.
 abbrev pub function_faults : FileScope → Above → Func → Option Receiver → List Fault
 function_faults f a x None = broken x.line NOT_DECLARABLE
     (may_be_named f a.names x.name && not (bytes_eq x.name (codes "init")))
@@ -286,7 +286,7 @@ is_bare f _ _ _ = false
 unfoldable pub is_main : List ℕ → Bool
 is_main n = bytes_eq n (codes "main")
 
--- a function without parameters and result
+-- whether the declaration is a function without receiver, parameters and result
 abbrev pub fits_main : Decl → Bool
 fits_main (d.Func f) = is_bare f f.receiver f.parameters f.result
 fits_main _ = false
@@ -311,7 +311,7 @@ abbrev pub main_faults : List Decl → List Fault
 main_faults [] = broken 1 NO_MAIN false
 main_faults (x ∷ xs) = cond (declares_main x) (broken (line_of x) NO_MAIN (fits_main x)) (main_faults xs)
 
--- The types that are written.
+-- The types that the declarations write.
 
 -- each name with its type
 abbrev pub typed_names : Scope → Field → List (List ℕ × Option GoType)
@@ -360,7 +360,7 @@ outside f = record {
   initialises = None;
 }
 
--- names without types
+-- the names of the file without types
 abbrev pub bare_file : Imports → List Decl → FileScope
 bare_file i xs = record {
   imports = i;
@@ -379,7 +379,7 @@ with_types f xs = record f {
   functions = flat_map (function_types (outside f)) xs;
 }
 
--- A global without a written type has that of the form of what it begins with, if the globals above it are known.
+-- A global without a written type has the type of its initialiser, judged with the types of the globals above it.
 
 abbrev pub formed_content : FileScope → ℕ → ℕ → VarContent → FileScope
 formed_content f l g (content.Untyped e) =
@@ -391,7 +391,7 @@ with_forms f g [] = f
 with_forms f g (d.Var v ∷ xs) = with_forms (formed_content f v.line g v.content) (g + 1) xs
 with_forms f g (x ∷ xs) = with_forms f g xs
 
--- what the names of the file mean
+-- the scope of a file: what its names mean
 abbrev pub file_scope : Imports → List Decl → FileScope
 file_scope i xs = with_forms (with_types (bare_file i xs) xs) 0 xs
 
@@ -409,7 +409,7 @@ const_facts (const.Integer n) = fact.Number (pos (value_from 0 n)) ∷ []
 const_facts (const.Negative n) = fact.Number (neg_ℤ (pos (value_from 0 n))) ∷ []
 const_facts _ = []
 
--- Rules 9 and 23 of the initialiser of a global.
+-- Rules 9 and 23 for the initialiser of a global.
 abbrev pub initial_walk : ℕ → VarContent → Scope → Walked
 initial_walk l (content.Zero t) s = nothing
 initial_walk l (content.Typed t e) s = judges
@@ -419,7 +419,7 @@ initial_walk l (content.Untyped e) s = judges
     (used l (judge_at l s e) ++ broken l NIL_WITHOUT_TYPE (not (is_nil (given_by (judge_at l s e)))))
     (facts_of (judge_at l s e))
 
--- Rule 2 of receivers and parameters.
+-- Rule 2 for receivers and parameters.
 abbrev pub parameter : ℕ → Option GoType → List ℕ → Walk
 parameter l t n s = declares_one s n t (broken l NOT_DECLARABLE (may_be_declared s n)) []
 
@@ -437,9 +437,9 @@ receiver_walk l file (Some r) s = parameter l (receiver_type file r.type_name) r
 abbrev pub end_faults : Func → List Fault
 end_faults f = broken f.line NOT_TERMINATING (is_none f.result || (of_all (map ending f.body)).ends)
 
--- Receiver, parameters and result have the types of the file's scope.
+-- Receiver, parameters and result have the types that the scope of the file gives.
 
--- what is known where receiver and parameters begin
+-- the scope in which receiver and parameters are declared
 abbrev pub head_scope : Scope → Func → Scope
 head_scope file f = record file { result = result_type file f.result }
 
@@ -448,21 +448,21 @@ parts_walk f file = in_order
     (receiver_walk f.line file f.receiver ∷ in_order (map (parameter_walk f.line) (all_typed_names file f.parameters))
     ∷ in_order (map walk f.body) ∷ (λ s. breaks (end_faults f)) ∷ [])
 
--- the names that are known where the body begins: receiver and parameters
+-- the scope in which the body begins, with receiver and parameters
 abbrev pub body_scope : Scope → Func → Scope
 body_scope file f =
     let s = head_scope file f in
     let t = behind s (receiver_walk f.line file f.receiver s) in
     behind t (in_order (map (parameter_walk f.line) (all_typed_names file f.parameters)) t)
 
--- a function that begins in s, with so many arguments
+-- the facts of a function whose scope begins as s, with this number of arguments
 abbrev pub of_function : ℕ → Scope → Walked → Walked
 of_function arguments s w = told w (fact.Function arguments (behind s w).next (length w.facts) ∷ w.facts)
 
 abbrev pub func_walk : Func → Scope → Walked
 func_walk f file = of_function (body_scope file f).next (head_scope file f) (parts_walk f file (head_scope file f))
 
--- a declaration if g globals stand above
+-- the walk of a declaration; g is the number of globals above it
 abbrev pub decl_walked : FileScope → ℕ → Decl → Walked
 decl_walked f g (d.Const l n c) = judges (const_faults l c) (const_facts c)
 decl_walked f g (d.Var v) = initial_walk v.line v.content (record (outside f) { initialises = Some g })
@@ -484,7 +484,7 @@ walk_facts f g (x ∷ xs) = (decl_walked f g x).facts ++ walk_facts f (globals_a
 abbrev pub none_above : Above
 none_above = record { names = 0; structs = 0; functions = 0 }
 
--- names, written types, `main`, and then constants, initialisers and bodies
+-- the faults of names, of written types and of `main`, and then those of constants, initialisers and bodies
 abbrev pub decl_faults : Imports → List Decl → List Fault
 decl_faults i xs =
     names_faults (bare_file i xs) none_above xs
@@ -495,7 +495,7 @@ decl_faults i xs =
 unfoldable pub Broken : File → List Fault
 Broken f = import_faults no_imports f.imports ++ decl_faults (with_imports no_imports f.imports) f.declarations
 
--- what is written down of a file, in the order of its declarations
+-- the facts of a file, in the order of its declarations
 unfoldable pub facts_in : File → List Fact
 facts_in f = walk_facts (file_scope (with_imports no_imports f.imports) f.declarations) 0 f.declarations
 

@@ -1,5 +1,5 @@
--- What an expression is on a line, if these names are known: one equation a construct, the parts from left to right,
--- then the whole, by rising rules.
+-- The judgment of an expression on a line, in a scope, with one equation for each construct: the parts from left to
+-- right, then the whole, with the rules in rising order.
 use Rattle.std.specs.Prelude.{◌≡◌, ℕ, Result, List, [], map}
 use Rattle.golf_syntax_trees.specs.declared.expressions.Expr.{Expr}
 use Rattle.golf_syntax_trees.specs.declared.expressions.Element.{Element}
@@ -25,7 +25,7 @@ use Rattle.golf_check_types.specs.Calls.{call_judged}
 abbrev pub Judge : Type 0
 Judge = ℕ → Scope → Judged
 
--- the name of a field, and what is put into it
+-- the name of a field, and the value for it
 pub record Put : Type 0 where
   pub name : List ℕ
   pub judge : Judge
@@ -60,10 +60,10 @@ judge = fold-Expr Judge Put judge_step element_step
 abbrev pub judge_at : ℕ → Scope → Expr → Judged
 judge_at l s e = judge e l s
 
--- what is put into a field
+-- the judgment of the value for a field
 abbrev pub value_at : ℕ → Scope → Element → Judged
 value_at l s x = judge x.value l s
 
--- What is made of operands that were judged: an answer comes exactly if no rule is broken.
+-- The clause of a call that judges a construct from its judged parts: an answer comes only if no rule is broken.
 abbrev pub Finds : Result Operand TypeFault → Judged → Type 0
 Finds result j = Tells result j.faults (λ m. m ≡ j.meaning)

@@ -24,12 +24,12 @@ abbrev pub is_number : Option ℕ → ℕ → Bool
 is_number None k = false
 is_number (Some j) k = j == k
 
--- what the last declaration of this name is, or what was found before
+-- the last declaration of this name, or the one that was found before
 abbrev pub look_from : Option Local → List Local → List ℕ → Option Local
 look_from found [] n = found
 look_from found (d ∷ ds) n = look_from (cond (bytes_eq n d.name) (Some d) found) ds n
 
--- of two locals with a name the later one counts
+-- of two locals with one name the later one counts
 abbrev pub look : List Local → List ℕ → Option Local
 look ds n = look_from None ds n
 

@@ -1,4 +1,4 @@
--- Where a name stands in a list of variables.
+-- The places of a name in a list of variables.
 use Rattle.std.specs.Prelude.{ℕ, ◌+◌, ◌-◌, cond, List, [], ◌∷◌, ◌++◌, length, take, Option, unwrap_or, nat_eq}
 use Rattle.std.specs.Prelude.{slice_get}
 use Rattle.std.specs.Str.{bytes_eq}
@@ -7,7 +7,7 @@ use Rattle.std.specs.Global.{Vec}
 use Rattle.std.specs.HashMap.{HashMap, get_by}
 use Rattle.golf_check_types.specs.declared.locals.Local.{Local}
 
--- the places of a name from this one on, rising
+-- the places of a name, counted from this one on, in rising order
 abbrev pub places_from : ℕ → List Local → List ℕ → List ℕ
 places_from at [] n = []
 places_from at (d ∷ ds) n = cond (bytes_eq n d.name) (at ∷ places_from (at + 1) ds n) (places_from (at + 1) ds n)

@@ -1,4 +1,4 @@
--- What names mean (Go specification, "Declarations and scope", "Predeclared identifiers").
+-- The meaning of names (Go specification, "Declarations and scope", "Predeclared identifiers").
 use Rattle.std.specs.Prelude.{ℕ, ◌+◌, ◌-◌, ◌==◌, Bool, true, false, not, ◌&&◌, cond, List, ◌++◌, take, slice_get}
 use Rattle.std.specs.Prelude.{is_some, Option, Some, None, codes}
 use Rattle.std.specs.Option.{option_map, option_and_then}
@@ -37,7 +37,7 @@ value_name n =
     (cond (bytes_eq n (codes "false")) (Some (operand.Truth false))
     (cond (bytes_eq n (codes "nil")) (Some operand.Nil) None))
 
--- `make` and `new` have operands of their own; elsewhere they are names that are no values.
+-- Calls of `make` and `new` are expressions of their own; elsewhere the two are names that are no values.
 unfoldable pub call_name : List ℕ → Option Operand
 call_name n =
     cond (bytes_eq n (codes "len")) (Some (operand.BuiltIn built_in.Length))
@@ -56,7 +56,7 @@ package_name i n =
 abbrev pub predeclared : Imports → List ℕ → Option Operand
 predeclared i n = or_else (type_name n) (or_else (value_name n) (or_else (call_name n) (package_name i n)))
 
--- a predeclared name, or that of a package
+-- whether the name is predeclared or the name of a package
 unfoldable pub is_reserved : List ℕ → Bool
 is_reserved n = is_some (predeclared (record { fmt = true; runtime = true; sync = true }) n)
 
@@ -83,7 +83,7 @@ file_operand f n = option_map (entry_operand f) (meaning_in f n)
 abbrev pub local_operand : Local → Operand
 local_operand d = operand.Variable (place.Slot d.slot) d.of_type
 
--- what a name means: a local, else a name of the file, else a predeclared one or a package
+-- the meaning of a name: a local, else a name of the file, else predeclared or a package
 unfoldable pub meaning : Scope → List ℕ → Option Operand
 meaning s n = or_else (option_map local_operand (look s.locals n))
     (or_else (file_operand s.file n) (predeclared s.file.imports n))
@@ -96,7 +96,7 @@ is_at_depth (Some d) depth = d.depth == depth
 unfoldable pub is_here : Scope → List ℕ → Bool
 is_here s n = is_at_depth (look s.locals n) s.depth
 
--- Rule 2 of a local.
+-- Rule 2 for a local.
 unfoldable pub may_be_declared : Scope → List ℕ → Bool
 may_be_declared s n = not (is_blank n) && (not (is_reserved n) && not (is_here s n))
 
@@ -104,15 +104,15 @@ may_be_declared s n = not (is_blank n) && (not (is_reserved n) && not (is_here s
 abbrev pub variable : Scope → List ℕ → Option GoType → Local
 variable s n t = record { name = n; depth = s.depth; slot = s.next; of_type = t }
 
--- the scope after these declarations, which have this number of slots
+-- the scope after these declarations, which take n slots
 abbrev pub declared : Scope → List Local → ℕ → Scope
 declared s ds n = record s { locals = s.locals ++ ds; next = s.next + n }
 
--- where a block begins
+-- the scope in which a block begins
 abbrev pub begun : Scope → Scope
 begun s = record s { depth = s.depth + 1 }
 
--- the scope with its first locals, one block further out
+-- the scope after a block: only the first locals are left
 abbrev pub closed_to : ℕ → Scope → Scope
 closed_to known s = record s { locals = take known s.locals; depth = s.depth - 1 }
 

@@ -1,5 +1,5 @@
--- What statements declare, which rules they break, and the facts of their parts (Go specification, "Statements",
--- "Blocks", "Declarations and scope").
+-- The walk of statements: what they declare, which rules they break, and the facts of their parts (Go specification,
+-- "Statements", "Blocks", "Declarations and scope").
 use Rattle.std.specs.Prelude.{ℕ, ◌==◌, length, Bool, true, false, not, ◌&&◌, ◌||◌, cond, is_some, is_none, List, []}
 use Rattle.std.specs.Prelude.{◌∷◌, ◌++◌, map, Option, Some, None, unwrap_or}
 use Rattle.std.specs.Str.{bytes_eq}
@@ -50,8 +50,8 @@ use Rattle.golf_check_types.specs.Expressions.{nothing_faults}
 use Rattle.golf_check_types.specs.Calls.{call_judged}
 use Rattle.golf_check_types.specs.Judging.{judge_at}
 
--- what a statement declares after it, the types of the slots that it hands out, the rules that it breaks, and the facts
--- of its parts
+-- the locals that are declared after a statement, the types of the slots that it hands out, the rules that it breaks,
+-- and the facts of its parts
 pub record Walked : Type 0 where
   pub declares : List Local
   pub slots : List (Option GoType)
@@ -64,15 +64,15 @@ Walk = Scope → Walked
 abbrev pub nothing : Walked
 nothing = record { declares = []; slots = []; faults = []; facts = [] }
 
--- what only breaks rules
+-- a walk that only breaks rules
 abbrev pub breaks : List Fault → Walked
 breaks faults = record { declares = []; slots = []; faults = faults; facts = [] }
 
--- what breaks rules and has facts
+-- a walk that breaks rules and has facts
 abbrev pub judges : List Fault → List Fact → Walked
 judges faults facts = record { declares = []; slots = []; faults = faults; facts = facts }
 
--- a variable of this name and type
+-- a walk that declares a variable of this name and type
 abbrev pub declares_one : Scope → List ℕ → Option GoType → List Fault → List Fact → Walked
 declares_one s n t faults facts = record {
   declares = variable s n t ∷ [];
@@ -81,7 +81,7 @@ declares_one s n t faults facts = record {
   facts = facts;
 }
 
--- what is walked, with these facts
+-- the walk with these facts
 abbrev pub told : Walked → List Fact → Walked
 told w facts = record { declares = w.declares; slots = w.slots; faults = w.faults; facts = facts }
 
@@ -93,11 +93,11 @@ both a b = record {
   facts = a.facts ++ b.facts;
 }
 
--- the scope after what was walked
+-- the scope after a walk
 abbrev pub behind : Scope → Walked → Scope
 behind s w = declared s w.declares (length w.slots)
 
--- one and then another: what the first declares is known in the second
+-- one walk and then another; the names that the first declares are known in the second
 abbrev pub then : Walk → Walk → Walk
 then a b s = both (a s) (b (behind s (a s)))
 
@@ -105,7 +105,7 @@ abbrev pub in_order : List Walk → Walk
 in_order [] s = nothing
 in_order (w ∷ ws) s = both (w s) (in_order ws (behind s (w s)))
 
--- in a block of its own: what it declares is not known after
+-- a walk in a block of its own; its names are not known after it
 abbrev pub closed : Walked → Walked
 closed w = record { declares = []; slots = w.slots; faults = w.faults; facts = w.facts }
 
@@ -115,13 +115,13 @@ in_block w s = closed (w (begun s))
 abbrev pub block : List Walk → Walk
 block body = in_block (in_order body)
 
--- a part that may be passed over, or come later: its facts are counted
+-- a part that may be passed over or come later: its facts are counted
 abbrev pub counted : Walk → Walk
 counted w s = told (w s) (part (w s).facts)
 
 -- Simple statements.
 
--- Rule 18: a call or a receive stands as a statement, and no other expression.
+-- Rule 18: an expression statement is a call or a receive.
 abbrev pub action_faults : ℕ → Operand → List Fault
 action_faults l (operand.Outcome t) = []
 action_faults l (operand.Nothing late) = late_faults l late
@@ -130,11 +130,11 @@ action_faults l m = value_faults l m ++ broken l WRONG_USE false
 abbrev pub action : ℕ → Expr → Walk
 action l e s = judges ((judge_at l s e).faults ++ action_faults l (judge_at l s e).meaning) (facts_of (judge_at l s e))
 
--- Whether a value is assignable to what a channel carries. What is no channel carries nothing.
+-- Whether a value is assignable to the elements of a channel. It passes if the first is no channel.
 abbrev pub is_carried : Given → Given → Bool
 is_carried c v = not (has_layer is_channel c) || assignable v (element c)
 
--- Rules 9 and 16 of a send.
+-- Rules 9 and 16 for a send.
 abbrev pub send_faults : ℕ → Given → Given → List Fault
 send_faults l c v = broken l NOT_ASSIGNABLE (is_carried c v) ++ broken l WRONG_CHANNEL (has_layer takes c)
 
@@ -144,7 +144,7 @@ send l c e s = judges
     ++ send_faults l (given_by (judge_at l s c)) (given_by (judge_at l s e))))
     (facts_of (judge_at l s c) ++ facts_of (judge_at l s e))
 
--- a variable, field or element
+-- whether an operand is a variable, a field or an element
 abbrev pub is_place : Operand → Bool
 is_place (operand.Variable w t) = true
 is_place (operand.Field i t) = true
@@ -171,12 +171,12 @@ update l p e s = judges
     ++ update_faults l (judge_at l s p).meaning (given_by (judge_at l s e))))
     (facts_of (judge_at l s p) ++ facts_of (judge_at l s e))
 
--- A call without a result stands on no left side.
+-- A call without a result cannot be on a left side.
 abbrev pub left_faults : ℕ → Operand → List Fault
 left_faults l (operand.Nothing late) = nothing_faults l late
 left_faults l m = []
 
--- Rules 9 and 10 of `=`: what has a type but no place breaks 9 before 10.
+-- Rules 9 and 10 for `=`. An operand that has a type but no place breaks rule 9 before rule 10.
 abbrev pub assign_faults : ℕ → Operand → Given → List Fault
 assign_faults l operand.Blank v = []
 assign_faults l p v = broken l NOT_ASSIGNABLE (assignable v (type_of p)) ++ broken l NO_PLACE (is_place p)
@@ -195,7 +195,7 @@ definition l n e s = declares_one s n (type_given (given_by (judge_at l s e)))
     ++ broken l NOTHING_NEW (not (is_here s n)))))
     (facts_of (judge_at l s e) ++ new_target s (type_given (given_by (judge_at l s e))) ∷ [])
 
--- Rule 16 of a receive.
+-- Rule 16 for a receive.
 abbrev pub receive_faults : ℕ → Given → List Fault
 receive_faults l c = broken l WRONG_CHANNEL (has_layer gives c)
 
@@ -203,7 +203,7 @@ abbrev pub received : ℕ → Expr → Walk
 received l e s = judges (used l (judge_at l s e) ++ receive_faults l (given_by (judge_at l s e)))
     (facts_of (judge_at l s e))
 
--- the type of what is received
+-- the type of a received value
 abbrev pub carried : ℕ → Expr → Scope → Option GoType
 carried l e s = element (given_by (judge_at l s e))
 
@@ -212,7 +212,7 @@ bool_type = Some (plain base.Bool)
 
 -- Two names left of `:=`.
 
--- a name that would be declared
+-- whether a name would be declared
 abbrev pub is_new : Scope → List ℕ → Bool
 is_new s n = not (is_blank n) && not (is_here s n)
 
@@ -221,15 +221,15 @@ kept_local l depth None t = []
 kept_local l depth (Some d) t = cond (d.depth == depth)
     (broken l NOT_ASSIGNABLE (assignable (given_type t) d.of_type)) []
 
--- Rule 9 of a name that is there in this block, which is assigned.
+-- Rule 9 for a name that this block has declared already: it is assigned.
 unfoldable pub kept_faults : ℕ → Scope → List ℕ → Option GoType → List Fault
 kept_faults l s n t = kept_local l s.depth (look s.locals n) t
 
--- Rule 2 of two names: neither is reserved, and they are not one new name twice.
+-- Rule 2 for two names: neither is reserved, and they are not the same new name.
 unfoldable pub pair_differs : Scope → List ℕ → List ℕ → Bool
 pair_differs s n m = not (is_reserved n) && (not (is_reserved m) && not (bytes_eq n m && is_new s n))
 
--- Rule 9 of two names. One name that stands twice is not assigned: if it is there, it is not new.
+-- Rule 9 for two names. If both are one name, it is not assigned: a known name twice breaks rule 24.
 abbrev pub kept_pair_faults : ℕ → Scope → List ℕ → List ℕ → Option GoType → List Fault
 kept_pair_faults l s n m t = cond (bytes_eq n m) [] (kept_faults l s n t ++ kept_faults l s m bool_type)
 
@@ -242,18 +242,18 @@ abbrev pub one_new : Bool → List ℕ → Option GoType → Walk
 one_new true n t s = declares_one s n t [] []
 one_new false n t s = nothing
 
--- a name that is declared if it is new, and what is stored to
+-- declares the name if it is new; its fact is the target of the store
 abbrev pub new_or_kept : Bool → Operand → List ℕ → Option GoType → Walk
 new_or_kept new kept n t s = told (one_new new n t s) (target new kept s t ∷ [])
 
--- what is assigned
+-- the operand to which a name left of `=` assigns
 unfoldable pub assigned_name : Scope → List ℕ → Option Operand
 assigned_name s n = cond (is_blank n) (Some operand.Blank) (meaning s n)
 
 abbrev pub assigned : Scope → List ℕ → Operand
 assigned s n = unwrap_or (assigned_name s n) operand.Unknown
 
--- `n, m := <-e` after the receive
+-- the names of `n, m := <-e`, after the receive
 abbrev pub pair : ℕ → List ℕ → List ℕ → Option GoType → Walk
 pair l n m t s = both (breaks (pair_faults l s n m t))
     (then (new_or_kept (is_new s n) (assigned s n) n t) (new_or_kept (is_new s m) (assigned s m) m bool_type) s)
@@ -277,12 +277,12 @@ takes_value (Some p) = is_place p
 abbrev pub assigned_faults : ℕ → Option Operand → Option GoType → List Fault
 assigned_faults l p t = broken l UNKNOWN_NAME (is_some p) ++ (put_in_faults l p t ++ broken l NO_PLACE (takes_value p))
 
--- and two, of which the second takes a truth value
+-- two operands, of which the second takes a truth value
 abbrev pub assigned_pair_faults : ℕ → Option Operand → Option Operand → Option GoType → List Fault
 assigned_pair_faults l p q t = broken l UNKNOWN_NAME (is_some p && is_some q)
     ++ (put_in_faults l p t ++ (put_in_faults l q bool_type ++ broken l NO_PLACE (takes_value p && takes_value q)))
 
--- `n = <-e` and `n, m = <-e` after the receive
+-- the names of `n = <-e` and of `n, m = <-e`, after the receive
 
 abbrev pub assign_name : ℕ → List ℕ → Option GoType → Walk
 assign_name l n t s = judges (assigned_faults l (assigned_name s n) t) (fact.Target (assigned s n) ∷ [])
@@ -351,7 +351,7 @@ may_be_begun (operand.Method k) = true
 may_be_begun operand.Unknown = true
 may_be_begun _ = false
 
--- A call that stands as a statement is no value; rules 21 and 22 come after its others.
+-- A call that is a statement is no value; rules 21 and 22 come after its other rules.
 abbrev pub done_faults : ℕ → Operand → List Fault
 done_faults l (operand.Nothing late) = late_faults l late
 done_faults l m = []
@@ -365,7 +365,7 @@ begin_call l f xs s = judges
 
 -- Return, break, continue.
 
--- Rules 9 and 13 of `return e`.
+-- Rules 9 and 13 for `return e`.
 abbrev pub result_faults : ℕ → Option GoType → Given → List Fault
 result_faults l None v = broken l WRONG_RETURN false
 result_faults l (Some t) v = broken l NOT_ASSIGNABLE (assignable v (Some t))
@@ -384,7 +384,7 @@ continue_walk l s = breaks (broken l NOTHING_TO_LEAVE s.loops)
 
 -- If.
 
--- Rule 8 of a condition.
+-- Rule 8 for a condition.
 abbrev pub condition : ℕ → Expr → Walk
 condition l e s = judges (used l (judge_at l s e)
     ++ broken l WRONG_OPERAND (has_base base.Bool (given_by (judge_at l s e)))) (facts_of (judge_at l s e))
@@ -393,7 +393,7 @@ abbrev pub optional : Option Simple → Walk
 optional None s = nothing
 optional (Some x) s = simple_walk x s
 
--- a condition, and what stands after it
+-- a condition and the walk after it
 abbrev pub behind_test : ℕ → Expr → Walk → Walk
 behind_test l test w s = both (condition l test s) (w s)
 
@@ -408,7 +408,7 @@ else_walk l first test body otherwise = in_block (then (then_walk l first test b
 
 -- For.
 
--- in a loop, which `break` and `continue` leave
+-- the inside of a loop, which `break` and `continue` can leave
 abbrev pub looping : Walk → Walk
 looping w s = w (record s { breaks = true; loops = true })
 
@@ -428,7 +428,7 @@ steps l first test post body = then (optional first)
 
 -- Range.
 
--- Rule 2 of the names of a `range`.
+-- Rule 2 for the names of a `range`.
 unfoldable pub range_names_differ : RangeNames → Bool
 range_names_differ range.Neither = true
 range_names_differ (range.One n) = not (is_reserved n)
@@ -438,7 +438,7 @@ abbrev pub are_two : RangeNames → Bool
 are_two (range.Two n m) = true
 are_two _ = false
 
--- a channel whose direction forbids it
+-- whether the layer is a channel that can only be sent on
 abbrev pub only_takes : Layer → Bool
 only_takes layer.SendChan = true
 only_takes _ = false
@@ -457,7 +457,7 @@ range_faults l names v =
 abbrev pub int_type : Option GoType
 int_type = Some (plain base.Int)
 
--- The hidden slots of a slice: the slice, its length, the next index. Of a channel: the channel.
+-- The hidden slots of a range: for a slice the slice, its length and the next index; for a channel the channel.
 abbrev pub hidden : Bool → Option GoType → List (Option GoType)
 hidden true t = t ∷ (int_type ∷ (int_type ∷ []))
 hidden false t = t ∷ []
@@ -468,7 +468,7 @@ hides ts = record { declares = []; slots = ts; faults = []; facts = [] }
 abbrev pub range_name : List ℕ → Option GoType → Walk
 range_name n t s = new_or_kept (not (is_blank n)) operand.Blank n t s
 
--- what the names of a `range` are: an index and an element of a slice, or what a channel carries
+-- the type of the first name of a `range`: an index for a slice, and the element type for a channel
 abbrev pub first_type : Bool → Option GoType → Option GoType
 first_type true t = int_type
 first_type false t = t
@@ -501,7 +501,7 @@ for_walk l h body = in_block (header_walk l h body)
 
 -- Select. The operands and the communication are on the line of `select`, the names on that of `case`.
 
--- Rule 2 of the name of a received value.
+-- Rule 2 for the name of a received value.
 abbrev pub define_name : ℕ → List ℕ → Option GoType → Walk
 define_name k n t s = declares_one s n t (broken k NOT_DECLARABLE (may_be_declared s n)) (new_target s t ∷ [])
 
@@ -512,7 +512,7 @@ communication l k (comm.Define n e) s = both (received l e s) (define_name k n (
 communication l k (comm.Assign n e) s = both (received l e s) (assign_name k n (carried l e s) s)
 communication l k (comm.DefineReceived n m e) s = define_received l k n m e s
 
--- what `break` leaves
+-- the inside of a clause, which `break` can leave
 abbrev pub breaking : Walk → Walk
 breaking w s = w (record s { breaks = true })
 

@@ -49,12 +49,12 @@ abbrev pub with_layer : Layer → Option GoType → Option GoType
 with_layer x None = None
 with_layer x (Some t) = Some (record { layers = x ∷ t.layers; base = t.base })
 
--- what a type gives as a value
+-- the value that a type gives
 abbrev pub given_type : Option GoType → Given
 given_type None = given_as.Unknown
 given_type (Some t) = given_as.Typed t
 
--- what an operand gives as a value
+-- the value that an operand gives
 abbrev pub given : Operand → Given
 given (operand.Value t) = given_type t
 given (operand.Outcome t) = given_type t
@@ -86,15 +86,15 @@ abbrev pub is_nil : Given → Bool
 is_nil given_as.Nil = true
 is_nil _ = false
 
--- Tests of values. If a value's type is not known, no rule is broken.
+-- Tests of values. A value whose type is not known passes each test, so it breaks no rule.
 
--- a type without layers
+-- whether the value is of this type without layers
 abbrev pub has_base : Base → Given → Bool
 has_base b (given_as.Typed t) = same_layers t.layers [] && same_base t.base b
 has_base b given_as.Nil = false
 has_base b given_as.Unknown = true
 
--- the outermost layer
+-- whether the outermost layer passes the test
 abbrev pub starts_with : (Layer → Bool) → List Layer → Bool
 starts_with fits [] = false
 starts_with fits (x ∷ xs) = fits x
@@ -112,7 +112,7 @@ abbrev pub is_channel : Layer → Bool
 is_channel layer.Slice = false
 is_channel _ = true
 
--- any layer: a slice or a channel
+-- any layer passes: a slice or a channel
 abbrev pub is_any : Layer → Bool
 is_any x = true
 
@@ -132,14 +132,14 @@ abbrev pub inside : List Layer → Base → Option GoType
 inside [] b = None
 inside (x ∷ xs) b = Some (record { layers = xs; base = b })
 
--- what a slice has or a channel carries
+-- the element type of a slice or a channel
 abbrev pub element : Given → Option GoType
 element (given_as.Typed t) = inside t.layers t.base
 element _ = None
 
 -- Assignable ("Assignability").
 
--- a pointer
+-- whether the base is a pointer
 abbrev pub is_pointer : Base → Bool
 is_pointer base.Int = false
 is_pointer base.Bool = false
@@ -147,12 +147,12 @@ is_pointer base.Text = false
 is_pointer base.Unit = false
 is_pointer _ = true
 
--- a pointer, slice or channel
+-- whether nil is a value of the type: a pointer, a slice or a channel
 abbrev pub takes_nil : List Layer → Base → Bool
 takes_nil [] b = is_pointer b
 takes_nil (x ∷ xs) b = true
 
--- a channel of both directions stands for one of either
+-- whether a channel of both directions narrows to a channel of one direction
 abbrev pub narrows : List Layer → List Layer → Bool
 narrows (layer.Chan ∷ xs) (layer.SendChan ∷ ys) = same_layers xs ys
 narrows (layer.Chan ∷ xs) (layer.ReceiveChan ∷ ys) = same_layers xs ys
@@ -170,8 +170,8 @@ abbrev pub assignable : Given → Option GoType → Bool
 assignable v None = true
 assignable v (Some b) = assignable_to v b
 
--- Comparison ("Comparison operators"): one is assignable to the other's type; nil stands beside what takes it, and a
--- slice beside nil alone.
+-- Comparison ("Comparison operators"): one value is assignable to the type of the other; nil compares with types that
+-- have nil; a slice compares only with nil.
 abbrev pub comparable : Given → Given → Bool
 comparable given_as.Unknown y = true
 comparable given_as.Nil given_as.Unknown = true

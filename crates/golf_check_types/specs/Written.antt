@@ -1,4 +1,4 @@
--- Types as they are written (Go specification, "Types"; rules 3 and 4).
+-- Written types (Go specification, "Types"; rules 3 and 4).
 use Rattle.std.specs.Prelude.{ℕ, Bool, cond, is_some, List, ◌++◌, Option, Some, None, codes}
 use Rattle.std.specs.Option.{option_map}
 use Rattle.std.specs.Str.{bytes_eq}
@@ -26,23 +26,23 @@ named_base n =
     (cond (bytes_eq n (codes "bool")) (Some base.Bool)
     (cond (bytes_eq n (codes "string")) (Some base.Text) None))
 
--- what package sync has and `new` makes
+-- the types of package sync that `new` makes
 unfoldable pub made_base : List ℕ → Option Base
 made_base n =
     cond (bytes_eq n (codes "Mutex")) (Some base.Mutex)
     (cond (bytes_eq n (codes "WaitGroup")) (Some base.Group)
     (cond (bytes_eq n (codes "RWMutex")) (Some base.ReadWriteMutex) None))
 
--- what package sync has
+-- the types of package sync
 unfoldable pub sync_base : List ℕ → Option Base
 sync_base n = cond (bytes_eq n (codes "Cond")) (Some base.Condition) (made_base n)
 
--- a pointer to what is a struct of the file
+-- a pointer to a struct of the file
 abbrev pub pointer_to : Option Operand → Option Base
 pointer_to (Some (operand.Struct k)) = Some (base.Pointer k)
 pointer_to _ = None
 
--- a type, if it is one of the language's, and the rules that it breaks
+-- a written type, if the language has it, and the rules that it breaks
 pub record Written : Type 0 where
   pub type : Option GoType
   pub faults : List Fault
@@ -50,7 +50,7 @@ pub record Written : Type 0 where
 abbrev pub of_base : ℕ → Option Base → Written
 of_base l b = record { type = option_map plain b; faults = broken l UNKNOWN_TYPE (is_some b) }
 
--- Package sync has to be imported.
+-- Package sync must be imported.
 abbrev pub of_sync : ℕ → Bool → Option Base → Written
 of_sync l imported b = record {
   type = option_map plain b;

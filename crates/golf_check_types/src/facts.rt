@@ -1,33 +1,33 @@
-//! What the checker writes down of a file.
+//! The facts that the checker records of a file.
 //!
-//! The generator reads facts and no scope, so a fact has what code needs: what an expression is, which slot a variable
-//! has, how many facts belong to a part that is passed over.
+//! The generator reads facts and has no scope, so facts say what code needs: what an expression is, which slot a
+//! variable has, and how many facts belong to a part that is passed over.
 
 use crate::operands::Operand;
 
-/// What the checker found at one place of a tree. Facts stand in the order of the walk, and those of
-/// an expression in the order in which its prints begin.
+/// A fact of one place of a tree. Facts are in the order of the walk. Those of an expression are in the order in which
+/// its prints begin.
 #[derive(Debug)]
 pub enum Fact {
-    /// An expression: what it is, and how many facts of its parts stand after this one.
+    /// An expression: what it is, and how many facts of its parts follow.
     Expression {
         operand: Operand,
         parts: usize,
     },
-    /// After the fact of an integer literal: its value. So has a constant.
+    /// The value of an integer literal, after the literal's fact, or the value of an integer constant.
     Number(i64),
-    /// Before each value of a struct literal: the place of its field.
+    /// The place of a field, before the value for it in a struct literal.
     Field(u32),
-    /// If a value is put that is stored under a name: the variable that is declared here, what an
-    /// assigned name is, or `_`.
+    /// Where a value under a name is stored: the variable that is declared here, the operand of an assigned name, or
+    /// `_`.
     Target(Operand),
-    /// After the expression of a `range`: the first hidden slot.
+    /// The first hidden slot of a `range`, after the fact of its expression.
     Hidden(u32),
-    /// Before a clause of `select`, and before the last statement of a `for` header: how many facts
-    /// of it stand after this one.
+    /// The number of facts that follow for a part. It comes before a clause of `select`, and before the last statement
+    /// of a `for` header.
     Part(usize),
-    /// Before a function: how many of its slots hold receiver and parameters, how many slots it
-    /// has, and how many facts of it stand after this one.
+    /// The start of a function: how many of its slots hold receiver and parameters, how many slots it has, and how many
+    /// facts of it follow.
     Function {
         arguments: u32,
         slots: u32,
@@ -35,7 +35,7 @@ pub enum Fact {
     },
 }
 
-// Written out once here, so that no other crate goes through the variants where it lets a fact go.
+// Written out once here, so that no other crate has to prove the drop of each variant.
 impl Drop for Fact {
     fn drop(self) {
         match self {

@@ -1,7 +1,7 @@
-//! Why a check stopped.
+//! The faults that stop a check.
 //!
-//! A check stops at the first broken rule in the order of the walk, or because it is out of memory. No clause ties the
-//! second to a cause.
+//! A check stops at the first broken rule in the order of the walk, or because it is out of memory.
+//! No clause ties the second to a cause.
 
 ghost use Rattle.std.specs.Prelude.{◌≡◌};
 ghost use Rattle.golf_check_types.specs.declared.fault.TypeFault.TheVariants as faults;
@@ -14,7 +14,7 @@ use golf_base::Memory;
 pub enum TypeFault {
     /// Out of memory.
     Memory,
-    /// This rule is broken on this line, and none before it in the order of the walk.
+    /// The first broken rule in the order of the walk, and its line.
     At { line: u32, rule: u32 },
 }
 
@@ -26,7 +26,7 @@ impl From<Memory> for TypeFault {
     }
 }
 
-/// The rule is broken on this line, unless the test holds.
+/// Returns `Ok` if the test holds, and otherwise the fault of this rule on this line.
 pub fn require(line: u32, rule: u32, holds: bool) -> Result<(), TypeFault>
     ensures { Tells result (broken_of line rule holds) (λ _. Unit {0}) }
 {

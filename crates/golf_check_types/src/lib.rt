@@ -1,7 +1,7 @@
-//! Types, what expressions and names are, scopes, facts, and the rules of names and types.
+//! Types, operands, scopes and facts, and the definitions of the rules of names and types.
 //!
-//! The definitions of which rules a file breaks are in `specs/`, from a type as it is written (`Written`) to a whole file
-//! (`Files`). The crates above judge by them; the generator reads the facts.
+//! `specs/` defines which rules a file breaks, from a written type (`Written`) to a whole file (`Files`). The crates
+//! above judge by these definitions; the generator reads the facts.
 #![tactic(auto)]
 
 mod assigned;

@@ -1,7 +1,8 @@
-//! The names that statements declare.
+//! The variables that the statements of a function declare.
 //!
-//! Of two variables with a name the later one counts. The places of each name are kept beside the list of variables, so
-//! that a look-up takes the time of one in a hash map; the invariant of `Locals` says that they are those of the list.
+//! Of two variables with one name the later one counts. Beside the list of variables there is a hash map from names to
+//! places, so that a look-up takes the time of one in a hash map. The invariant of `Locals`: the map has exactly the
+//! places of the list.
 
 ghost use Rattle.std.specs.Prelude.{◌≡◌, ◌++◌, ◌∷◌, ◌-◌, [], ℕ, List, length, take, option_map, OnOk, if◌then◌else◌};
 ghost use Rattle.std.specs.Str.{bytes_eq};
@@ -19,10 +20,10 @@ use std::marker::Model;
 #[derive(Debug)]
 pub struct Local {
     pub name: Name,
-    /// How many blocks are open where it is declared.
+    /// How many blocks are open at its declaration.
     pub depth: u32,
     pub slot: u32,
-    /// None if its type is not known.
+    /// `None` if its type is not known.
     pub of_type: Option<GoType>,
 }
 
@@ -37,10 +38,10 @@ impl Drop for Local {
     }
 }
 
-// The places of each name in a list, rising.
+// The places of each name in a list, in rising order.
 type Places = HashMap<Vec<u8>, List<usize>>;
 
-// Adds a place after those of a name. On an `Err` nothing is said of the places.
+// Adds a place after those of a name. On `Err` nothing is said of the places.
 fn add_place(alloc: Global, places: &mut Places, name: &[u8], place: usize) -> Result<(), Memory>
     ensures { OnOk result ((n : List ℕ) → places_at places.new n ≡ (if bytes_eq name.now n then with_place (places_at places.old n) place else places_at places.old n)) }
 {
@@ -51,7 +52,7 @@ fn add_place(alloc: Global, places: &mut Places, name: &[u8], place: usize) -> R
     Ok(())
 }
 
-// Takes the last place of a name away. On an `Err` nothing is said of the places.
+// Removes the last place of a name. On `Err` nothing is said of the places.
 fn take_place(alloc: Global, places: &mut Places, name: &[u8]) -> Result<(), Memory>
     ensures { OnOk result ((n : List ℕ) → places_at places.new n ≡ (if bytes_eq name.now n then without_place (places_at places.old n) else places_at places.old n)) }
 {
@@ -62,7 +63,7 @@ fn take_place(alloc: Global, places: &mut Places, name: &[u8]) -> Result<(), Mem
     Ok(())
 }
 
-// The last place of a name.
+// Returns the last place of a name, or `None` if it has none.
 fn last_place_at(places: &Places, name: &[u8]) -> Option<usize>
     ensures { result ≡ last_place (places_at places.now name.now) }
 {
@@ -72,8 +73,8 @@ fn last_place_at(places: &Places, name: &[u8]) -> Option<usize>
     }
 }
 
-/// The variables of a function that are declared at a place, the later ones last. A look-up takes
-/// the time of one in a hash map.
+/// The variables of a function that are declared at a place of its body, in order of declaration. A look-up takes the
+/// time of one in a hash map.
 pub struct Locals {
     list: List<Local>,
     places: Places,
@@ -98,7 +99,7 @@ impl Model for Locals {
 }
 
 impl Locals {
-    /// No variables. It takes no memory.
+    /// Returns no variables. It takes no memory.
     pub fn new(alloc: Global) -> Locals
         ensures { result ≡ [] }
     {
@@ -108,14 +109,14 @@ impl Locals {
         }
     }
 
-    /// How many variables there are.
+    /// Returns how many variables there are.
     pub fn len(&self) -> usize
         ensures { result ≡ length self.now }
     {
         self.list.len()
     }
 
-    /// The variable of this name: of two, the later one.
+    /// Returns the variable of this name, the later one of two, or `None`.
     pub fn look(&self, name: &[u8]) -> Option<&Local>
         ensures { option_map (λ r. r.now) result ≡ look_in self.now name.now }
     {
@@ -125,7 +126,7 @@ impl Locals {
         }
     }
 
-    /// Adds a variable. On an `Err` nothing is said of the variables.
+    /// Adds a variable. On `Err` nothing is said of the variables.
     pub fn add(&mut self, alloc: Global, local: Local) -> Result<(), Memory>
         ensures { OnOk result (self.new ≡ self.old ++ local ∷ []) }
     {
@@ -147,7 +148,7 @@ impl Locals {
         }
     }
 
-    // Takes the last variable away.
+    // Removes the last variable. On `Err` nothing is said of the variables.
     fn drop_last(&mut self, alloc: Global) -> Result<(), Memory>
         ensures { OnOk result (self.new ≡ take (length self.old - 1) self.old) }
     {
@@ -164,7 +165,7 @@ impl Locals {
         }
     }
 
-    /// Leaves the first `n` variables. On an `Err` nothing is said of the variables.
+    /// Keeps the first `n` variables. On `Err` nothing is said of the variables.
     pub fn truncate(&mut self, alloc: Global, n: usize) -> Result<(), Memory>
         ensures { OnOk result (self.new ≡ take n self.old) }
     {

@@ -1,7 +1,7 @@
-//! What an expression can be.
+//! Operands: what an expression is.
 //!
-//! An `Operand` is a value, a place, or a name that is no value; a `Given` is what an operand gives where it stands as a
-//! value. A value whose type is not known breaks no rule, so that one fault does not lead to others.
+//! An `Operand` is a value, a place, or a name that is no value. A `Given` is what an operand gives when it is used as
+//! a value. A value whose type is not known breaks no rule, so that one fault does not cause others.
 
 ghost use Rattle.std.specs.Prelude.{◌≡◌, IfOk};
 ghost use Rattle.golf_check_types.specs.Types.{given as given_of, type_of as type_of_of, given_type as given_type_of};
@@ -11,21 +11,21 @@ use crate::types::{Base, GoType, copy_optional, plain};
 use golf_base::{List, Memory};
 use std::alloc::Global;
 
-/// Where a variable stands.
+/// The place of a variable.
 #[derive(Clone, Copy, Debug, PartialEq, Eq)]
 pub enum Where {
-    /// A slot of the function: receiver and parameters are numbered from 0, then one for each local
-    /// and each hidden name of a `range`, in source order.
+    /// A slot of the function. Receiver and parameters have the numbers from 0. Then one follows for each local and
+    /// each hidden variable of a `range`, in source order.
     Slot(u32),
-    /// The globals of a file are numbered from 0 in source order.
+    /// A global. The globals of a file are numbered from 0 in source order.
     Global(u32),
 }
 
-/// The types of a function. `None` stands for a type that is not known.
+/// The types of a function. `None` is a type that is not known.
 #[derive(Debug)]
 pub struct Signature {
     pub parameters: List<Option<GoType>>,
-    /// None if the function has no result.
+    /// `None` if the function has no result.
     pub result: Option<GoType>,
 }
 
@@ -46,7 +46,7 @@ pub enum Package {
     Sync,
 }
 
-/// What can be called and is no function of the file.
+/// A built-in: it can be called and is no function of the file.
 #[derive(Clone, Copy, Debug, PartialEq, Eq)]
 pub enum BuiltIn {
     /// `len`
@@ -89,14 +89,14 @@ pub enum BuiltIn {
     Broadcast,
 }
 
-/// What an expression is. `None` stands for a type that is not known.
+/// What an expression is. `None` is a type that is not known.
 #[derive(Debug)]
 pub enum Operand {
-    /// A value that stands nowhere.
+    /// A value that has no place.
     Value(Option<GoType>),
-    /// What a call or a receive gives, which may be dropped.
+    /// The value of a call or a receive. It may be dropped.
     Outcome(Option<GoType>),
-    /// The constants of a file are numbered from 0 in source order.
+    /// A constant. The constants of a file are numbered from 0 in source order.
     Constant(u32, Base),
     /// `true` or `false`
     Truth(bool),
@@ -111,21 +111,21 @@ pub enum Operand {
     Nil,
     /// `_`
     Blank,
-    /// A call without a result, and the rule that its arguments break, if any.
+    /// A call without a result, and the rule that its arguments break, if there is one.
     Nothing(Option<u32>),
-    /// Functions and methods of a file are numbered from 0 in source order.
+    /// A function. Functions and methods of a file are numbered from 0 in source order.
     Function(u32),
     Method(u32),
     BuiltIn(BuiltIn),
     Package(Package),
     /// A struct of the file.
     Struct(u32),
-    /// `int`, `bool`, `string`, `make`, `new`, a type of a package, or a package in parentheses: a
-    /// name that is no value.
+    /// A name that is no value: `int`, `bool`, `string`, `make`, `new`, a type of a package, or a package in
+    /// parentheses.
     TypeName,
 }
 
-// Written out once here, so that no other crate goes through the variants where it lets an operand go.
+// Written out once here, so that no other crate has to prove the drop of each variant.
 impl Drop for Operand {
     fn drop(self) {
         match self {
@@ -151,7 +151,7 @@ impl Drop for Operand {
 }
 
 impl Operand {
-    /// What it gives as a value.
+    /// Returns what the operand gives as a value.
     pub fn into_given(self, alloc: Global) -> Given
         ensures { result ≡ given_of self }
     {
@@ -177,12 +177,12 @@ impl Operand {
     }
 }
 
-/// What an expression gives where it stands as a value.
+/// What an expression gives when it is used as a value.
 #[derive(Debug)]
 pub enum Given {
     Typed(GoType),
     Nil,
-    /// A value whose type is not known breaks no rule.
+    /// A value whose type is not known. It breaks no rule.
     Unknown,
 }
 
@@ -197,7 +197,7 @@ impl Drop for Given {
 }
 
 impl Given {
-    /// Its type, if it has one.
+    /// Returns the type of the value, or `None` if it has none.
     pub fn into_type(self) -> Option<GoType>
         ensures { result ≡ type_given self }
     {
@@ -207,7 +207,7 @@ impl Given {
         }
     }
 
-    /// What a slice has or a channel carries.
+    /// Returns the element type of a slice or a channel, or `None` for any other value.
     pub fn into_element(self) -> Option<GoType>
         ensures { result ≡ element self }
     {
@@ -218,7 +218,7 @@ impl Given {
     }
 }
 
-/// What a type gives as a value.
+/// Returns the value that a type gives.
 pub fn given_type(t: Option<GoType>) -> Given
     ensures { result ≡ given_type_of t }
 {
@@ -228,14 +228,14 @@ pub fn given_type(t: Option<GoType>) -> Given
     }
 }
 
-/// What an operand gives as a value.
+/// Returns what the operand gives as a value.
 pub fn value_of(alloc: Global, operand: Operand) -> Given
     ensures { result ≡ given_of operand }
 {
     operand.into_given(alloc)
 }
 
-/// The type of an operand, if it has one.
+/// Returns the type of an operand, or `None` if it has none.
 pub fn type_of(alloc: Global, operand: &Operand) -> Result<Option<GoType>, Memory>
     ensures { IfOk result (λ t. t ≡ type_of_of operand.now) }
 {
@@ -251,7 +251,7 @@ pub fn type_of(alloc: Global, operand: &Operand) -> Result<Option<GoType>, Memor
     }
 }
 
-/// The same operand.
+/// Returns a copy of the operand.
 pub fn copy_operand(alloc: Global, operand: &Operand) -> Result<Operand, Memory>
     ensures { IfOk result (λ m. m ≡ operand.now) }
 {

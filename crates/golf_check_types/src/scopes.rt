@@ -1,7 +1,7 @@
-//! What names mean.
+//! The meaning of names.
 //!
 //! A name is a local, else a name of the file, else predeclared or a package. A `Scope` has all three, and what the
-//! function around a place allows there. `begin` and `end` open and close a block: after `end` the names are those that
+//! function around a place allows there. `begin` and `end` open and close a block. After `end` the names are those that
 //! were known before `begin`.
 
 ghost use Rattle.std.specs.Prelude.{◌≡◌, ◌∷◌, [], IfOk, OnOk, length};
@@ -31,8 +31,8 @@ pub struct Imports {
     pub sync: bool,
 }
 
-/// What a name of a file is. Constants, globals, structs, and functions with methods, are numbered
-/// from 0 in source order, each kind by itself.
+/// The meaning of a name of a file. Constants, globals, structs, and functions with methods are numbered from 0 in
+/// source order, each kind separately.
 #[derive(Clone, Copy, Debug, PartialEq, Eq)]
 pub enum Entity {
     Constant(u32, Base),
@@ -41,7 +41,7 @@ pub enum Entity {
     Function(u32),
 }
 
-/// What a name is that is selected through a pointer to a struct.
+/// The meaning of a name that is selected through a pointer to a struct.
 #[derive(Clone, Copy, Debug, PartialEq, Eq)]
 pub enum Member {
     /// A field, by its place in the struct.
@@ -50,21 +50,21 @@ pub enum Member {
     Method(u32),
 }
 
-/// The fields and methods of a struct: what each name is stands at its number.
+/// The fields and methods of a struct. The kind of each name is at the name's number.
 pub struct Members {
     pub names: Table,
     pub kinds: List<Member>,
 }
 
-// The drops of what scopes are made of are written out once here, so that no other crate goes
-// through the fields where it lets one go.
+// The drops of the parts of scopes are written out once here, so that no other crate has to prove the drop of each
+// field.
 impl Drop for Members {
     fn drop(self) {
         let Members { names: _, kinds: _ } = self;
     }
 }
 
-/// What the names of a file mean: what each is stands at its number.
+/// The meanings of the names of a file. The entity of each name is at the name's number.
 pub struct FileScope {
     pub imports: Imports,
     pub names: Table,
@@ -73,7 +73,7 @@ pub struct FileScope {
     pub structs: List<Members>,
     /// The types of the fields of each struct.
     pub fields: List<List<Option<GoType>>>,
-    /// The types of globals, None if a type is not known.
+    /// The types of globals; `None` if a type is not known.
     pub globals: List<Option<GoType>>,
     /// The types of functions and methods.
     pub functions: List<Signature>,
@@ -93,7 +93,7 @@ impl Drop for FileScope {
     }
 }
 
-/// The names of a file's first declarations, and how many of each kind there are.
+/// The names of the first declarations of a file, and how many there are of each kind.
 pub struct Naming {
     pub constants: u32,
     pub globals: u32,
@@ -117,7 +117,7 @@ impl Drop for Naming {
 }
 
 impl Naming {
-    /// What the names of a file mean that has these imports, without types.
+    /// Returns the scope of a file with these names and imports, without types.
     pub fn into_file_scope(self, alloc: Global, imports: Imports) -> FileScope
         ensures { result ≡ record { imports = imports; names = self.names; entities = self.entities; structs = self.structs; fields = []; globals = []; functions = [] } }
     {
@@ -141,17 +141,17 @@ impl Naming {
     }
 }
 
-/// What names mean at a place, and what the function around it allows.
+/// The names that are known at a place, and what the function around it allows.
 pub struct Scope {
     pub file: FileScope,
     pub locals: Locals,
     /// How many blocks are open.
     pub depth: u32,
-    /// The type that the function returns, None if it returns nothing.
+    /// The type that the function returns; `None` if it returns nothing.
     pub result: Option<GoType>,
-    /// Whether a `break` has something to leave.
+    /// Whether there is a statement that a `break` can leave.
     pub breaks: bool,
-    /// Whether there is a loop around.
+    /// Whether there is a loop around the place.
     pub loops: bool,
     /// How many slots were handed out.
     pub next: u32,
@@ -174,7 +174,7 @@ impl Drop for Scope {
     }
 }
 
-// What the name of a predeclared type means.
+// Returns the meaning of the name of a predeclared type, or `None`.
 #[tactic(auto, unfolding(crate::specs::Scopes::type_name))]
 fn type_name(name: &[u8]) -> Option<Operand>
     ensures { result ≡ type_name_of name.now }
@@ -191,7 +191,7 @@ fn type_name(name: &[u8]) -> Option<Operand>
     None
 }
 
-// What the name of a predeclared value means.
+// Returns the meaning of the name of a predeclared value, or `None`.
 #[tactic(auto, unfolding(crate::specs::Scopes::value_name))]
 fn value_name(name: &[u8]) -> Option<Operand>
     ensures { result ≡ value_name_of name.now }
@@ -208,7 +208,8 @@ fn value_name(name: &[u8]) -> Option<Operand>
     None
 }
 
-// What the name of a predeclared function means. `make` and `new` have operands of their own.
+// Returns the meaning of the name of a predeclared function, or `None`. Calls of `make` and `new` are expressions of
+// their own.
 #[tactic(auto, unfolding(crate::specs::Scopes::call_name))]
 fn call_name(name: &[u8]) -> Option<Operand>
     ensures { result ≡ call_name_of name.now }
@@ -231,7 +232,7 @@ fn call_name(name: &[u8]) -> Option<Operand>
     None
 }
 
-// What the name of an imported package means.
+// Returns the meaning of the name of an imported package, or `None`.
 #[tactic(auto, unfolding(crate::specs::Scopes::package_name))]
 fn package_name(imports: Imports, name: &[u8]) -> Option<Operand>
     ensures { result ≡ package_name_of imports name.now }
@@ -248,7 +249,7 @@ fn package_name(imports: Imports, name: &[u8]) -> Option<Operand>
     None
 }
 
-/// What a predeclared name, or the name of an imported package, means.
+/// Returns the meaning of a predeclared name or of the name of an imported package, or `None`.
 fn predeclared(imports: Imports, name: &[u8]) -> Option<Operand>
     ensures { result ≡ predeclared_of imports name.now }
 {
@@ -264,7 +265,7 @@ fn predeclared(imports: Imports, name: &[u8]) -> Option<Operand>
     }
 }
 
-/// Whether a name is predeclared or that of a package, which no declaration may take.
+/// Returns whether a name is predeclared or the name of a package. No declaration may use such a name.
 #[tactic(auto, unfolding(crate::specs::Scopes::is_reserved))]
 pub fn is_reserved(name: &[u8]) -> bool
     ensures { result ≡ is_reserved_of name.now }
@@ -277,14 +278,14 @@ pub fn is_reserved(name: &[u8]) -> bool
     predeclared(all, name).is_some()
 }
 
-/// Whether a name is `_`.
+/// Returns whether a name is `_`.
 pub fn is_blank(name: &[u8]) -> bool
     ensures { result ≡ is_blank_of name.now }
 {
     name == b"_".as_slice()
 }
 
-/// The type at a number, if it is known.
+/// Returns the type at a number, or `None` if it is not known.
 pub fn type_at(
     alloc: Global,
     types: &[Option<GoType>],
@@ -298,7 +299,7 @@ pub fn type_at(
     }
 }
 
-// What an entity of the file is as an operand.
+// Returns the operand of an entity of the file.
 fn entry_operand(alloc: Global, file: &FileScope, meaning: Entity) -> Result<Operand, Memory>
     ensures { IfOk result (λ m. m ≡ entry_operand_of file.now meaning) }
 {
@@ -313,7 +314,7 @@ fn entry_operand(alloc: Global, file: &FileScope, meaning: Entity) -> Result<Ope
     }
 }
 
-// What a name of the file means.
+// Returns the meaning of a name of the file, or `None`.
 fn file_operand(alloc: Global, file: &FileScope, name: &[u8]) -> Result<Option<Operand>, Memory>
     ensures { IfOk result (λ m. m ≡ file_operand_of file.now name.now) }
 {
@@ -326,7 +327,7 @@ fn file_operand(alloc: Global, file: &FileScope, name: &[u8]) -> Result<Option<O
     }
 }
 
-// What a variable of a function is as an operand.
+// Returns the operand of a variable of a function.
 fn local_operand(alloc: Global, local: &Local) -> Result<Operand, Memory>
     ensures { IfOk result (λ m. m ≡ local_operand_of local.now) }
 {
@@ -336,7 +337,7 @@ fn local_operand(alloc: Global, local: &Local) -> Result<Operand, Memory>
     ))
 }
 
-// What a name that is no local means.
+// Returns the meaning of a name that is no local, or `None`.
 fn outer_meaning(alloc: Global, file: &FileScope, name: &[u8]) -> Result<Option<Operand>, Memory>
     ensures { IfOk result (λ m. m ≡ or_else (file_operand_of file.now name.now) (predeclared_of file.now.imports name.now)) }
 {
@@ -346,7 +347,7 @@ fn outer_meaning(alloc: Global, file: &FileScope, name: &[u8]) -> Result<Option<
     }
 }
 
-/// What a name means: a local, else a name of the file, else a predeclared one or a package.
+/// Returns the meaning of a name: a local, else a name of the file, else predeclared or a package, else `None`.
 #[tactic(auto, unfolding(crate::specs::Scopes::meaning))]
 pub fn meaning_at(alloc: Global, scope: &Scope, name: &[u8]) -> Result<Option<Operand>, Memory>
     ensures { IfOk result (λ m. m ≡ meaning_of scope.now name.now) }
@@ -357,7 +358,7 @@ pub fn meaning_at(alloc: Global, scope: &Scope, name: &[u8]) -> Result<Option<Op
     }
 }
 
-/// Whether the innermost block has declared the name.
+/// Returns whether the innermost block has declared the name.
 #[tactic(auto, unfolding(crate::specs::Scopes::is_here))]
 pub fn is_here(scope: &Scope, name: &[u8]) -> bool
     ensures { result ≡ is_here_of scope.now name.now }
@@ -368,7 +369,7 @@ pub fn is_here(scope: &Scope, name: &[u8]) -> bool
     }
 }
 
-/// Whether a name may be declared here.
+/// Returns whether a name may be declared here.
 #[tactic(auto, unfolding(crate::specs::Scopes::may_be_declared))]
 pub fn may_be_declared(scope: &Scope, name: &[u8]) -> bool
     ensures { result ≡ may_be_declared_of scope.now name.now }
@@ -376,7 +377,7 @@ pub fn may_be_declared(scope: &Scope, name: &[u8]) -> bool
     !is_blank(name) && !is_reserved(name) && !is_here(scope, name)
 }
 
-/// The same name.
+/// Returns a copy of the name.
 pub fn copy_name(alloc: Global, name: &[u8]) -> Result<Name, Memory>
     ensures { IfOk result (λ n. n ≡ name.now) }
 {
@@ -385,7 +386,7 @@ pub fn copy_name(alloc: Global, name: &[u8]) -> Result<Name, Memory>
     Ok(copy)
 }
 
-/// Adds a variable in the next slot. On an `Err` nothing is said of the scope.
+/// Declares a variable in the next slot. On `Err` nothing is said of the scope.
 pub fn declare(
     alloc: Global,
     scope: &mut Scope,
@@ -407,7 +408,7 @@ pub fn declare(
     Ok(())
 }
 
-/// Hands slots out that have no name. On an `Err` nothing is said of the scope.
+/// Hands out slots without names. On `Err` nothing is said of the scope.
 pub fn hide(scope: &mut Scope, count: u32) -> Result<(), Memory>
     ensures { OnOk result (scope.new ≡ declared scope.old [] count) }
 {
@@ -415,7 +416,7 @@ pub fn hide(scope: &mut Scope, count: u32) -> Result<(), Memory>
     Ok(())
 }
 
-/// Begins a block; what it answers ends it. On an `Err` nothing is said of the scope.
+/// Begins a block and returns the mark with which `end` ends it. On `Err` nothing is said of the scope.
 pub fn begin(scope: &mut Scope) -> Result<usize, Memory>
     ensures scope { OnOk result (scope.new ≡ begun scope.old) }
     ensures mark { IfOk result (λ mark. mark ≡ length scope.old.locals) }
@@ -424,7 +425,7 @@ pub fn begin(scope: &mut Scope) -> Result<usize, Memory>
     Ok(scope.locals.len())
 }
 
-/// Ends a block. On an `Err` nothing is said of the scope.
+/// Ends the block that began at this mark. On `Err` nothing is said of the scope.
 pub fn end(alloc: Global, scope: &mut Scope, mark: usize) -> Result<(), Memory>
     ensures { OnOk result (scope.new ≡ closed_to mark scope.old) }
 {
@@ -433,7 +434,7 @@ pub fn end(alloc: Global, scope: &mut Scope, mark: usize) -> Result<(), Memory>
     Ok(())
 }
 
-/// What a name is that is selected through a pointer to a struct.
+/// Returns the meaning of a name that is selected through a pointer to the struct of this number, or `None`.
 #[tactic(auto, unfolding(crate::specs::Scopes::member))]
 pub fn member_at(file: &FileScope, number: u32, name: &[u8]) -> Option<Member>
     ensures { result ≡ member_of file.now number name.now }
@@ -444,7 +445,7 @@ pub fn member_at(file: &FileScope, number: u32, name: &[u8]) -> Option<Member>
     }
 }
 
-/// What a name is among the members of a struct.
+/// Returns the meaning of a name among the members of a struct, or `None`.
 pub fn kind_at(members: &Members, name: &[u8]) -> Option<Member>
     ensures { result ≡ kind_in members.now name.now }
 {

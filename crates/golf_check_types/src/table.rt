@@ -1,7 +1,7 @@
-//! Names with their numbers.
+//! Tables of names with their numbers.
 //!
-//! The first entry of a name counts, and a name that is there is not added again. A table is seen as the list of its
-//! entries in the order in which they came.
+//! The first entry of a name counts, and a name that is in the table is not added again. Contracts see a table as the
+//! list of its entries in the order in which they were added.
 
 ghost use Rattle.std.specs.Prelude.{◌≡◌, [], OnOk};
 ghost use Rattle.golf_check_types.specs.Names.{number_of, with_name};
@@ -11,8 +11,8 @@ use indexmap::IndexMap;
 use std::alloc::Global;
 use std::marker::Model;
 
-/// Different names in the order in which they came, with a number for each. A look-up takes the
-/// time of one in a hash map.
+/// Different names in the order in which they were added, with a number for each. A look-up takes the time of one in a
+/// hash map.
 pub struct Table {
     entries: IndexMap<Vec<u8>, usize>,
 }
@@ -32,7 +32,7 @@ impl Model for Table {
 }
 
 impl Table {
-    /// No names. It takes no memory.
+    /// Returns a table without names. It takes no memory.
     pub fn new(alloc: Global) -> Table
         ensures { result ≡ [] }
     {
@@ -41,14 +41,14 @@ impl Table {
         }
     }
 
-    /// The number of a name.
+    /// Returns the number of a name, or `None` if the table does not have it.
     pub fn number_of(&self, name: &[u8]) -> Option<usize>
         ensures { result ≡ number_of self.now name.now }
     {
         self.entries.get(name).copied()
     }
 
-    /// Adds a name at the end, unless it is there.
+    /// Adds a name at the end, unless the table has it.
     pub fn add(&mut self, alloc: Global, name: &[u8], number: usize) -> Result<(), Memory>
         ensures { OnOk result (self.new ≡ with_name self.old name.now number) }
     {

@@ -1,7 +1,7 @@
-//! Types (Go specification, "Types", cut down to those of the language).
+//! Types (Go specification, "Types", cut down to those of the accepted language).
 //!
-//! A type is a list of layers, `[]` and `chan` from the outermost on, and what they end in. Two types are identical
-//! exactly when layers and ends are the same. A type that is not known is `None` wherever one stands.
+//! A type is a list of layers, `[]` and `chan` from the outermost on, and a base in which they end.
+//! Two types are identical exactly when layers and bases are the same. A type that is not known is `None`.
 
 ghost use Rattle.std.specs.Prelude.{◌≡◌, IfOk};
 ghost use Rattle.golf_check_types.specs.Types.{same_layer as same_layer_of, same_layers as same_layers_of};
@@ -11,7 +11,7 @@ ghost use Rattle.golf_check_types.specs.Types.{with_layer as with_layer_of, insi
 use golf_base::{List, Memory};
 use std::alloc::Global;
 
-/// What stands before a type.
+/// A layer before a type.
 #[derive(Clone, Copy, Debug, PartialEq, Eq)]
 pub enum Layer {
     /// `[]`
@@ -45,14 +45,14 @@ pub enum Base {
     Condition,
 }
 
-/// A type: the layers from the outermost on, and what they end in.
+/// A type: the layers from the outermost on, and the base in which they end.
 #[derive(Debug)]
 pub struct GoType {
     pub layers: List<Layer>,
     pub base: Base,
 }
 
-// Written out once here, so that no other crate goes through the fields where it lets a type go.
+// Written out once here, so that no other crate has to prove the drop of each field.
 impl Drop for GoType {
     fn drop(self) {
         let GoType { layers: _, base: _ } = self;
@@ -60,7 +60,7 @@ impl Drop for GoType {
 }
 
 impl GoType {
-    /// What a slice of this type has or a channel carries.
+    /// Returns the element type of a slice or a channel type, or `None` for any other type.
     pub fn into_element(self) -> Option<GoType>
         ensures { result ≡ inside self.layers self.base }
     {
@@ -85,7 +85,7 @@ fn same_layer(a: Layer, b: Layer) -> bool
     }
 }
 
-/// Whether two types have the same layers.
+/// Returns whether two types have the same layers.
 pub fn same_layers(a: &[Layer], b: &[Layer]) -> bool
     ensures { result ≡ same_layers_of a.now b.now }
 {
@@ -98,7 +98,7 @@ pub fn same_layers(a: &[Layer], b: &[Layer]) -> bool
     }
 }
 
-/// Whether two types end in the same.
+/// Returns whether two types have the same base.
 pub fn same_base(a: Base, b: Base) -> bool
     ensures { result ≡ same_base_of a b }
 {
@@ -118,14 +118,14 @@ pub fn same_base(a: Base, b: Base) -> bool
     }
 }
 
-/// Whether two types are identical.
+/// Returns whether two types are identical.
 pub fn same_type(a: &GoType, b: &GoType) -> bool
     ensures { result ≡ same_type_of a.now b.now }
 {
     same_layers(a.layers.as_slice(), b.layers.as_slice()) && same_base(a.base, b.base)
 }
 
-/// A type without layers. It takes no memory.
+/// Returns a type without layers. It takes no memory.
 pub fn plain(alloc: Global, base: Base) -> GoType
     ensures { result ≡ plain_of base }
 {
@@ -135,7 +135,7 @@ pub fn plain(alloc: Global, base: Base) -> GoType
     }
 }
 
-/// A type with one more layer before it.
+/// Returns a type with one more layer before it, or `None` if the inner type is not known.
 pub fn with_layer(
     alloc: Global,
     layer: Layer,
@@ -155,7 +155,7 @@ pub fn with_layer(
     }))
 }
 
-/// The same type.
+/// Returns a copy of the type.
 fn copy_type(alloc: Global, t: &GoType) -> Result<GoType, Memory>
     ensures { IfOk result (λ r. r ≡ t.now) }
 {
@@ -167,7 +167,7 @@ fn copy_type(alloc: Global, t: &GoType) -> Result<GoType, Memory>
     })
 }
 
-/// The same type, if there is one.
+/// Returns a copy of the type, if there is one.
 pub fn copy_optional(alloc: Global, t: &Option<GoType>) -> Result<Option<GoType>, Memory>
     ensures { IfOk result (λ r. r ≡ t.now) }
 {

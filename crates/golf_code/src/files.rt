@@ -1,4 +1,7 @@
-//! The code of a file.
+//! The code of a typed file.
+//!
+//! The checker has already computed the scope and the facts of the file. `generate` uses them, and computes
+//! neither again.
 
 ghost use Rattle.std.specs.Prelude.{◌≡◌, IfOk};
 ghost use Rattle.golf_check_types.specs.Files.{facts_in};
@@ -11,7 +14,7 @@ use golf_code_files::code;
 use golf_data::Code;
 use std::alloc::Global;
 
-/// The code of a typed file.
+/// Returns the code of a typed file, which is `CodeOf` its tree. The only error is `Memory`.
 pub fn generate(alloc: Global, checked: &Checked) -> Result<Code, Memory>
     requires scope { checked.now.scope ≡ scope_of checked.now.file }
     requires facts { checked.now.facts ≡ facts_in checked.now.file }

@@ -1,7 +1,7 @@
-//! From a typed file to its code, by what the checker wrote down of it.
+//! From a typed file to its code, with the scope and the facts that the checker found.
 //!
-//! What the code of a file is stands in `specs/` of `golf_code_of`; that the code by facts is that
-//! code is a law of `golf_code_facts`.
+//! `specs/` of `golf_code_of` defines the code of a file. A law of `golf_code_facts` says that the code
+//! made from the facts is that code.
 #![tactic(auto)]
 
 mod files;

@@ -1,4 +1,4 @@
--- Left sides by the kinds of places (Go specification, "Assignment statements", "Address operators").
+-- Left sides, by the kinds of places (Go specification, "Assignment statements", "Address operators").
 use Rattle.std.specs.Prelude.{◌≡◌, ℕ, Result, Ok, Err, List}
 use Rattle.golf_base.specs.declared.Memory.{Memory}
 use Rattle.golf_data.specs.declared.code.Instr.{Instr}
@@ -13,7 +13,8 @@ use Rattle.golf_code_expressions.specs.declared.places.LeftSide.TheVariants as p
 use Rattle.golf_code_expressions.specs.declared.writer.Writer.{Writer}
 use Rattle.golf_code_expressions.specs.Writing.{with_piece}
 
--- what doubles what tells the place, what turns it into the value, and what takes it with a new value on top
+-- the pieces that double the operands that name the place, turn them into the value, and take them with a new value on
+-- top
 
 abbrev pub twice_of : ℕ → LeftSide → Piece
 twice_of l (place.Field i) = op l Instr.Dup
@@ -35,13 +36,13 @@ store_of l (place.Field i) = op l (Instr.SetField i)
 store_of l place.Element = op l Instr.SetIndex
 store_of l place.Nothing = Piece.Empty
 
--- this is the kind of place of a left side with such code
+-- a left side with such code has this kind of place
 pub record IsPlace (l : ℕ) (p : LeftSide) (x : Made) : Type 0 where
   pub twice : x.twice ≡ twice_of l p
   pub read : x.read ≡ read_of l p
   pub store : x.store ≡ store_of l p
 
--- what tells the place was added, and the answer is its kind
+-- the operands that name the place were added, and the answer is its kind
 abbrev pub Tells : ℕ → Result LeftSide Memory → Made → Writer → Writer → Type 0
 Tells l (Ok p) x old new = IsPlace l p x × (new.draft ≡ with_piece old.draft x.parts)
 Tells l (Err e) x old new = Unit {0}
@@ -51,6 +52,6 @@ abbrev pub TellsAll : ℕ → Result LeftSide Memory → Made → List Fact → 
 TellsAll l (Ok p) x left old new = IsPlace l p x × (new ≡ record { facts = left; draft = with_piece old.draft x.parts })
 TellsAll l (Err e) x left old new = Unit {0}
 
--- a name that means this is this kind of place, which no code tells
+-- a name with this meaning has this kind of place, and no operand names it
 abbrev pub IsVariable : Operand → LeftSide → Type 0
 IsVariable m p = (l : ℕ) (t : Tables) → IsPlace l p (name l t m) × ((name l t m).parts ≡ Piece.Empty)

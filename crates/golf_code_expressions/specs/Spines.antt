@@ -26,7 +26,7 @@ use Rattle.golf_code_facts.specs.Expressions.{taking, arguments}
 use Rattle.golf_code_expressions.specs.declared.writer.Draft.{Draft}
 use Rattle.golf_code_expressions.specs.declared.writer.Writer.{Writer}
 
--- whether what stands before the dot of a selector that is this has code
+-- whether the left operand of a selector with this meaning has code
 abbrev pub has_left : Operand → Bool
 has_left (operand.Field i t) = true
 has_left (operand.Value t) = true
@@ -41,7 +41,7 @@ written_step (Call g xs) m callee = cond (sets_finaliser callee) None (Some g)
 written_step (Binary o a b) m callee = Some a
 written_step _ m callee = None
 
--- the left operand of an expression that is this, if the code of one comes first; of a call, if this is called
+-- the left operand of an expression with this meaning, if its code comes first; a call has the meaning `callee`
 unfoldable pub written : Expr → Operand → Operand → Option Expr
 written e m callee = written_step (out-Expr e) m callee
 
@@ -54,11 +54,11 @@ abbrev pub begun_step : Expr-F Expr Element → List Emitted → List Emitted
 begun_step (Binary o a b) ms = begun_binary o ms
 begun_step _ ms = ms
 
--- these parts, and then what stands before the code of the left operand
+-- the parts `ms`, and then those before the code of the left operand
 unfoldable pub begun : Expr → List Emitted → List Emitted
 begun e ms = begun_step (out-Expr e) ms
 
--- These parts, which end with the code of the left operand, and then what stands after it.
+-- The parts `ms`, which end with the code of the left operand, and then those after it.
 
 abbrev pub after_selector : ℕ → Operand → List Emitted → List Emitted
 after_selector l (operand.Field i t) ms = ms ++ emit.Op (Instr.Field i) l ∷ []
@@ -91,17 +91,18 @@ ended_step t l (Call g xs) m fs ms = after_call l (next_is fs) (length xs)
 ended_step t l (Binary o a b) m fs ms = after_binary l o (taking t b l (skip fs)).piece ms
 ended_step t l _ m fs ms = ms
 
--- of an expression that is this, if these are the facts of its parts
+-- the same for an expression with this meaning; these are the facts of its parts
 unfoldable pub ended : Tables → ℕ → Expr → Operand → List Fact → List Emitted → List Emitted
 ended t l e m fs ms = ended_step t l (out-Expr e) m fs ms
 
--- what comes of parts that end with the code of the innermost one, if the first of these has the first of these facts
+-- the parts after those of all waiting expressions; `ms` ends with the code of the innermost one, and the first of the
+-- expressions has the first of the facts
 abbrev pub grown : Tables → ℕ → List Expr → List Fact → List Emitted → List Emitted
 grown t l [] fs ms = ms
 grown t l (e ∷ es) [] ms = ms
 grown t l (e ∷ es) (f ∷ fs) ms = ended t l e (operand_in f) fs (grown t l es fs ms)
 
--- the parts of a draft alone
+-- the draft with only its parts replaced
 abbrev pub with_emitted : Draft → List Emitted → Draft
 with_emitted d ms = record d { emitted = ms }
 
@@ -109,7 +110,7 @@ abbrev pub Follows : {A : Type 0} → Result A Memory → List Emitted → Write
 Follows (Ok a) ms old new = new.draft ≡ with_emitted old.draft ms
 Follows (Err e) ms old new = Unit {0}
 
--- The loop followed the left operands from an expression to the one inside, and these wait for it.
+-- The loop followed the left operands from the expression to an inner one, and these expressions wait for it.
 abbrev pub Descended : Expr → Writer → List (Bor Expr) → Expr → Writer → Type 0
 Descended e old ws inner new = record {
   whole : (l : ℕ) → grown old.draft.tables.now l (shown ws) old.facts
@@ -122,11 +123,11 @@ Descended e old ws inner new = record {
   inner : size-Expr inner ≤ size-Expr e;
 }
 
--- no code of a left operand comes first
+-- the code of a left operand does not come first
 abbrev pub Stops : Expr → List Fact → Type 0
 Stops e fs = (f : Fact) (gs : List Fact) → fs ≡ f ∷ gs → written e (operand_in f) (next_is gs) ≡ None
 
--- these wait for what was written
+-- these expressions wait for the code that was written
 abbrev pub Rising : ℕ → Expr → Writer → List (Bor Expr) → Draft → Type 0
 Rising l e old ws d = record {
   whole : grown old.draft.tables.now l (shown ws) old.facts d.emitted ≡ onto old.draft.emitted

@@ -1,4 +1,4 @@
--- What the calls that write code tell. Out of memory, they tell nothing.
+-- The clauses of the calls that write code. Without memory they say nothing.
 use Rattle.std.specs.Prelude.{◌≡◌, List, Result, Ok, Err}
 use Rattle.golf_base.specs.declared.Memory.{Memory}
 use Rattle.golf_check_types.specs.declared.facts.Fact.{Fact}
@@ -7,7 +7,7 @@ use Rattle.golf_code_layout.specs.Emission.{onto}
 use Rattle.golf_code_expressions.specs.declared.writer.Draft.{Draft}
 use Rattle.golf_code_expressions.specs.declared.writer.Writer.{Writer}
 
--- a piece more
+-- the draft with a piece added
 abbrev pub with_piece : Draft → Piece → Draft
 with_piece d p = record d { emitted = onto d.emitted p }
 

@@ -1,4 +1,7 @@
-//! What stands after the arguments of a call, and what the call gives.
+//! Calls: the code after their arguments.
+//!
+//! A function of the file has its number plus one, since function 0 runs the initialisers. A method
+//! takes its receiver as one more argument.
 
 ghost use Rattle.std.specs.Prelude.{◌≡◌};
 ghost use Rattle.golf_check_types.specs.Calls.{sets_finaliser as sets_finaliser_of};
@@ -11,7 +14,7 @@ use golf_check_types::{BuiltIn, Operand};
 use golf_code_layout::{Emitted, op};
 use golf_data::Instr;
 
-// A counter goes down by one.
+// Adds the code of `Done`, which lowers a counter by one.
 fn done(emitted: &mut List<Emitted>, line: u32) -> Result<(), Memory>
     ensures { Adds result (operation_of line BuiltIn.Done 0) emitted.old emitted.new }
 {
@@ -26,7 +29,7 @@ fn print(emitted: &mut List<Emitted>, line: u32, operands: usize) -> Result<(), 
     op(emitted, line, Instr::Print(operands))
 }
 
-/// Adds what a built-in call does with its operands, of which there are so many.
+/// Adds the operation of a built-in call on its operands; `operands` is their number.
 pub fn operation(
     emitted: &mut List<Emitted>,
     line: u32,
@@ -83,7 +86,7 @@ fn call_method(
     call_function(emitted, line, number, all)
 }
 
-/// Adds the call, after receiver and arguments.
+/// Adds the call, after the code of receiver and arguments.
 pub(crate) fn calling(
     emitted: &mut List<Emitted>,
     line: u32,
@@ -120,7 +123,7 @@ fn set_finaliser(emitted: &mut List<Emitted>, line: u32, number: u32) -> Result<
     op(emitted, line, Instr::SetFinalizer(number))
 }
 
-/// Whether a call sets a finaliser.
+/// Returns whether a call sets a finaliser.
 pub fn sets_finaliser(callee: &Operand) -> bool
     ensures { result ≡ sets_finaliser_of callee.now }
 {
@@ -130,7 +133,8 @@ pub fn sets_finaliser(callee: &Operand) -> bool
     }
 }
 
-/// Adds what makes a function the finaliser of the object on top, or takes its finaliser away.
+/// Adds the instruction that makes a function the finaliser of the object on top, or takes its
+/// finaliser away.
 pub fn finaliser(emitted: &mut List<Emitted>, line: u32, function: &Operand) -> Result<(), Memory>
     ensures { Adds result (finaliser_of line function.now) emitted.old emitted.new }
 {

@@ -1,4 +1,7 @@
-//! The code of an expression by its facts.
+//! The writer of the code of expressions, by their facts.
+//!
+//! It goes over the tree and the facts at the same time, from left to right. A loop follows the left operands; other
+//! parts are written by recursion, whose depth the cost of tokens bounds.
 
 ghost use Rattle.std.specs.Prelude.{◌≡◌, ◌∷◌, ◌<◌, [], None, map, length, pos, IfOk, IfSome, OnOk};
 ghost use Rattle.std.specs.Option.{option_map};
@@ -42,7 +45,7 @@ fn text_at(
     op(emitted, line, Instr::Text(number))
 }
 
-// `make(T)`
+// Adds the code of `make(T)`.
 fn made_at(emitted: &mut List<Emitted>, line: u32, operand: &Operand) -> Result<(), Memory>
     ensures { Adds result (made_of line (type_of_value operand.now)).piece emitted.old emitted.new }
 {
@@ -50,7 +53,7 @@ fn made_at(emitted: &mut List<Emitted>, line: u32, operand: &Operand) -> Result<
     op(emitted, line, makes_of_value(operand))
 }
 
-// Whether what stands before the dot of a selector that is this has code.
+// Returns whether the left operand of a selector with this meaning has code.
 fn has_left(operand: &Operand) -> bool
     ensures { result ≡ has_left_of operand.now }
 {
@@ -75,7 +78,8 @@ fn has_left(operand: &Operand) -> bool
     }
 }
 
-// The left operand of an expression that is this, if the code of one comes first; of a call, if this is called.
+// Returns the left operand of an expression with this meaning, if its code comes first. A call has the meaning
+// `callee`.
 #[tactic(auto, unfolding(crate::specs::Spines::written))]
 fn written_left<'e>(e: &'e Expr, operand: &Operand, callee: &Operand) -> Option<&'e Expr>
     ensures is { option_map (λ x. x.now) result ≡ written e.now operand.now callee.now }
@@ -114,7 +118,7 @@ fn written_left<'e>(e: &'e Expr, operand: &Operand, callee: &Operand) -> Option<
     }
 }
 
-// What stands before the code of the left operand.
+// Adds the parts before the code of the left operand.
 #[tactic(auto, unfolding(crate::specs::Spines::begun))]
 fn begin(emitted: &mut List<Emitted>, e: &Expr) -> Result<(), Memory>
     ensures { OnOk result (emitted.new ≡ begun e.now emitted.old) }
@@ -132,8 +136,8 @@ fn begin(emitted: &mut List<Emitted>, e: &Expr) -> Result<(), Memory>
     }
 }
 
-// Goes down the left operands whose code comes first: the expressions that wait for one, and the innermost one, whose
-// facts come next.
+// Follows the left operands whose code comes first. Returns the expressions that wait for one, and the innermost one,
+// whose facts come next.
 fn descend<'e>(writer: &mut Writer, e: &'e Expr) -> Result<(List<&'e Expr>, &'e Expr), Memory>
     ensures down { IfOk result (λ x. Descended e.now writer.old x.0 x.1.now writer.new) }
     ensures stops { IfOk result (λ x. Stops x.1.now writer.new.facts) }
@@ -155,9 +159,9 @@ fn descend<'e>(writer: &mut Writer, e: &'e Expr) -> Result<(List<&'e Expr>, &'e 
     Ok((waiting, inner))
 }
 
-/// Adds the code that pushes the value of an expression whose facts come next, and passes over these.
+/// Adds the code that pushes the value of an expression whose facts come next, and passes over these facts.
 ///
-/// Left operands are gone down by a loop, since nothing bounds how many of them stand in one another.
+/// A loop follows the left operands, since nothing bounds how many there are in one another.
 #[cycle(writing)]
 pub fn expression(writer: &mut Writer, line: u32, e: &Expr) -> Result<(), Memory>
     ensures { Writes result (taking writer.old.draft.tables.now e.now line writer.old.facts).piece (skip writer.old.facts) writer.old writer.new }
@@ -174,7 +178,7 @@ pub fn expression(writer: &mut Writer, line: u32, e: &Expr) -> Result<(), Memory
     Ok(())
 }
 
-// One whose code begins with no left operand, if there are facts.
+// Adds the code of an expression whose code begins with no left operand, if there are facts.
 #[cycle(writing)]
 fn innermost_at(writer: &mut Writer, line: u32, e: &Expr) -> Result<(), Memory>
     requires { Stops e.now writer.old.facts }
@@ -186,7 +190,7 @@ fn innermost_at(writer: &mut Writer, line: u32, e: &Expr) -> Result<(), Memory>
     whole(writer, line, e, fact)
 }
 
-// What stands after the code of the left operand, of an expression whose facts come next.
+// Adds the code after that of the left operand, for an expression whose facts come next.
 #[cycle(writing)]
 fn follow(writer: &mut Writer, line: u32, e: &Expr) -> Result<(), Memory>
     ensures { (f : Fact) (fs : List Fact) → writer.old.facts ≡ f ∷ fs → Follows result (ended writer.old.draft.tables.now line e.now (operand_in f) fs writer.old.draft.emitted) writer.old writer.new }
@@ -198,7 +202,7 @@ fn follow(writer: &mut Writer, line: u32, e: &Expr) -> Result<(), Memory>
     rest(writer, line, e, operand)
 }
 
-// The same of an expression that is this, if the facts of its parts come next.
+// Does the same for an expression with this meaning. The facts of its parts come next.
 #[cycle(writing)]
 #[tactic(auto, unfolding(crate::specs::Spines::ended))]
 fn rest(writer: &mut Writer, line: u32, e: &Expr, operand: &Operand) -> Result<(), Memory>
@@ -213,7 +217,7 @@ fn rest(writer: &mut Writer, line: u32, e: &Expr, operand: &Operand) -> Result<(
     }
 }
 
-// The expression has this fact, and its parts have those that come next.
+// Adds the code of an expression with this fact. The facts of its parts come next.
 #[cycle(writing)]
 #[tactic(auto, unfolding(golf_code_facts::specs::Expressions::taking, crate::specs::Spines::written))]
 fn whole<'a>(writer: &mut Writer<'a>, line: u32, e: &Expr, fact: &'a Fact) -> Result<(), Memory>
@@ -262,7 +266,7 @@ fn unary_at(writer: &mut Writer, line: u32, operator: UnaryOperator, e: &Expr) -
     op(&mut writer.draft.emitted, line, unary_instr(operator))
 }
 
-// The index, after the slice.
+// Adds the code of the index, after that of the slice.
 #[cycle(writing)]
 fn index_at(writer: &mut Writer, line: u32, i: &Expr) -> Result<(), Memory>
     ensures { Follows result (after_index line (taking writer.old.draft.tables.now i.now line (skip writer.old.facts)).piece writer.old.draft.emitted) writer.old writer.new }
@@ -272,7 +276,7 @@ fn index_at(writer: &mut Writer, line: u32, i: &Expr) -> Result<(), Memory>
     op(&mut writer.draft.emitted, line, Instr::Index)
 }
 
-// The second operand, if the first one decides by this.
+// Adds the code of the second operand, and the code that gives `value` if the first one decides.
 #[cycle(writing)]
 fn decided_at(writer: &mut Writer, line: u32, b: &Expr, value: bool) -> Result<(), Memory>
     ensures { Follows result (after_either line value (taking writer.old.draft.tables.now b.now line (skip writer.old.facts)).piece writer.old.draft.emitted) writer.old writer.new }
@@ -303,7 +307,7 @@ fn both_at(writer: &mut Writer, line: u32, operator: BinaryOperator, b: &Expr) -
     combining(&mut writer.draft.emitted, line, operator)
 }
 
-// The second operand, after the first.
+// Adds the code of the second operand, after that of the first.
 #[cycle(writing)]
 fn binary_at(
     writer: &mut Writer,
@@ -320,7 +324,7 @@ fn binary_at(
     }
 }
 
-// `make(T, e)`
+// Adds the code of `make(T, e)`.
 #[cycle(writing)]
 fn sized_at(writer: &mut Writer, line: u32, operand: &Operand, e: &Expr) -> Result<(), Memory>
     ensures { Extends result (made_sized line (type_of_value operand.now) (taking writer.old.draft.tables.now e.now line writer.old.facts).piece).piece writer.old writer.new }
@@ -329,7 +333,7 @@ fn sized_at(writer: &mut Writer, line: u32, operand: &Operand, e: &Expr) -> Resu
     op(&mut writer.draft.emitted, line, makes_of_value(operand))
 }
 
-// Puts a value into the field whose place comes next.
+// Adds the code that puts a value into the field whose place comes next.
 #[cycle(writing)]
 fn put_at(writer: &mut Writer, line: u32, e: &Expr) -> Result<(), Memory>
     ensures { Writes result (puts line (taking writer.old.draft.tables.now e.now ∷ []) writer.old.facts) (skip (past_one writer.old.facts)) writer.old writer.new }
@@ -388,7 +392,7 @@ fn slice_at(writer: &mut Writer, line: u32, operand: &Operand, es: &[Expr]) -> R
     set_all(writer, line, es)
 }
 
-// The selector, after what stands before the dot.
+// Adds the code of the selector, after that of its left operand.
 fn selected(emitted: &mut List<Emitted>, line: u32, operand: &Operand) -> Result<(), Memory>
     ensures { OnOk result (emitted.new ≡ after_selector line operand.now emitted.old) }
 {
@@ -423,7 +427,7 @@ fn arguments(writer: &mut Writer, line: u32, xs: &[Expr]) -> Result<(), Memory>
     Ok(())
 }
 
-// The arguments and the call, after the receiver.
+// Adds the code of the arguments and the call, after that of the receiver.
 #[cycle(writing)]
 fn call_at(writer: &mut Writer, line: u32, xs: &[Expr]) -> Result<(), Memory>
     ensures { Follows result (after_call line (next_is writer.old.facts) (length xs.now) (arguments_of line (map (taking writer.old.draft.tables.now) xs.now) (skip writer.old.facts)) writer.old.draft.emitted) writer.old writer.new }
@@ -443,7 +447,7 @@ fn finaliser_at(writer: &mut Writer, line: u32, x: &Expr) -> Result<(), Memory>
     finaliser(&mut writer.draft.emitted, line, function)
 }
 
-// The first argument, and the others.
+// Adds the code of the first argument of `SetFinalizer`, if there are others.
 #[cycle(writing)]
 fn finalising_with(writer: &mut Writer, line: u32, x: &Expr, others: &[Expr]) -> Result<(), Memory>
     ensures { Extends result (finalising_of line (arguments_of line (taking writer.old.draft.tables.now x.now ∷ map (taking writer.old.draft.tables.now) others.now) writer.old.facts)) writer.old writer.new }
@@ -454,7 +458,7 @@ fn finalising_with(writer: &mut Writer, line: u32, x: &Expr, others: &[Expr]) ->
     }
 }
 
-// `SetFinalizer(p, f)`: the function is named in the instruction, and has no code.
+// Adds the code of `SetFinalizer(p, f)`. The instruction names the function, which has no code.
 #[cycle(writing)]
 fn finalising_at(writer: &mut Writer, line: u32, xs: &[Expr]) -> Result<(), Memory>
     ensures { Extends result (finalising_of line (arguments_of line (map (taking writer.old.draft.tables.now) xs.now) writer.old.facts)) writer.old writer.new }

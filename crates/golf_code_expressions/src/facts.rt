@@ -1,4 +1,7 @@
-//! The facts of what is still to be written.
+//! The facts of the part of a file that is still to be written.
+//!
+//! The writer takes them in the order in which the checker recorded them. `skip` passes over the
+//! facts of a whole part.
 
 ghost use Rattle.std.specs.Prelude.{◌≡◌, ◌∷◌, [], drop, IfSome, IfNone};
 ghost use Rattle.golf_code_facts.specs.Facts.{skip as skip_of, past_one, next as next_of, next_is};
@@ -9,11 +12,11 @@ ghost use Rattle.golf_code_facts.specs.Facts.{hidden_in as hidden_in_of};
 use golf_check_types::{Fact, Operand};
 use std::marker::Model;
 
-/// The facts of what is still to be written, in the order of the checker's walk.
+/// The facts that are still to be used, in the order of the checker's walk.
 #[derive(Drop)]
 pub struct Facts<'a> {
     left: &'a [Fact],
-    // What an expression is that has no fact.
+    // The operand of an expression that has no fact.
     unknown: &'a Operand,
 }
 
@@ -29,7 +32,7 @@ impl<'a> Model for Facts<'a> {
     ghost invariant = { λ f. f.unknown.now ≡ operand.Unknown };
 }
 
-// What an expression is, or what is stored to.
+// Returns the operand of an expression, or the target of a store.
 fn operand_in<'a>(fact: &'a Fact, unknown: &'a Operand) -> &'a Operand
     requires { unknown.now ≡ Operand.Unknown }
     ensures { result.now ≡ operand_in_of fact.now }
@@ -114,7 +117,7 @@ fn from(facts: &[Fact], at: usize) -> &[Fact]
 }
 
 impl<'a> Facts<'a> {
-    /// These facts. An expression that has none is this.
+    /// Returns these facts. `unknown` is the operand of an expression that has no fact.
     pub fn new(facts: &'a [Fact], unknown: &'a Operand) -> Facts<'a>
         requires { unknown.now ≡ Operand.Unknown }
         ensures { result ≡ facts.now }
@@ -125,7 +128,7 @@ impl<'a> Facts<'a> {
         }
     }
 
-    /// The same facts once more.
+    /// Returns the same facts again.
     pub fn copy(&self) -> Facts<'a>
         ensures { result ≡ self.now }
     {
@@ -135,7 +138,7 @@ impl<'a> Facts<'a> {
         }
     }
 
-    /// Those from a place on.
+    /// Returns the facts from a place on.
     pub fn from(&self, at: usize) -> Facts<'a>
         ensures { result ≡ drop at self.now }
     {
@@ -145,7 +148,7 @@ impl<'a> Facts<'a> {
         }
     }
 
-    /// Takes the next fact, if there is one.
+    /// Takes the next fact and returns it, or `None` if there is none.
     pub fn take(&mut self) -> Option<&'a Fact>
         ensures some { IfSome result (λ fact. self.old ≡ fact.now ∷ self.new) }
         ensures none { IfNone result ((self.old ≡ []) × (self.new ≡ [])) }
@@ -169,14 +172,14 @@ impl<'a> Facts<'a> {
         }
     }
 
-    /// Passes over the next fact and all that belong to it.
+    /// Passes over the next fact and all facts that belong to it.
     pub fn skip(&mut self)
         ensures { self.new ≡ skip_of self.old }
     {
         self.left = skipped(self.left);
     }
 
-    /// What the next expression is, or what is stored to next.
+    /// Returns the operand of the next expression, or the target of the next store.
     pub fn operand(&self) -> &'a Operand
         ensures { result.now ≡ next_is self.now }
     {
@@ -186,14 +189,14 @@ impl<'a> Facts<'a> {
         }
     }
 
-    /// What an expression is that has this fact.
+    /// Returns the operand of an expression with this fact.
     pub fn operand_of(&self, fact: &'a Fact) -> &'a Operand
         ensures { result.now ≡ operand_in_of fact.now }
     {
         operand_in(fact, self.unknown)
     }
 
-    /// The value of an integer, or 0.
+    /// Returns the value of an integer, if the next fact is one, else 0.
     pub fn number(&self) -> i64
         ensures { result ≡ number_in_of (next_of self.now) }
     {
@@ -203,7 +206,7 @@ impl<'a> Facts<'a> {
         }
     }
 
-    /// The place of a field, or 0.
+    /// Returns the place of a field, if the next fact is one, else 0.
     pub fn field(&self) -> u32
         ensures { result ≡ field_in_of (next_of self.now) }
     {
@@ -213,7 +216,7 @@ impl<'a> Facts<'a> {
         }
     }
 
-    /// The first hidden slot of a `range`, or 0.
+    /// Returns the first hidden slot of a `range`, if the next fact is one, else 0.
     pub fn hidden(&self) -> u32
         ensures { result ≡ hidden_in_of (next_of self.now) }
     {

@@ -1,4 +1,4 @@
-//! The code of expressions, written by their facts to flat parts, from left to right in one walk over the tree.
+//! The writer of the code of expressions: from a tree and its facts to flat parts, in one walk from left to right.
 #![tactic(auto)]
 
 mod calls;

@@ -1,4 +1,6 @@
-//! Names, and what is made by name.
+//! The code of names, and of values that are made by the name of their type.
+//!
+//! The operand of a name, which its fact has, says what the name means. No scope is looked at.
 
 ghost use Rattle.golf_code_of.specs.Expressions.{name as name_of, variable as variable_of, new_struct as new_struct_of};
 ghost use Rattle.golf_code_of.specs.Expressions.{new_sync as new_sync_of};
@@ -25,7 +27,7 @@ fn load(emitted: &mut List<Emitted>, line: u32, place: Where) -> Result<(), Memo
     }
 }
 
-/// Pushes the value of a name that means this.
+/// Adds the code that pushes the value of a name with this meaning.
 pub fn name(
     tables: &Tables,
     line: u32,
@@ -64,7 +66,8 @@ fn store_variable(emitted: &mut List<Emitted>, line: u32, place: Where) -> Resul
     }
 }
 
-/// Stores what is on top under a name that means this, or drops it if the name is `_`.
+/// Adds the code that stores the top value under a name with this meaning, or drops it if the name
+/// is `_`.
 pub fn store(emitted: &mut List<Emitted>, line: u32, operand: &Operand) -> Result<(), Memory>
     ensures { (t : Tables) → Adds result (stores line t operand.now) emitted.old emitted.new }
 {
@@ -89,7 +92,7 @@ pub fn store(emitted: &mut List<Emitted>, line: u32, operand: &Operand) -> Resul
     }
 }
 
-/// The base of the type of a value.
+/// Returns the base of the type of a value, or `None` if it has none.
 pub fn base_of(operand: &Operand) -> Option<Base>
     ensures { result ≡ base_of_of (type_of_value operand.now) }
 {
@@ -99,7 +102,7 @@ pub fn base_of(operand: &Operand) -> Option<Base>
     }
 }
 
-/// What makes a slice or a channel of the type of a value.
+/// Returns the instruction that makes a slice or a channel of the type of a value.
 pub fn makes_of_value(operand: &Operand) -> Instr
     ensures { result ≡ makes_of (type_of_value operand.now) }
 {
@@ -118,14 +121,14 @@ fn struct_of(base: Option<Base>) -> u32
     }
 }
 
-/// Makes a struct of the file.
+/// Adds the code that makes a struct of the file.
 pub fn new_struct(emitted: &mut List<Emitted>, line: u32, base: Option<Base>) -> Result<(), Memory>
     ensures { Adds result (new_struct_of line base).piece emitted.old emitted.new }
 {
     op(emitted, line, Instr::NewStruct(struct_of(base)))
 }
 
-/// Makes what package sync has.
+/// Adds the code that makes a mutex, a wait group, or a reader and writer mutex.
 pub fn new_sync(emitted: &mut List<Emitted>, line: u32, base: Option<Base>) -> Result<(), Memory>
     ensures { Adds result (new_sync_of line base).piece emitted.old emitted.new }
 {

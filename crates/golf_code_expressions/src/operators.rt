@@ -1,4 +1,4 @@
-//! Operators: what stands after their operands, and what they make.
+//! The code of operators, after that of their operands.
 
 ghost use Rattle.std.specs.Prelude.{◌≡◌, ◌∷◌, []};
 ghost use Rattle.golf_code_layout.specs.Piece.{all, op as op_of};
@@ -10,7 +10,7 @@ use golf_code_layout::{Emitted, op};
 use golf_data::Instr;
 use golf_syntax_trees::{BinaryOperator, UnaryOperator};
 
-/// The instruction of a unary operator.
+/// Returns the instruction of a unary operator.
 pub fn unary_instr(operator: UnaryOperator) -> Instr
     ensures { result ≡ unary_instr_of operator }
 {
@@ -21,7 +21,7 @@ pub fn unary_instr(operator: UnaryOperator) -> Instr
     }
 }
 
-// An instruction, and `not` after it.
+// Adds an instruction, and `not` after it.
 fn negated(emitted: &mut List<Emitted>, line: u32, instr: Instr) -> Result<(), Memory>
     ensures { Adds result (all (op_of line instr ∷ op_of line Instr.Not ∷ [])) emitted.old emitted.new }
 {
@@ -29,7 +29,7 @@ fn negated(emitted: &mut List<Emitted>, line: u32, instr: Instr) -> Result<(), M
     op(emitted, line, Instr::Not)
 }
 
-/// Adds what stands after both operands of a binary operator.
+/// Adds the instructions after both operands of a binary operator.
 pub fn combining(
     emitted: &mut List<Emitted>,
     line: u32,

@@ -1,4 +1,6 @@
-//! Left sides: what tells a place, and how it is read and stored to.
+//! Left sides: the operands that name a place, and how it is read and stored to.
+//!
+//! The operands of a field are the struct, and those of an element are the slice and the index. A variable has none.
 
 ghost use Rattle.std.specs.Prelude.{◌∷◌};
 ghost use Rattle.golf_code_layout.specs.Emission.{Adds};
@@ -15,22 +17,22 @@ use golf_code_layout::{Emitted, op};
 use golf_data::Instr;
 use golf_syntax_trees::Expr;
 
-/// What stands on a left side.
+/// The kind of place of a left side.
 #[derive(Clone, Copy, Debug, PartialEq, Eq)]
 pub enum LeftSide {
     /// A variable in a slot or a global.
     Variable(Where),
     /// `_`, which drops the value.
     Blank,
-    /// A field by its place, of the struct that was pushed.
+    /// A field by its place. The struct was pushed.
     Field(u32),
-    /// An element, of the slice and at the index that were pushed.
+    /// An element. The slice and the index were pushed.
     Element,
-    /// What is no place: no code.
+    /// No place. It has no code.
     Nothing,
 }
 
-/// Doubles what tells the place.
+/// Adds the code that doubles the operands that name the place.
 pub fn twice(emitted: &mut List<Emitted>, line: u32, place: LeftSide) -> Result<(), Memory>
     ensures { Adds result (twice_of line place) emitted.old emitted.new }
 {
@@ -43,7 +45,7 @@ pub fn twice(emitted: &mut List<Emitted>, line: u32, place: LeftSide) -> Result<
     }
 }
 
-/// Turns what tells the place into its value.
+/// Adds the code that turns the operands that name the place into its value.
 pub fn read(emitted: &mut List<Emitted>, line: u32, place: LeftSide) -> Result<(), Memory>
     ensures { Adds result (read_of line place) emitted.old emitted.new }
 {
@@ -59,7 +61,7 @@ pub fn read(emitted: &mut List<Emitted>, line: u32, place: LeftSide) -> Result<(
     }
 }
 
-/// Takes what tells the place and a new value on top.
+/// Adds the code that takes the operands that name the place, with a new value on top, and stores the value.
 pub fn write(emitted: &mut List<Emitted>, line: u32, place: LeftSide) -> Result<(), Memory>
     ensures { Adds result (store_of line place) emitted.old emitted.new }
 {
@@ -75,7 +77,7 @@ pub fn write(emitted: &mut List<Emitted>, line: u32, place: LeftSide) -> Result<
     }
 }
 
-// The place that a name is, if the name means this.
+// Returns the place of a name with this meaning.
 fn named(operand: &Operand) -> LeftSide
     ensures { IsVariable operand.now result }
 {
@@ -86,7 +88,7 @@ fn named(operand: &Operand) -> LeftSide
     }
 }
 
-// What a selector is, after the struct that has the field.
+// Adds the code of the struct, and returns the place of a selector with this meaning.
 fn selected(writer: &mut Writer, line: u32, operand: &Operand, e: &Expr) -> Result<LeftSide, Memory>
     ensures { Tells line result (selector line operand.now (taking writer.old.draft.tables.now e.now line writer.old.facts).piece) writer.old writer.new }
 {
@@ -114,7 +116,7 @@ fn selected(writer: &mut Writer, line: u32, operand: &Operand, e: &Expr) -> Resu
     }
 }
 
-// An element, after the slice and the index.
+// Adds the code of the slice and the index, and returns the place of an element.
 fn element(writer: &mut Writer, line: u32, a: &Expr, i: &Expr) -> Result<LeftSide, Memory>
     ensures { Tells line result (index line (taking writer.old.draft.tables.now a.now line writer.old.facts).piece (taking writer.old.draft.tables.now i.now line (skip writer.old.facts)).piece) writer.old writer.new }
 {
@@ -123,7 +125,7 @@ fn element(writer: &mut Writer, line: u32, a: &Expr, i: &Expr) -> Result<LeftSid
     Ok(LeftSide::Element)
 }
 
-// The left side has this fact, and its parts have those that come next.
+// Does this for a left side with this fact. The facts of its parts come next.
 #[cycle(placing)]
 #[tactic(auto, unfolding(golf_code_facts::specs::Expressions::taking))]
 fn whole<'a>(
@@ -156,8 +158,8 @@ fn whole<'a>(
     }
 }
 
-/// Adds what tells the place of a left side whose facts come next, passes over these, and says which kind of place
-/// it is.
+/// Adds the operands that name the place of a left side whose facts come next, and passes over these facts. Returns the
+/// kind of place.
 #[cycle(placing)]
 pub fn left_side(writer: &mut Writer, line: u32, e: &Expr) -> Result<LeftSide, Memory>
     ensures { TellsAll line result (taking writer.old.draft.tables.now e.now line writer.old.facts) (skip writer.old.facts) writer.old writer.new }

@@ -1,4 +1,4 @@
-//! Instructions that push values, and those that make slices and channels.
+//! Instructions that push values, and instructions that make slices and channels.
 
 ghost use Rattle.std.specs.Prelude.{◌≡◌, pos, IfOk};
 ghost use Rattle.golf_code_of.specs.Values.{base_zero as base_zero_of, type_zero as type_zero_of};
@@ -10,7 +10,7 @@ use golf_check_types::{Base, GoType, Layer};
 use golf_code_of::Tables;
 use golf_data::{Instr, Value};
 
-/// A number of parts as an integer.
+/// Returns a number of parts as an integer.
 ///
 /// # Errors
 ///
@@ -24,7 +24,7 @@ pub fn whole(n: usize) -> Result<i64, Memory>
     }
 }
 
-/// A number of operands, as instructions name it.
+/// Returns a number of operands as instructions name it.
 ///
 /// # Errors
 ///
@@ -38,7 +38,7 @@ pub fn count(n: usize) -> Result<u32, Memory>
     }
 }
 
-/// The zero value of a type without layers.
+/// Returns the zero value of a type without layers.
 pub fn base_zero(base: Base) -> Value
     ensures { result ≡ base_zero_of base }
 {
@@ -61,7 +61,7 @@ fn type_zero(layers: &[Layer], base: Base) -> Value
     }
 }
 
-/// The zero value of a type.
+/// Returns the zero value of a type. It is nil for a type that is not known.
 pub fn zero_value(t: &Option<GoType>) -> Value
     ensures { result ≡ zero_value_of t.now }
 {
@@ -81,7 +81,7 @@ fn new_container(layers: &[Layer], base: Base) -> Instr
     }
 }
 
-/// What makes a slice or a channel of this type.
+/// Returns the instruction that makes a slice or a channel of this type.
 pub fn makes(t: &Option<GoType>) -> Instr
     ensures { result ≡ makes_of t.now }
 {
@@ -91,7 +91,7 @@ pub fn makes(t: &Option<GoType>) -> Instr
     }
 }
 
-/// What pushes a value.
+/// Returns the instruction that pushes a value.
 pub fn push(value: Value) -> Instr
     ensures { result ≡ push_of value }
 {
@@ -105,7 +105,7 @@ pub fn push(value: Value) -> Instr
     }
 }
 
-/// The value of the constant of this number.
+/// Returns the value of the constant of this number, or nil if there is no such constant.
 pub fn constant(tables: &Tables, number: u32) -> Value
     ensures { result ≡ constant_of tables.now number }
 {

@@ -1,4 +1,4 @@
--- The code of an expression by its facts, which stand before others: one equation a construct.
+-- The code of an expression by its facts, which come first in a list, with one equation for each construct.
 use Rattle.std.specs.Prelude.{ℕ, List, [], ◌∷◌, map}
 use Rattle.golf_syntax_trees.specs.declared.expressions.Expr.{Expr}
 use Rattle.golf_syntax_trees.specs.declared.expressions.Expr.TheOpen.{Expr-F, Element-F, Integer, Text, Name, Parens}
@@ -17,25 +17,25 @@ use Rattle.golf_code_of.specs.Calls.{Argument, call}
 use Rattle.golf_code_facts.specs.Facts.{operand_in, number_in, field_in, type_in, base_in, next, next_is, past_one}
 use Rattle.golf_code_facts.specs.Facts.{skip}
 
--- the code of an expression on a line by the first facts
+-- the code of an expression on a line, by the first facts of a list
 abbrev pub Take : Type 0
 Take = ℕ → List Fact → Made
 
--- expressions one after the other, as arguments
+-- expressions one after another, as arguments
 abbrev pub arguments : ℕ → List Take → List Fact → List Argument
 arguments l [] fs = []
 arguments l (x ∷ xs) fs = record { meaning = next_is fs; piece = (x l fs).piece } ∷ arguments l xs (skip fs)
 
--- what pushes them
+-- the pieces that push the arguments
 abbrev pub pieces : List Argument → List Piece
 pieces xs = map (λ x. x.piece) xs
 
--- each value is put into the field whose place stands before its facts
+-- puts each value into its field; the place of the field comes before the facts of the value
 abbrev pub puts : ℕ → List Take → List Fact → Piece
 puts l [] fs = Piece.Empty
 puts l (x ∷ xs) fs = Piece.Then (put l (field_in (next fs)) (x l (past_one fs)).piece) (puts l xs (skip (past_one fs)))
 
--- the expression has the first of these facts, and its parts the others
+-- the code of an expression with this fact, whose parts have the facts of the list
 abbrev pub take_step : Tables → Expr-F Take Take → ℕ → Fact → List Fact → Made
 take_step t (Integer digits) l f fs = only (op l (Instr.Int (number_in (next fs))))
 take_step t (Text bytes) l f fs = only (op l (Instr.Text (text_number t.texts bytes)))
@@ -55,7 +55,7 @@ take_step t (Call g xs) l f fs = call l (next_is fs) (g l fs).piece (arguments l
 take_step t (Unary o e) l f fs = unary_operator l o (e l fs).piece
 take_step t (Binary o a b) l f fs = binary_operator l o (a l fs).piece (b l (skip fs)).piece
 
--- if facts are missing there is no code
+-- without facts there is no code
 abbrev pub with_fact : (ℕ → Fact → List Fact → Made) → Take
 with_fact k l [] = only Piece.Empty
 with_fact k l (f ∷ fs) = k l f fs
@@ -69,10 +69,10 @@ element_taking_step x = x.value
 unfoldable pub taking : Tables → Expr → Take
 taking t = fold-Expr Take Take (taking_step t) element_taking_step
 
--- the code of an expression on a line by these facts; those after it are left by `skip`
+-- the code of an expression on a line by the first of these facts; `skip` leaves the facts after them
 abbrev pub taken_at : Tables → ℕ → List Fact → Expr → Made
 taken_at t l fs e = taking t e l fs
 
--- what pushes its value
+-- the piece that pushes the value of an expression
 abbrev pub pushed_at : Tables → ℕ → List Fact → Expr → Piece
 pushed_at t l fs e = (taken_at t l fs e).piece

@@ -1,4 +1,4 @@
--- What facts say, and which of them are left.
+-- The contents of facts, and which facts are left.
 use Rattle.std.specs.Prelude.{ℕ, zero, suc, ℤ, pos, List, [], ◌∷◌, drop, Option, Some, None}
 use Rattle.golf_check_types.specs.declared.facts.Fact.{Fact}
 use Rattle.golf_check_types.specs.declared.facts.Fact.TheVariants as fact
@@ -7,13 +7,13 @@ use Rattle.golf_check_types.specs.declared.types.GoType.{GoType}
 use Rattle.golf_check_types.specs.declared.operands.Operand.{Operand}
 use Rattle.golf_check_types.specs.declared.operands.Operand.TheVariants as operand
 
--- what an expression is, or what is stored to
+-- the operand of an expression, or the target of a store
 abbrev pub operand_in : Fact → Operand
 operand_in (fact.Expression m n) = m
 operand_in (fact.Target m) = m
 operand_in _ = operand.Unknown
 
--- how many facts belong to this one, and stand after it
+-- how many facts after this one belong to it
 abbrev pub parts_in : Fact → ℕ
 parts_in (fact.Expression m n) = n
 parts_in (fact.Part n) = n
@@ -52,30 +52,30 @@ abbrev pub base_of : Option GoType → Option Base
 base_of None = None
 base_of (Some t) = Some t.base
 
--- the type of what is made, and its base
+-- the type of the value that an expression makes, and its base
 abbrev pub type_in : Fact → Option GoType
 type_in f = type_of_value (operand_in f)
 
 abbrev pub base_in : Fact → Option Base
 base_in f = base_of (type_in f)
 
--- Facts before others.
+-- The first facts of a list.
 
--- the next one; if there is none, one that says nothing
+-- the next fact; without one, a fact that says nothing
 abbrev pub next : List Fact → Fact
 next [] = fact.Part 0
 next (f ∷ fs) = f
 
--- what the next expression is, or what is stored to next
+-- the operand of the next expression, or the target of the next store
 abbrev pub next_is : List Fact → Operand
 next_is fs = operand_in (next fs)
 
--- those after the next one
+-- the facts after the next one
 abbrev pub past_one : List Fact → List Fact
 past_one [] = []
 past_one (f ∷ fs) = fs
 
--- those after the next one and all that belong to it
+-- the facts after the next one and all facts that belong to it
 abbrev pub skip : List Fact → List Fact
 skip [] = []
 skip (f ∷ fs) = drop (parts_in f) fs

@@ -1,5 +1,5 @@
--- The code of a file by its facts. No scope of a function stands in it; the types of globals, fields and functions are
--- the file's.
+-- The code of a file by its facts. No scope of a function occurs in it. The types of globals, fields and functions are
+-- those of the file's scope.
 use Rattle.std.specs.Prelude.{ℕ, ◌+◌, Bool, List, [], ◌∷◌, ◌++◌, length, map, Option, None}
 use Rattle.golf_syntax_trees.specs.declared.statements.VarContent.{VarContent}
 use Rattle.golf_syntax_trees.specs.declared.statements.VarContent.TheVariants as content
@@ -31,7 +31,7 @@ use Rattle.golf_code_facts.specs.Expressions.{pushed_at}
 use Rattle.golf_code_facts.specs.Statements.{LaidBy, PieceBy, piece_by, in_order}
 use Rattle.golf_code_facts.specs.Laying.{stmt_by}
 
--- Declarations that are passed over.
+-- Declarations that are passed over: the facts after each of them.
 
 abbrev pub past_const : Const → List Fact → List Fact
 past_const (const.Integer n) fs = past_one fs
@@ -49,7 +49,7 @@ past_decl (d.Var v) fs = past_content v.content fs
 past_decl (d.Struct l n fields) fs = fs
 past_decl (d.Func f) fs = skip fs
 
--- Constants: those of integers have a fact, their value.
+-- Constants: the fact of an integer constant is its value.
 
 abbrev pub const_by : Texts → Const → List Fact → Value
 const_by texts (const.Integer digits) fs = Value.Int (number_in (next fs))
@@ -64,9 +64,9 @@ constants_by texts (x ∷ xs) fs = constants_by texts xs (past_decl x fs)
 abbrev pub tables_by : List Decl → List Fact → Tables
 tables_by xs fs = record { texts = texts_of xs; constants = constants_by (texts_of xs) xs fs }
 
--- Functions. A fact tells their slots; then come the facts of the body.
+-- Functions. A fact gives the slots of a function; the facts of its body follow.
 
--- the body of a function, if so many functions stand before the next one that is made
+-- the body of a function; `functions` is the number of functions before the next one that is made
 abbrev pub body_by : Tables → ℕ → Func → List Fact → LaidBy
 body_by t functions f fs = in_order (map (stmt_by t) f.body)
     (record { breaks = 0; continues = 0; functions = functions }) (past_one fs)
@@ -93,13 +93,13 @@ initial_by t g l (content.Typed w e) fs =
 initial_by t g l (content.Untyped e) fs =
     piece_by (all (pushed_at t l fs e ∷ op l (Instr.StoreGlobal g) ∷ [])) (skip fs)
 
--- what ends it: `main` is called
+-- the body of function 0: the initialisers, and then the call of `main`
 abbrev pub entry_by : ℕ → ℕ → Piece → Piece
 entry_by main line initials = all (initials ∷ op line (Instr.Call main 0) ∷ op line Instr.Return ∷ [])
 
 -- Declarations in source order, in one walk.
 
--- the initialisers of globals, and functions and methods with what is made for them
+-- the initialisers of globals, the functions and methods, and the functions to be made for them
 pub record DeclsBy : Type 0 where
   pub initials : Piece
   pub functions : Functions
@@ -113,8 +113,8 @@ function_before f made xs = record xs {
       record { own = f ∷ xs.functions.own; made = made ++ xs.functions.made };
 }
 
--- if the next functions have these signatures, so many globals stand above, and so many functions before the next one
--- that is made
+-- the declarations from here on: the next functions have these signatures, g is the number of globals declared above,
+-- and n is the number of functions before the next one that is made
 abbrev pub decls_by : Tables → List Bool → List Signature → ℕ → ℕ → List Decl → List Fact → DeclsBy
 decls_by t gives ss g n [] fs = record { initials = Piece.Empty; functions = no_functions }
 decls_by t gives ss g n (d.Const l m c ∷ xs) fs = decls_by t gives ss g n xs (past_const c fs)
@@ -128,7 +128,7 @@ decls_by t gives ss g n (d.Func f ∷ xs) fs =
 
 -- The whole code.
 
--- function 0, functions and methods, and those that are made, if `main` has this number and this line
+-- function 0, the functions and methods, and the functions that are made; `main` has this number and this line
 abbrev pub all_functions : List Bool → ℕ → ℕ → DeclsBy → List Function
 all_functions gives main line xs = function gives 0 0 line (entry_by main line xs.initials)
     ∷ (xs.functions.own ++ map (made_function gives) xs.functions.made)
@@ -149,7 +149,7 @@ file_by t f xs facts = decls_by t (giving f) f.functions 0 (length f.functions +
 abbrev pub code_by : Tables → FileScope → List Decl → List Fact → Code
 code_by t f xs facts = code_of t f (main_line xs) (file_by t f xs facts)
 
--- the code of a file by what was written down of it
+-- the code of a file by its facts
 unfoldable pub CodeBy : File → List Fact → Code
 CodeBy file facts = code_by (tables_by file.declarations facts)
     (file_scope (with_imports no_imports file.imports) file.declarations) file.declarations facts

@@ -1,4 +1,4 @@
--- The laws of code by facts, as statements: it is the code of `golf_code_of`, for all trees, also for those that break
+-- The laws of code by facts, as statements: it is the code of `golf_code_of`, for all trees, even for those that break
 -- rules.
 use Rattle.std.specs.Prelude.{◌≡◌, ℕ, List, ◌++◌}
 use Rattle.golf_syntax_trees.specs.declared.expressions.Expr.{Expr}

@@ -1,4 +1,4 @@
--- The code of a statement by its facts: one equation a construct.
+-- The code of a statement by its facts, with one equation for each construct.
 use Rattle.golf_syntax_trees.specs.declared.statements.Stmt.{Stmt}
 use Rattle.golf_syntax_trees.specs.declared.statements.Clause.{Clause}
 use Rattle.golf_syntax_trees.specs.declared.statements.Clause.TheOpen as S

@@ -21,7 +21,7 @@ use Rattle.golf_code_facts.specs.Expressions.{pushed_at}
 use Rattle.golf_code_facts.specs.Statements.{LayBy, PieceBy, by, piece_by, stores, past_two, after, in_order}
 use Rattle.golf_code_facts.specs.Statements.{optional_by}
 
--- inside of a loop, which `break` and `continue` leave by these targets
+-- the inside of a loop; `break` and `continue` leave it by these targets
 abbrev pub in_loop : ℕ → ℕ → LayBy → LayBy
 in_loop breaks continues x a fs = x (record { breaks = breaks; continues = continues; functions = a.functions }) fs
 
@@ -35,7 +35,7 @@ while t l test x a fs =
     let g = x a (skip fs) in
     by (wrapped (λ p. round (all (pushed_at t l fs test ∷ Piece.Unless l 1 ∷ p ∷ Piece.Exit l 0 ∷ []))) g.laid) g.left
 
--- `for first; test; post { }`: the facts of the post statement stand before those of the body, after their number
+-- `for first; test; post { }`: the facts of the post statement come before those of the body, after their number
 
 abbrev pub optional_test : Tables → ℕ → Option Expr → List Fact → PieceBy
 optional_test t l None fs = piece_by Piece.Empty fs
@@ -51,7 +51,7 @@ stepping t l test post body a fs =
 abbrev pub steps : Tables → ℕ → Option Simple → Option Expr → Option Simple → List LayBy → LayBy
 steps t l first test post body = after (optional_by t first) (stepping t l test post (in_loop 2 0 (in_order body)))
 
--- Range: after the facts of the expression one tells the first hidden slot, and then one each name.
+-- Range: after the facts of the expression comes the fact of the first hidden slot, and then one fact for each name.
 
 abbrev pub past_names : RangeNames → List Fact → List Fact
 past_names range.Neither fs = fs
@@ -71,7 +71,7 @@ slice_names t l h range.Neither fs = Piece.Empty
 slice_names t l h (range.One n) fs = index_name t l h n fs
 slice_names t l h (range.Two n m) fs = all (index_name t l h n fs ∷ element_name t l h m (past_one fs) ∷ [])
 
--- what was received is stored, or dropped
+-- the received value is stored, or dropped
 abbrev pub channel_name : Tables → ℕ → RangeNames → List Fact → Piece
 channel_name t l range.Neither fs = op l Instr.Drop
 channel_name t l (range.One n) fs = stores l t (next_is fs)

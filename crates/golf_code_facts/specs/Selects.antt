@@ -16,8 +16,8 @@ use Rattle.golf_code_facts.specs.Expressions.{pushed_at}
 use Rattle.golf_code_facts.specs.Statements.{LayBy, PieceBy, by, piece_by, stores_next, stores_two, past_two, after}
 use Rattle.golf_code_facts.specs.Statements.{in_order}
 
--- A clause: what it communicates, none for `default`, what pushes its operands, on the line of `select`, the code after
--- the choice, and its own line.
+-- A clause: its kind (none for `default`), the code of its operands on the line of `select`, the code after the choice,
+-- and its own line.
 pub record ClauseBy : Type 0 where
   pub kind : Option CaseKind
   pub operands : ℕ → List Fact → Piece
@@ -33,7 +33,7 @@ operands_by t (comm.Define n e) l fs = pushed_at t l fs e
 operands_by t (comm.Assign n e) l fs = pushed_at t l fs e
 operands_by t (comm.DefineReceived n m e) l fs = pushed_at t l fs e
 
--- past its operands: what a chosen receive does with what it was given
+-- after the operands: the code of a chosen receive for the received values
 abbrev pub takes_in : Tables → ℕ → Communication → List Fact → PieceBy
 takes_in t k (comm.Send c e) fs = piece_by Piece.Empty (skip (skip fs))
 takes_in t k (comm.Receive e) fs = piece_by (op k Instr.Drop) (skip fs)
@@ -78,7 +78,7 @@ operands_all l (c ∷ cs) fs = c.operands l fs ∷ operands_all l cs (skip fs)
 abbrev pub choice : ℕ → List ClauseBy → List Fact → Piece
 choice l cs fs = all (all (operands_all l cs fs) ∷ Piece.Choose l (cases_from 0 cs) (default_from 0 cs) ∷ [])
 
--- clauses after p, in which the first of them begins at target 0
+-- the clauses after p, seen from which the first of them begins at target 0
 abbrev pub clauses_lay : Piece → List ClauseBy → LayBy
 clauses_lay p [] a fs = by (laid p) fs
 clauses_lay p (c ∷ cs) a fs =

@@ -21,7 +21,7 @@ use Rattle.golf_code_of.specs.Statements.{updates, assigns}
 use Rattle.golf_code_facts.specs.Facts.{next_is, past_one, skip, skip_all}
 use Rattle.golf_code_facts.specs.Expressions.{taking, taken_at, pushed_at, arguments}
 
--- the code of a statement and what is made for it, and the facts after those that it was made by
+-- the code of a statement with the functions to be made for it, and the facts that are left
 pub record LaidBy : Type 0 where
   pub laid : Laid
   pub left : List Fact
@@ -32,7 +32,7 @@ LayBy = Around → List Fact → LaidBy
 abbrev pub by : Laid → List Fact → LaidBy
 by x fs = record { laid = x; left = fs }
 
--- code for which no function is made
+-- code that needs no function to be made, and the facts that are left
 pub record PieceBy : Type 0 where
   pub piece : Piece
   pub left : List Fact
@@ -48,7 +48,7 @@ by_piece x a fs = let p = x fs in by (laid p.piece) p.left
 abbrev pub then : LayBy → LayBy → LayBy
 then x y a fs = let f = x a fs in let g = y (past a f.laid) f.left in by (follow f.laid g.laid) g.left
 
--- code for which no function is made, and then a statement
+-- code that needs no function to be made, and then a statement
 abbrev pub after : (List Fact → PieceBy) → LayBy → LayBy
 after x y a fs = let f = x fs in let g = y a f.left in by (wrapped (λ p. Piece.Then f.piece p) g.laid) g.left
 
@@ -58,18 +58,18 @@ in_order (x ∷ xs) a fs = then x (in_order xs) a fs
 
 -- Simple statements.
 
--- what is on top is stored under a name that is this, or dropped if it is `_`
+-- stores the top value under a name with this meaning, or drops it if the name is `_`
 abbrev pub stores : ℕ → Tables → Operand → Piece
 stores l t m = (name l t m).store
 
--- under the name whose fact is the next one
+-- stores the top value under the name of the next fact
 abbrev pub stores_next : ℕ → Tables → List Fact → PieceBy
 stores_next l t fs = piece_by (stores l t (next_is fs)) (past_one fs)
 
 abbrev pub past_two : List Fact → List Fact
 past_two fs = past_one (past_one fs)
 
--- two values under the next two names; that of the second stands on top
+-- stores two values under the next two names; the value of the second name is on top
 abbrev pub stores_two : ℕ → Tables → List Fact → Piece
 stores_two l t fs = all (stores l t (next_is (past_one fs)) ∷ stores l t (next_is fs) ∷ [])
 
@@ -132,7 +132,7 @@ continue_lay l a fs = by (laid (Piece.Exit l a.continues)) fs
 
 -- If.
 
--- a condition, and what stands after it; if it is false, it goes on at target 0
+-- a condition and the code after it; if the condition is false, it goes on at target 0
 abbrev pub after_test : Tables → ℕ → Expr → LayBy → LayBy
 after_test t l test x a fs =
     let g = x a (skip fs) in
@@ -144,7 +144,7 @@ then_lay t l first test body = after (optional_by t first) (after_test t l test 
 abbrev pub ends_here : LayBy → LayBy
 ends_here x a fs = let g = x (within 1 a) fs in by (wrapped Piece.Block g.laid) g.left
 
--- one branch or the other
+-- the code of the two branches of an `if`
 abbrev pub branches : ℕ → Laid → Laid → Laid
 branches l x y = record {
   piece = Piece.Block (all (Piece.Block (all (x.piece ∷ Piece.Exit l 1 ∷ [])) ∷ y.piece ∷ []));

@@ -1,4 +1,4 @@
-//! Whether functions are those of a file.
+//! The comparison of the functions of a code with those of a file's own code. `golf_meaning` uses it.
 
 ghost use Rattle.std.specs.Prelude.{◌↔◌, IfOk, IsTrue};
 ghost use Rattle.golf_code_facts.specs.Files.{tables_by, file_by};
@@ -15,7 +15,7 @@ use golf_data::{Function, same_lines};
 use golf_syntax_trees::Decl;
 use std::alloc::Global;
 
-/// Whether both have the same parameters, slots and body.
+/// Returns whether both functions have the same parameters, slots and body.
 pub fn has_same_body(function: &Function, other: &Function) -> bool
     ensures { IsTrue result ↔ HasSameBody function.now other.now }
 {
@@ -42,8 +42,9 @@ fn begin_as(walk: &mut Walk, decls: &[Decl], functions: &[Function]) -> Result<b
     Ok(true)
 }
 
-/// Whether the functions and methods of a file, by the facts of all its declarations, have the same parameters, slots
-/// and bodies as the first of these functions, in source order. Each is dropped once it is compared.
+/// Returns whether the first of these functions, in source order, have the same parameters, slots and bodies as the
+/// functions and methods of the file, by the facts of all its declarations. Each made function is dropped once it is
+/// compared.
 pub fn begin_with_code(
     alloc: Global,
     file: &FileScope,

@@ -1,4 +1,4 @@
-//! The values of constants. Those of integers stand in their facts.
+//! The values of constants. The value of an integer constant is in its fact.
 
 ghost use Rattle.std.specs.Prelude.{◌≡◌, IfOk, OnOk};
 ghost use Rattle.golf_code_facts.specs.Files.{past_const, past_content, const_by, constants_by, tables_by};
@@ -24,7 +24,7 @@ fn const_value(texts: &TextTable, constant: &Const, facts: &Facts) -> Result<Val
     }
 }
 
-/// Passes over the value of a constant.
+/// Passes over the fact of a constant, if it has one.
 pub fn pass_const(facts: &mut Facts, constant: &Const)
     ensures { facts.new ≡ past_const constant.now facts.old }
 {
@@ -84,7 +84,7 @@ fn constants_of(
     Ok(constants)
 }
 
-/// What the code of a file looks up.
+/// Returns the tables of a file: its texts and the values of its constants.
 pub fn tables(alloc: Global, decls: &[Decl], facts: Facts) -> Result<Tables, Memory>
     ensures { IfOk result (λ t. t ≡ tables_by decls.now facts.entry) }
 {

@@ -1,4 +1,7 @@
-//! The code of a file.
+//! The code of a file: function 0, its functions and methods, and the functions that are made.
+//!
+//! The facts are used twice: once for the values of constants, and once for the code of all
+//! declarations.
 
 ghost use Rattle.std.specs.Prelude.{◌≡◌, IfOk};
 ghost use Rattle.golf_code_of.specs.Files.{giving as giving_of, main_number as main_number_of};
@@ -19,7 +22,7 @@ use golf_data::{Code, Function, Instr};
 use golf_syntax_trees::Decl;
 use std::alloc::Global;
 
-// Function 0, those of the file, and those that are made.
+// Returns function 0, the functions of the file, and the functions that are made.
 fn functions(
     alloc: Global,
     tables: &Tables,
@@ -33,7 +36,7 @@ fn functions(
     let gives = giving(alloc, file)?;
     let gives = gives.as_slice();
     let mut functions = List::new(alloc);
-    // Keeps the place of function 0, whose code is whole when the walk ends.
+    // Keeps the place of function 0, whose code is whole only when the walk ends.
     functions.push(function(alloc, gives, 0, 0, line, &[])?)?;
     let mut walk = start(alloc, tables, gives, file, facts)?;
     walk_decls(&mut walk, decls, &mut functions)?;
@@ -49,7 +52,7 @@ fn functions(
     Ok(functions)
 }
 
-/// The code of the declarations of a file, by the facts of them all.
+/// Returns the code of the declarations of a file, by the facts of all of them.
 pub fn code(alloc: Global, file: &FileScope, decls: &[Decl], facts: &[Fact]) -> Result<Code, Memory>
     ensures { IfOk result (λ code. code ≡ code_by (tables_by decls.now facts.now) file.now decls.now facts.now) }
 {

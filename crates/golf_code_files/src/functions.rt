@@ -1,4 +1,6 @@
-//! The functions and methods of a file.
+//! The code of the functions and methods of a file.
+//!
+//! A fact gives the slots of a function. Each body ends with a return, even if it cannot be reached.
 
 ghost use Rattle.std.specs.Prelude.{◌≡◌, Some, IfOk};
 ghost use Rattle.golf_code_layout.specs.Emission.{Adds};
@@ -18,7 +20,7 @@ use golf_code_targets::function;
 use golf_data::{Function, Instr};
 use golf_syntax_trees::Func;
 
-// Takes the fact of a function: how many slots hold receiver and parameters, and how many slots it has.
+// Takes the fact of a function. Returns how many slots hold receiver and parameters, and how many slots there are.
 fn take_slots(facts: &mut Facts) -> (u32, u32)
     ensures arguments { result.0 ≡ arguments_in (next facts.old) }
     ensures slots { result.1 ≡ slots_in (next facts.old) }
@@ -36,7 +38,7 @@ fn take_slots(facts: &mut Facts) -> (u32, u32)
     }
 }
 
-// The return that ends a body.
+// Adds the return that ends a body.
 fn last_return(
     emitted: &mut List<Emitted>,
     line: u32,
@@ -53,7 +55,7 @@ fn last_return(
     }
 }
 
-// The return that ends the function with the next of these signatures.
+// Adds the return that ends the function with the next of these signatures.
 fn next_return(
     emitted: &mut List<Emitted>,
     line: u32,
@@ -76,7 +78,7 @@ fn past(signatures: &[Signature]) -> &[Signature]
     }
 }
 
-/// Walks over a function or method, which has the next signature.
+/// Walks over a function or method, which has the next signature, and returns its code.
 pub fn own_function(walk: &mut Walk, func: &Func) -> Result<Function, Memory>
     ensures { IfOk result (λ own. Leads (Some own) walk.old (decl_as.Func func.now) walk.new) }
 {

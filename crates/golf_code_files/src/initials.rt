@@ -1,4 +1,6 @@
-//! What globals begin with.
+//! The code of the initialisers of globals, which is part of function 0.
+//!
+//! A global without an initialiser has no code: it begins with its zero value.
 
 ghost use Rattle.golf_code_facts.specs.Files.{initial_by};
 ghost use Rattle.golf_syntax_trees.specs.declared.statements.VarContent.TheVariants as content_as;
@@ -10,7 +12,7 @@ use golf_code_layout::op;
 use golf_data::Instr;
 use golf_syntax_trees::{Expr, VarContent};
 
-// A value is pushed and stored.
+// Adds the code that pushes a value and stores it in a global.
 fn value(writer: &mut Writer, line: u32, global: u32, e: &Expr) -> Result<(), Memory>
     ensures { Does result (initial_by writer.old.draft.tables.now global line (content_as.Untyped e.now) writer.old.facts) writer.old writer.new }
 {

@@ -1,4 +1,5 @@
-//! The code of a file, written by what the checker wrote down of it.
+//! The code of a file, written by the facts that the checker recorded, in one walk over the
+//! declarations.
 #![tactic(auto)]
 
 mod comparing;

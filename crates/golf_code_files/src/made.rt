@@ -1,4 +1,6 @@
-//! The functions that are made for `go` and `defer`.
+//! The functions that are made for `go` and `defer` of built-in calls.
+//!
+//! Each one pushes its parameters and does its operation. It gives no value.
 
 ghost use Rattle.std.specs.Prelude.{◌≡◌, ◌++◌, ◌+◌, map, length, IfOk, OnOk};
 ghost use Rattle.golf_code_layout.specs.Emission.{Adds};
@@ -14,7 +16,7 @@ use golf_code_targets::function;
 use golf_data::{Function, Instr};
 use std::alloc::Global;
 
-// The parameters are pushed.
+// Adds the code that pushes the parameters.
 fn loads(
     emitted: &mut List<Emitted>,
     line: u32,
@@ -50,7 +52,7 @@ fn made_function(alloc: Global, gives: &[bool], making: &Making) -> Result<Funct
     function(alloc, gives, count, count, making.line, emitted.as_slice())
 }
 
-/// Adds the functions that are made.
+/// Adds the functions that are made to a list of functions.
 pub fn made_functions(
     alloc: Global,
     gives: &[bool],

@@ -1,4 +1,4 @@
-//! Lines and numbers of functions.
+//! The line and the number of `main`, and numbers of functions.
 
 ghost use Rattle.std.specs.Prelude.{◌≡◌, ◌+◌, false, length, is_some, IfOk};
 ghost use Rattle.golf_check_types.specs.Scopes.{meaning_in};
@@ -11,7 +11,7 @@ use golf_check_types::{Entity, FileScope};
 use golf_syntax_trees::Decl;
 use std::alloc::Global;
 
-// What a name of the file means.
+// Returns the meaning of a name of the file, or `None`.
 fn meaning_of(file: &FileScope, name: &[u8]) -> Option<Entity>
     ensures { result ≡ meaning_in file.now name.now }
 {
@@ -33,14 +33,14 @@ fn number_of_function(meaning: Option<Entity>) -> Result<u32, Memory>
     }
 }
 
-/// The number of `main`.
+/// Returns the number of `main`, or 0 if there is none.
 pub fn main_number(file: &FileScope) -> Result<u32, Memory>
     ensures { IfOk result (λ n. n ≡ main_number_of file.now) }
 {
     number_of_function(meaning_of(file, b"main".as_slice()))
 }
 
-/// The line of `main`, or 0 if it is not declared.
+/// Returns the line of `main`, or 0 if it is not declared.
 pub fn main_line(decls: &[Decl]) -> u32
     ensures { result ≡ main_line_of decls.now }
 {
@@ -52,7 +52,7 @@ pub fn main_line(decls: &[Decl]) -> u32
     0
 }
 
-/// Which functions give a value.
+/// Returns for function 0 and each function of the file whether it gives a value.
 pub fn giving(alloc: Global, file: &FileScope) -> Result<List<bool>, Memory>
     ensures { IfOk result (λ gives. gives ≡ giving_of file.now) }
 {
@@ -65,7 +65,7 @@ pub fn giving(alloc: Global, file: &FileScope) -> Result<List<bool>, Memory>
     Ok(gives)
 }
 
-/// The number of the first function that is made.
+/// Returns the number of the first function that is made.
 pub fn first_made(file: &FileScope) -> Result<u32, Memory>
     ensures { IfOk result (λ n. n ≡ length file.now.functions + 1) }
 {

@@ -9,7 +9,7 @@ use golf_code_expressions::zero_value;
 use golf_data::Value;
 use std::alloc::Global;
 
-/// The zero values of types.
+/// Returns the zero values of types.
 pub fn zero_values(alloc: Global, types: &[Option<GoType>]) -> Result<List<Value>, Memory>
     ensures { IfOk result (λ vs. vs ≡ map zero_value_of types.now) }
 {
@@ -20,7 +20,7 @@ pub fn zero_values(alloc: Global, types: &[Option<GoType>]) -> Result<List<Value
     Ok(values)
 }
 
-/// The zero values of the fields of each struct.
+/// Returns the zero values of the fields of each struct.
 pub fn struct_zeros(
     alloc: Global,
     structs: &[List<Option<GoType>>],

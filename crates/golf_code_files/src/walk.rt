@@ -1,5 +1,5 @@
-//! One walk over the declarations of a file and their facts, which writes function 0, the functions and methods, and
-//! what is made for them.
+//! One walk over the declarations of a file and their facts. It writes function 0, the functions and methods, and
+//! records the functions to be made for them.
 
 ghost use Rattle.std.specs.Prelude.{◌≡◌, [], IfOk, OnOk};
 ghost use Rattle.golf_code_of.specs.Files.{giving};
@@ -19,22 +19,22 @@ use golf_syntax_trees::Decl;
 use std::alloc::Global;
 use std::mem::swap;
 
-/// How far a walk has come.
+/// The state of a walk.
 #[derive(Drop)]
 pub struct Walk<'a> {
-    /// The facts that are left, and what is made for the functions so far.
+    /// The facts that are left, and the functions to be made for the functions so far.
     pub writer: Writer<'a>,
     /// The initialisers of the globals so far.
     pub initials: List<Emitted>,
-    /// Which functions give a value.
+    /// Whether each function gives a value.
     pub gives: &'a [bool],
-    /// Those of the functions that follow.
+    /// The signatures of the functions that follow.
     pub signatures: &'a [Signature],
-    /// How many globals stand above the next declaration.
+    /// How many globals are above the next declaration.
     pub globals: u32,
 }
 
-/// Begins a walk over the declarations of a file, whose facts these are.
+/// Begins a walk over the declarations of a file with these facts.
 pub fn start<'a>(
     alloc: Global,
     tables: &'a Tables,
@@ -85,7 +85,7 @@ pub fn walk_decl(walk: &mut Walk, decl: &Decl) -> Result<Option<Function>, Memor
     }
 }
 
-/// Walks over declarations, and adds the functions and methods.
+/// Walks over declarations, and adds their functions and methods to a list.
 pub fn walk_decls(
     walk: &mut Walk,
     decls: &[Decl],

@@ -1,4 +1,4 @@
--- The most operands that stand at a place of a piece to which its instructions lead.
+-- The most operands that a frame has at any reachable place of a piece.
 use Rattle.std.specs.Prelude.{ℕ, zero, suc, ◌+◌, ◌-◌, Bool, cond, max, List, [], ◌∷◌, Option, Some, None, unwrap_or}
 use Rattle.std.specs.Option.{option_map}
 use Rattle.golf_data.specs.declared.code.Instr.{Instr}
@@ -6,17 +6,17 @@ use Rattle.golf_data.specs.declared.code.SelectCase.{SelectCase}
 use Rattle.golf_data.specs.Effects.{taken, left, goes_on, case_left, cases_taken}
 use Rattle.golf_code_layout.specs.Piece.{Piece}
 
--- How many operands stand at a place: none if nothing leads there.
+-- the number of operands at a place; 0 if the place is not reached
 
 abbrev pub height : Option ℕ → ℕ
 height h = unwrap_or h 0
 
--- a place to which two ways lead has as many by either
+-- the operands at a place that two paths can reach: the first path decides, since both bring the same number
 abbrev pub met : Option ℕ → Option ℕ → Option ℕ
 met None other = other
 met (Some n) other = Some n
 
--- the targets, if one of them is led to with so many
+-- the targets after a jump to target k with h operands
 abbrev pub reached : List (Option ℕ) → ℕ → Option ℕ → List (Option ℕ)
 reached [] k h = []
 reached (t ∷ ts) zero h = met t h ∷ ts
@@ -37,7 +37,7 @@ abbrev pub behind : List Bool → Instr → Option ℕ → Option ℕ
 behind gives i None = None
 behind gives i (Some n) = through gives i n
 
--- the most operands in a piece, those after it, and those at the targets around
+-- the most operands in a piece, the operands after it, and the operands at the targets around
 pub record Flow : Type 0 where
   pub most : ℕ
   pub behind : Option ℕ
@@ -46,7 +46,7 @@ pub record Flow : Type 0 where
 abbrev pub above : Option ℕ → ℕ → Option ℕ
 above h n = option_map (λ below. below + n) h
 
--- the cases of a `select`, on top of these
+-- the cases of a `select`, on top of these operands
 abbrev pub chosen : Option ℕ → List SelectCase → List (Option ℕ) → Flow
 chosen below [] ts = record { most = 0; behind = None; targets = ts }
 chosen below (c ∷ cs) ts =
@@ -57,7 +57,7 @@ abbrev pub defaulted : Option ℕ → Option ℕ → Flow → Flow
 defaulted below None f = f
 defaulted below (Some k) f = record f { targets = reached f.targets k below }
 
--- a piece that begins with so many operands
+-- a piece that begins with h operands
 abbrev pub flow : List Bool → Piece → Option ℕ → List (Option ℕ) → Flow
 flow gives Piece.Empty h ts = record { most = 0; behind = h; targets = ts }
 flow gives (Piece.Op i line) h ts = let after =

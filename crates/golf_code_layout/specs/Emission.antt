@@ -1,11 +1,11 @@
--- Structured code as a flat list, with a part where a block begins and where one ends.
+-- Structured code as a flat list of parts; one part begins a block and one ends it.
 use Rattle.std.specs.Prelude.{◌≡◌, Result, Ok, Err, List, [], ◌∷◌, ◌++◌}
 use Rattle.golf_base.specs.declared.Memory.{Memory}
 use Rattle.golf_code_layout.specs.Piece.{Piece}
 use Rattle.golf_code_layout.specs.declared.emitted.Emitted.{Emitted}
 use Rattle.golf_code_layout.specs.declared.emitted.Emitted.TheVariants as emit
 
--- these parts, and then a piece
+-- these parts, and then those of a piece
 abbrev pub onto : List Emitted → Piece → List Emitted
 onto ms Piece.Empty = ms
 onto ms (Piece.Op i line) = ms ++ emit.Op i line ∷ []
@@ -20,13 +20,13 @@ onto ms (Piece.Again p) = onto (ms ++ emit.Again ∷ []) p ++ emit.End ∷ []
 abbrev pub flat : Piece → List Emitted
 flat p = onto [] p
 
--- What the calls of the generator tell: the parts grow by a piece. Out of memory, they tell nothing.
+-- The clause of the generator's calls: the parts grow by a piece. Without memory it says nothing.
 
 abbrev pub Adds : {A : Type 0} → Result A Memory → Piece → List Emitted → List Emitted → Type 0
 Adds (Ok a) p old new = new ≡ onto old p
 Adds (Err fault) p old new = Unit {0}
 
--- by one part
+-- the parts grow by one part
 abbrev pub Grows : {A : Type 0} → Result A Memory → Emitted → List Emitted → List Emitted → Type 0
 Grows (Ok a) m old new = new ≡ old ++ m ∷ []
 Grows (Err fault) m old new = Unit {0}

@@ -1,5 +1,5 @@
--- Structured code: what a construct's code is, before it has a place. A jump names its target by how many others stand
--- around it further in.
+-- Structured code: the code of a construct before it has a place. A jump names its target by a number: the innermost
+-- target around the jump has number 0.
 use Rattle.std.specs.Prelude.{ℕ, zero, suc, ◌+◌, List, [], ◌∷◌, ◌++◌, map, Option}
 use Rattle.std.specs.Option.{option_map}
 use Rattle.golf_data.specs.declared.code.Instr.{Instr}
@@ -17,9 +17,9 @@ pub data Piece : Type 0 where
   Unless : (line k : ℕ) → Piece
   -- a `select`: each case goes on at the target of its number, and so does `default`
   Choose : (line : ℕ) (cases : List SelectCase) (otherwise : Option ℕ) → Piece
-  -- in p, target 0 is the place after p, and the others have numbers one higher
+  -- in p, target 0 is the place after p, and the outer targets have numbers one higher
   Block : (p : Piece) → Piece
-  -- the same, if target 0 is the beginning of p
+  -- the same, except that target 0 is the beginning of p
   Again : (p : Piece) → Piece
 
 -- how many instructions a piece has
@@ -33,7 +33,7 @@ size (Piece.Choose line cases otherwise) = 1
 size (Piece.Block p) = size p
 size (Piece.Again p) = size p
 
--- one after the other
+-- the pieces one after another
 abbrev pub all : List Piece → Piece
 all [] = Piece.Empty
 all (p ∷ ps) = Piece.Then p (all ps)
@@ -54,7 +54,7 @@ target (t ∷ ts) (suc k) = target ts k
 abbrev pub case_at : List ℕ → SelectCase → SelectCase
 case_at ts c = record { kind = c.kind; target = target ts c.target }
 
--- the code at a place, if the targets around have these places, the innermost first
+-- the code at a place; the targets around have these places, the innermost first
 abbrev pub placed : Piece → ℕ → List ℕ → List CodeLine
 placed Piece.Empty at ts = []
 placed (Piece.Op i line) at ts = on i line ∷ []

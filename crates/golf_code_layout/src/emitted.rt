@@ -1,18 +1,21 @@
-//! The parts of structured code.
+//! The parts of structured code, as the generator writes them one after another.
+//!
+//! A block begins and ends by a part of its own. No part has an address.
 
 use golf_base::List;
 use golf_data::{Instr, SelectCase};
 
-/// A part of structured code. A jump names its target by how many others stand around it further in.
+/// A part of structured code. A jump names its target by a number: the innermost target around the
+/// jump has number 0.
 #[derive(Drop)]
 pub enum Emitted {
     /// An instruction without a target, and its line.
     Op(Instr, u32),
-    /// Goes on at a target: its line, and which target.
+    /// Goes on at a target. The fields are the line and the number of the target.
     Exit(u32, u32),
-    /// The same if the operand is false.
+    /// The same, if the operand is false.
     Unless(u32, u32),
-    /// A `select` on this line: each case goes on at the target of its number, and so does `default`.
+    /// A `select` on this line. Each case, and `default`, goes on at the target of its number.
     Choose(u32, List<SelectCase>, Option<u32>),
     /// A block begins whose target is its end.
     Block,

@@ -1,9 +1,12 @@
-//! Structured code without addresses, where it is placed, and the flat list that the generator
-//! writes for it from left to right.
+//! Structured code without addresses: its pieces, where they are placed, and the flat list of
+//! parts.
 //!
-//! The definitions stand in `specs/`: what a construct's code is is a piece, in which a jump names
-//! the block that it leaves or begins anew; the code of a whole body is its piece, placed; and what
-//! a list is after a piece was added to it.
+//! - A piece is the code of a construct. A jump in it names the block that it leaves or begins
+//! anew.
+//! - The code of a whole body is its piece, placed.
+//! - The generator writes the parts of a piece from left to right at the end of a list.
+//!
+//! The definitions are in `specs/`.
 #![tactic(auto)]
 
 mod emitted;
@@ -14,7 +17,7 @@ ghost use Rattle.golf_code_layout.specs.Laws.{PlacedSize};
 pub use emitted::Emitted;
 pub use writing::{again, block, end, exit, op, unless};
 
-/// A piece has its size wherever it is placed.
+/// States that a piece has its size wherever it is placed.
 pub fn placed_pieces_have_their_size()
     ensures { PlacedSize }
 {}

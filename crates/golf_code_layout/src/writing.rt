@@ -1,4 +1,6 @@
-//! One part at the end of a list.
+//! The calls of the generator: each adds one part at the end of a list.
+//!
+//! On `Err` nothing is said of the list, since the generator gives it up then.
 
 ghost use Rattle.golf_code_layout.specs.Piece.{Piece, op as op_of};
 ghost use Rattle.golf_code_layout.specs.Emission.{Adds, Grows};
@@ -8,7 +10,7 @@ use crate::emitted::Emitted;
 use golf_base::{List, Memory};
 use golf_data::Instr;
 
-/// An instruction without a target.
+/// Adds an instruction without a target. On `Err` nothing is said of the list.
 pub fn op(emitted: &mut List<Emitted>, line: u32, instr: Instr) -> Result<(), Memory>
     ensures { Adds result (op_of line instr) emitted.old emitted.new }
 {
@@ -16,7 +18,7 @@ pub fn op(emitted: &mut List<Emitted>, line: u32, instr: Instr) -> Result<(), Me
     Ok(())
 }
 
-/// Goes on at a target.
+/// Adds a jump to a target. On `Err` nothing is said of the list.
 pub fn exit(emitted: &mut List<Emitted>, line: u32, target: u32) -> Result<(), Memory>
     ensures { Adds result (Piece.Exit line target) emitted.old emitted.new }
 {
@@ -24,7 +26,8 @@ pub fn exit(emitted: &mut List<Emitted>, line: u32, target: u32) -> Result<(), M
     Ok(())
 }
 
-/// Goes on at a target if the operand is false.
+/// Adds a jump to a target that is taken if the operand is false. On `Err` nothing is said of the
+/// list.
 pub fn unless(emitted: &mut List<Emitted>, line: u32, target: u32) -> Result<(), Memory>
     ensures { Adds result (Piece.Unless line target) emitted.old emitted.new }
 {
@@ -32,7 +35,7 @@ pub fn unless(emitted: &mut List<Emitted>, line: u32, target: u32) -> Result<(),
     Ok(())
 }
 
-/// A block begins whose target is its end.
+/// Begins a block whose target is its end. On `Err` nothing is said of the list.
 pub fn block(emitted: &mut List<Emitted>) -> Result<(), Memory>
     ensures { Grows result emit.Block emitted.old emitted.new }
 {
@@ -40,7 +43,7 @@ pub fn block(emitted: &mut List<Emitted>) -> Result<(), Memory>
     Ok(())
 }
 
-/// A block begins whose target is its beginning.
+/// Begins a block whose target is its beginning. On `Err` nothing is said of the list.
 pub fn again(emitted: &mut List<Emitted>) -> Result<(), Memory>
     ensures { Grows result emit.Again emitted.old emitted.new }
 {
@@ -48,7 +51,7 @@ pub fn again(emitted: &mut List<Emitted>) -> Result<(), Memory>
     Ok(())
 }
 
-/// A block ends.
+/// Ends a block. On `Err` nothing is said of the list.
 pub fn end(emitted: &mut List<Emitted>) -> Result<(), Memory>
     ensures { Grows result emit.End emitted.old emitted.new }
 {

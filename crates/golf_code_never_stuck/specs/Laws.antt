@@ -26,15 +26,15 @@ abbrev pub ReachedTyped : Type 0
 ReachedTyped = (code : Code) (s : State) → Reached code s → (types : Typing) × (known : List (ℕ × ValueType))
     × HasShapes code types × WellTyped types known s
 
--- and is not stuck before its ending: the turn of any number has changes
+-- such a state is not stuck before its ending: the turn of any number has changes
 abbrev pub ReachedMovesOn : Type 0
 ReachedMovesOn = (code : Code) (s : State) (c : ℕ) → Reached code s → ending s ≡ None → MovesOn code s c
 
--- no state that moves lead on to is stuck before its ending
+-- no state that moves reach from s is stuck before its ending
 abbrev pub GoesOn : Code → State → Type 0
 GoesOn code s = (t : State) (c : ℕ) → LeadsOn code s t → ending t ≡ None → MovesOn code t c
 
--- what moves lead on to from a reached state is reached, so it is never stuck
+-- moves from a reached state reach only reached states, so none of them is stuck
 abbrev pub ReachedGoesOn : Type 0
 ReachedGoesOn = (code : Code) (s : State) → Reached code s → ((t : State) → LeadsOn code s t → Reached code t)
     × GoesOn code s
@@ -51,12 +51,12 @@ ReachedRecoveryUnseen = (code : Code) (s : State) (recover : Bool) → Reached c
     (removed s recover (sets_finalisers code)))
     × GoesOn code (real_collect s recover (sets_finalisers code))
 
--- on the machine that frees and reclaims nothing no state that events lead on to is stuck before its ending
+-- on the plain machine no state that events reach from s is stuck before its ending
 abbrev pub PlainGoesOn : Code → State → Type 0
 PlainGoesOn code s = (events : List Event) (c : ℕ) → ending (run code s events) ≡ None
     → MovesOn code (run code s events) c
 
--- so it is for the code of a well-formed file that breaks no rule, from its opening state and from the state right
+-- this holds for the code of a well-formed file that breaks no rule, from its opening state and from the state right
 -- before each collection of a run
 abbrev pub PlainRunsGoOn : Type 0
 PlainRunsGoOn = (file : File) → IsProgram file

@@ -1,5 +1,5 @@
--- The states that the code of a typed file reaches, and those that moves lead on to (Go specification, "Program
--- execution"; profile).
+-- The states that the code of a typed file reaches, and the states that moves reach from a state (Go specification,
+-- "Program execution"; this runtime's rule).
 use Rattle.std.specs.Prelude.{◌≡◌, ℕ, Bool, true, [], None}
 use Rattle.std.specs.List.{list_all}
 use Rattle.golf_data.specs.declared.code.Code.{Code}
@@ -17,15 +17,14 @@ pub record IsProgram (file : File) : Type 0 where
   pub good : list_all decl_good file.declarations ≡ true
   pub typed : Typed file
 
--- the code is that of such a file, and moves lead to the state from its opening state
+-- the code is that of such a file, and moves reach the state from its opening state
 pub record Reached (code : Code) (s : State) : Type 0 where
   pub file : File
   pub program : IsProgram file
   pub coded : code ≡ CodeOf file
   pub leads : Leads code s
 
--- the states that moves lead on to from a state: turns, collections with recovery or without, and the emptying of the
--- output
+-- the states that moves reach from s: by turns, collections with or without recovery, and the emptying of the output
 pub data LeadsOn (code : Code) (s : State) : State → Type 0 where
   Here : LeadsOn code s s
   Turn : (t : State) (c : ℕ) → LeadsOn code s t → ending t ≡ None → LeadsOn code s (step code t c)

@@ -14,7 +14,7 @@ use Rattle.golf_code_layout.specs.Piece.{Piece, all, op}
 use Rattle.golf_code_of.specs.declared.making.Making.{Making}
 use Rattle.golf_code_of.specs.Expressions.{Made, only}
 
--- what a built-in call does with its operands, of which there are so many
+-- the code of a built-in call, after its operands; there are n of them
 abbrev pub operation : ℕ → BuiltIn → ℕ → Piece
 operation l built_in.Length n = op l Instr.Len
 operation l built_in.Close n = op l Instr.Close
@@ -36,15 +36,15 @@ operation l built_in.WaitCondition n = op l Instr.CondWait
 operation l built_in.Signal n = op l Instr.CondSignal
 operation l built_in.Broadcast n = op l Instr.CondBroadcast
 
--- Function 0 of a code runs the initialisers, so that those of the file have numbers one higher. A method has its
--- receiver as an argument more.
+-- Function 0 of a code runs the initialisers, so the functions of the file have numbers one higher. A method takes its
+-- receiver as one more argument.
 abbrev pub calling : ℕ → Operand → ℕ → Piece
 calling l (operand.Function k) n = op l (Instr.Call (k + 1) n)
 calling l (operand.Method k) n = op l (Instr.Call (k + 1) (n + 1))
 calling l (operand.BuiltIn b) n = operation l b n
 calling l _ n = Piece.Empty
 
--- an expression as an argument: what it is, and its code
+-- an expression as an argument: its meaning and its code
 pub record Argument : Type 0 where
   pub meaning : Operand
   pub piece : Piece
@@ -57,7 +57,7 @@ abbrev pub finaliser : ℕ → Operand → Piece
 finaliser l (operand.Function k) = op l (Instr.SetFinalizer (k + 1))
 finaliser l _ = op l Instr.ClearFinalizer
 
--- `SetFinalizer(p, f)`: the function is named in the instruction
+-- `SetFinalizer(p, f)`: the instruction names the function
 abbrev pub finalising : ℕ → List Argument → Piece
 finalising l (x ∷ (y ∷ ys)) = all (x.piece ∷ finaliser l y.meaning ∷ [])
 finalising l _ = Piece.Empty
@@ -67,7 +67,7 @@ abbrev pub call : ℕ → Operand → Piece → List Argument → Made
 call l f receiver xs = only (cond (sets_finaliser f) (finalising l xs)
     (all (receiver ∷ pushes xs ∷ calling l f (length xs) ∷ [])))
 
--- Go and defer statements begin a function. For a built-in call one is made.
+-- Go and defer statements begin a function. For a built-in call a function is made.
 
 abbrev pub receiver_base : BuiltIn → Option Base
 receiver_base built_in.Lock = Some base.Mutex
@@ -96,7 +96,7 @@ abbrev pub makings : ℕ → Operand → List Argument → List Making
 makings l (operand.BuiltIn b) xs = record { operation = b; parameters = begun_parameters b xs; line = l } ∷ []
 makings l _ xs = []
 
--- `go` or `defer`, if the next function that is made has this number
+-- `go` or `defer`; the next function that is made has the number `next`
 abbrev pub beginning : ℕ → (ℕ → ℕ → Instr) → ℕ → Operand → List Argument → Piece
 beginning l begin next (operand.Function k) xs = op l (begin (k + 1) (length xs))
 beginning l begin next (operand.Method k) xs = op l (begin (k + 1) (length xs + 1))

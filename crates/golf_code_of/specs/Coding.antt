@@ -1,4 +1,4 @@
--- The code of an expression on a line, if these names are known: one equation a construct.
+-- The code of an expression on a line, with one equation for each construct.
 use Rattle.std.specs.Prelude.{ℕ, pos, List, map}
 use Rattle.golf_syntax_trees.specs.declared.expressions.Expr.{Expr}
 use Rattle.golf_syntax_trees.specs.declared.expressions.Expr.TheOpen.{Expr-F, Element-F, Integer, Text, Name, Parens}
@@ -21,12 +21,12 @@ use Rattle.golf_code_of.specs.Expressions.{Made, only, name, struct_literal, new
 use Rattle.golf_code_of.specs.Expressions.{made_sized, selector, index, unary_operator, binary_operator}
 use Rattle.golf_code_of.specs.Calls.{Argument, call}
 
--- an expression on a line, if these names are known: what it is, and its code
+-- an expression on a line, in a scope: its judgment and its code
 pub record Coded : Type 0 where
   pub judge : Judge
   pub code : ℕ → Scope → Made
 
--- the name of a field, and what is put into it
+-- the name of a field, and the value that is put into it
 pub record CodedPut : Type 0 where
   pub name : List ℕ
   pub value : Coded
@@ -58,7 +58,7 @@ code_step t (Call f xs) l s = call l (f.judge l s).meaning (f.code l s).piece (m
 code_step t (Unary o e) l s = unary_operator l o (e.code l s).piece
 code_step t (Binary o a b) l s = binary_operator l o (a.code l s).piece (b.code l s).piece
 
--- what an expression is is judged beside its code, by the equations of the checker
+-- an expression is judged beside its code, by the equations of the checker
 abbrev pub coded_step : Tables → Expr-F Coded CodedPut → Coded
 coded_step t y = record {
   judge = judge_step (map-Expr Coded CodedPut Judge Put (λ x. x.judge) put_judge y);
@@ -75,7 +75,7 @@ coded t = fold-Expr Coded CodedPut (coded_step t) element_coded_step
 abbrev pub code_at : Tables → ℕ → Scope → Expr → Made
 code_at t l s e = (coded t e).code l s
 
--- what pushes its value
+-- the piece that pushes the value of an expression
 abbrev pub piece_at : Tables → ℕ → Scope → Expr → Piece
 piece_at t l s e = (code_at t l s e).piece
 

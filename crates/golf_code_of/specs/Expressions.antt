@@ -1,4 +1,4 @@
--- The code of each kind of expression, by what its parts are and by their code (Go specification, "Expressions").
+-- The code of each kind of expression, from the judgments and the code of its parts (Go specification, "Expressions").
 use Rattle.std.specs.Prelude.{ℕ, ◌+◌, pos, true, false, List, [], ◌∷◌, length, Option, Some}
 use Rattle.golf_syntax_trees.specs.declared.expressions.UnaryOperator.{UnaryOperator}
 use Rattle.golf_syntax_trees.specs.declared.expressions.UnaryOperator.TheVariants as unary
@@ -18,9 +18,9 @@ use Rattle.golf_code_layout.specs.Piece.{Piece, all, op}
 use Rattle.golf_code_of.specs.declared.tables.Tables.{Tables}
 use Rattle.golf_code_of.specs.Values.{push, constant, makes}
 
--- The code of an expression: what pushes its value; what pushes the receiver, if it is a method. Where it stands on a
--- left side, `parts` pushes what tells its place, `twice` doubles that, `read` turns it into the value, and `store`
--- takes it with a new value on top.
+-- The code of an expression. `piece` pushes its value, or its receiver if it is a method. The others are for a left
+-- side: `parts` pushes the operands that name its place, `twice` doubles them, `read` turns them into the value, and
+-- `store` takes them with a new value on top.
 pub record Made : Type 0 where
   pub piece : Piece
   pub parts : Piece
@@ -28,7 +28,7 @@ pub record Made : Type 0 where
   pub read : Piece
   pub store : Piece
 
--- no place
+-- the code of an expression that is no place
 abbrev pub only : Piece → Made
 only p = record { piece = p; parts = Piece.Empty; twice = Piece.Empty; read = Piece.Empty; store = Piece.Empty }
 
@@ -41,7 +41,7 @@ in_place parts twice read store = record {
   store = store;
 }
 
--- Names: a variable is loaded or stored, a constant, `true`, `false` and `nil` are pushed; what is put into `_` is
+-- Names: a variable is loaded or stored; a constant, `true`, `false` and `nil` are pushed; a value stored in `_` is
 -- dropped.
 
 abbrev pub variable : ℕ → Where → Made
@@ -58,7 +58,7 @@ name l t _ = only Piece.Empty
 
 -- Literals, `make` and `new`.
 
--- a value is put into a field
+-- puts a value into a field
 abbrev pub put : ℕ → ℕ → Piece → Piece
 put l i e = all (op l Instr.Dup ∷ e ∷ op l (Instr.SetField i) ∷ [])
 
@@ -80,13 +80,13 @@ new_sync l (Some base.Group) = only (op l Instr.NewGroup)
 new_sync l (Some base.ReadWriteMutex) = only (op l Instr.NewRw)
 new_sync l _ = only Piece.Empty
 
--- elements from this one on
+-- puts the elements from index i on
 abbrev pub elements : ℕ → ℕ → List Piece → Piece
 elements l i [] = Piece.Empty
 elements l i (e ∷ es) = Piece.Then (all (op l Instr.Dup ∷ op l (Instr.Int (pos i)) ∷ e ∷ op l Instr.SetIndex ∷ []))
     (elements l (i + 1) es)
 
--- `[]T{e, ..}`, if this is the type of the slice
+-- `[]T{e, ..}`, with the type of the slice
 abbrev pub slice_literal : ℕ → Option GoType → List Piece → Made
 slice_literal l slice es = only (all (op l (Instr.Int (pos (length es))) ∷ op l (makes slice) ∷ elements l 0 es ∷ []))
 
@@ -97,7 +97,7 @@ made l t = only (all (op l (Instr.Int (pos 0)) ∷ op l (makes t) ∷ []))
 abbrev pub made_sized : ℕ → Option GoType → Piece → Made
 made_sized l t e = only (all (e ∷ op l (makes t) ∷ []))
 
--- Selectors: a field is a place; a method stands on its receiver; the mutex of a condition is a value.
+-- Selectors: a field is a place, a method pushes its receiver, and the mutex of a condition is a value.
 
 abbrev pub selector : ℕ → Operand → Piece → Made
 selector l (operand.Field i t) x = in_place x (op l Instr.Dup) (op l (Instr.Field i)) (op l (Instr.SetField i))
@@ -119,7 +119,7 @@ unary_instr unary.Receive = Instr.Receive
 abbrev pub unary_operator : ℕ → UnaryOperator → Piece → Made
 unary_operator l o e = only (all (e ∷ op l (unary_instr o) ∷ []))
 
--- what stands after both operands
+-- the instructions after both operands
 abbrev pub combining : ℕ → BinaryOperator → Piece
 combining l binary.Equal = op l Instr.Eq
 combining l binary.NotEqual = all (op l Instr.Eq ∷ op l Instr.Not ∷ [])
@@ -134,7 +134,7 @@ combining l binary.Divide = op l Instr.Div
 combining l binary.Remainder = op l Instr.Rem
 combining l _ = Piece.Empty
 
--- p, and if it gives true q; else r
+-- p, and then q if it gives true; else r
 abbrev pub either : ℕ → Piece → Piece → Piece → Piece
 either l p q r = Piece.Block (all (Piece.Block (all (p ∷ Piece.Unless l 0 ∷ q ∷ Piece.Exit l 1 ∷ [])) ∷ r ∷ []))
 

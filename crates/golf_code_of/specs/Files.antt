@@ -1,6 +1,6 @@
 -- The code of a file: function 0 runs the initialisers of the globals and calls `main`; the functions and methods of
 -- the file follow in source order, and after them those that are made for `go` and `defer` (Go specification, "Package
--- initialization", "Program execution"; profile).
+-- initialization", "Program execution"; this runtime's rule).
 use Rattle.std.specs.Prelude.{ℕ, ◌+◌, Bool, false, is_some, List, [], ◌∷◌, ◌++◌, length, map, flat_map, cond, Option}
 use Rattle.std.specs.Prelude.{Some, None, codes}
 use Rattle.golf_syntax_trees.specs.declared.statements.VarContent.{VarContent}
@@ -35,7 +35,7 @@ use Rattle.golf_code_of.specs.Coding.{piece_at}
 use Rattle.golf_code_of.specs.Statements.{Laid, Part, in_order}
 use Rattle.golf_code_of.specs.Laying.{stmt_part}
 
--- a function with this body and its masks, if these functions give a value
+-- a function with this body and its masks; `gives` says for each function whether it gives a value
 abbrev pub function : List Bool → ℕ → ℕ → ℕ → Piece → Function
 function gives params slots line body = record {
   params = params;
@@ -51,12 +51,12 @@ function gives params slots line body = record {
 abbrev pub body_part : Tables → Func → Part
 body_part t f = in_order (map (stmt_part t) f.body)
 
--- the body of a function, if so many functions stand before the next one that is made
+-- the body of a function; `functions` is the number of functions before the next one that is made
 abbrev pub body_laid : Tables → Scope → ℕ → Func → Laid
 body_laid t file functions f = (body_part t f).lay (record { breaks = 0; continues = 0; functions = functions })
     (body_scope file f)
 
--- how many slots were handed out where the body ends
+-- how many slots were handed out by the end of the body
 abbrev pub slots_of : Tables → Scope → Func → ℕ
 slots_of t file f = (behind (body_scope file f) ((body_part t f).walk (body_scope file f))).next
 
@@ -69,7 +69,7 @@ abbrev pub function_of : Tables → List Bool → Scope → Func → Piece → F
 function_of t gives file f body = function gives (body_scope file f).next (slots_of t file f) f.line
     (all (body ∷ last_return f.line (result_type file f.result) ∷ []))
 
--- functions in source order, and what is made for them
+-- the functions in source order, and the functions to be made for them
 pub record Functions : Type 0 where
   pub own : List Function
   pub made : List Making
@@ -85,7 +85,7 @@ functions_from t gives file n (d.Func f ∷ xs) =
     record { own = function_of t gives file f x.piece ∷ rest.own; made = x.made ++ rest.made }
 functions_from t gives file n (x ∷ xs) = functions_from t gives file n xs
 
--- Functions that are made: the parameters are pushed, the operation is done.
+-- The body of a function that is made: it pushes its parameters and does the operation.
 
 abbrev pub loads : ℕ → ℕ → List (Option GoType) → Piece
 loads l i [] = Piece.Empty
@@ -105,7 +105,7 @@ initial t s g l (content.Zero of_type) = Piece.Empty
 initial t s g l (content.Typed of_type e) = all (piece_at t l s e ∷ op l (Instr.StoreGlobal g) ∷ [])
 initial t s g l (content.Untyped e) = all (piece_at t l s e ∷ op l (Instr.StoreGlobal g) ∷ [])
 
--- the initialisers in source order, if so many globals stand above
+-- the initialisers in source order; g is the number of globals declared above
 abbrev pub initials : Tables → FileScope → ℕ → List Decl → Piece
 initials t f g [] = Piece.Empty
 initials t f g (d.Var v ∷ xs) = Piece.Then (initial t (record (outside f) { initialises = Some g }) g v.line v.content)
@@ -138,7 +138,7 @@ constants_in _ = []
 abbrev pub tables_of : List Decl → Tables
 tables_of xs = record { texts = texts_of xs; constants = map (const_value (texts_of xs)) (flat_map constants_in xs) }
 
--- which functions give a value: not function 0, and no function that is made
+-- whether each function gives a value; function 0 and the functions that are made do not
 abbrev pub giving : FileScope → List Bool
 giving f = false ∷ map (λ (x : Signature). is_some x.result) f.functions
 

@@ -1,5 +1,5 @@
--- The laws of the definitions of code, as statements: what an expression is, and what is known after a statement, are
--- the checker's.
+-- The laws of the definitions of code, as statements: they agree with the checker about the judgment of an expression
+-- and about what is known after a statement.
 use Rattle.std.specs.Prelude.{◌≡◌}
 use Rattle.golf_syntax_trees.specs.declared.expressions.Expr.{Expr}
 use Rattle.golf_syntax_trees.specs.declared.statements.Stmt.{Stmt}

@@ -21,7 +21,7 @@ use Rattle.golf_code_of.specs.declared.tables.Tables.{Tables}
 use Rattle.golf_code_of.specs.Coding.{piece_at}
 use Rattle.golf_code_of.specs.Statements.{Lay, Part, wrapped, past, then, in_block, block, optional}
 
--- inside of a loop, which `break` and `continue` leave by these targets
+-- the inside of a loop; `break` and `continue` leave it by these targets
 abbrev pub in_loop : ℕ → ℕ → Part → Part
 in_loop breaks continues x = record {
   walk = W.looping x.walk;
@@ -29,7 +29,7 @@ in_loop breaks continues x = record {
       (record s { breaks = true; loops = true });
 }
 
--- Around a loop stand its end and its beginning: seen from the inside, target 0 is the beginning and target 1 the end.
+-- A loop has two targets around its body: seen from the inside, target 0 is the beginning and target 1 the end.
 abbrev pub round : Piece → Piece
 round p = Piece.Block (Piece.Again p)
 
@@ -48,7 +48,7 @@ while t l test body = record {
       (body.lay a s);
 }
 
--- `for first; test; post { }`: the body is in a block of its own, whose end stands before the post statement
+-- `for first; test; post { }`: the body is in a block of its own, which ends before the post statement
 
 abbrev pub optional_test : Tables → ℕ → Option Expr → Scope → Piece
 optional_test t l None s = Piece.Empty
@@ -70,7 +70,8 @@ abbrev pub steps : Tables → ℕ → Option Simple → Option Expr → Option S
 steps t l first test post body = then (optional t first)
     (stepping t l test (optional t post) (in_loop 2 0 (block body)))
 
--- Range. The hidden slots of a slice have the slice, its length and the next index; that of a channel has the channel.
+-- Range. The hidden slots of a range over a slice hold the slice, its length and the next index. A range over a channel
+-- has one hidden slot, which holds the channel.
 
 -- the names of a range over a slice: the index, and the element; `_` has neither slot nor code
 abbrev pub slice_names : ℕ → ℕ → RangeNames → Scope → Piece
@@ -94,13 +95,13 @@ over_slice l h e names body = all (
     ∷ Piece.Exit l 0 ∷ []))
     ∷ [])
 
--- the name of a range over a channel: what was received is stored, or dropped
+-- the name of a range over a channel: the received value is stored, or dropped
 abbrev pub channel_name : ℕ → RangeNames → Scope → Piece
 channel_name l (range.One n) s = cond (is_blank n) (op l Instr.Drop) (op l (Instr.Store s.next))
 channel_name l _ s = op l Instr.Drop
 
--- What a closed channel gives stands on top where the loop ends, and is dropped there: seen from the loop, target 1 is
--- before that and target 2 after.
+-- When the loop ends, the value that a closed channel gives is on top of the operands, and is dropped there. Seen from
+-- the loop, target 1 is before that and target 2 after it.
 abbrev pub over_channel : ℕ → ℕ → Piece → Piece → Piece → Piece
 over_channel l h e name body = all (
     e ∷ op l (Instr.Store h)

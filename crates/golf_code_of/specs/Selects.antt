@@ -16,8 +16,8 @@ use Rattle.golf_code_of.specs.Coding.{piece_at}
 use Rattle.golf_code_of.specs.declared.making.Around.{Around}
 use Rattle.golf_code_of.specs.Statements.{Lay, Part, laid, wrapped, past, then_lay, in_order, stores_name, stores_pair}
 
--- A clause: its walk, what it communicates, none for `default`, and what pushes its operands, each on the line of
--- `select`; then the code after the choice, and its own line.
+-- A clause: its walk, its kind (none for `default`), the code of its operands on the line of `select`, the code after
+-- the choice, and its own line.
 pub record ClausePart : Type 0 where
   pub walk : ℕ → Walk
   pub kind : Option CaseKind
@@ -41,7 +41,7 @@ operands_of t (comm.Define n e) l s = piece_at t l s e
 operands_of t (comm.Assign n e) l s = piece_at t l s e
 operands_of t (comm.DefineReceived n m e) l s = piece_at t l s e
 
--- what a chosen receive does with what it was given
+-- the code of a chosen receive after the choice, for the received values
 abbrev pub takes_in : Tables → ℕ → ℕ → Communication → Scope → Piece
 takes_in t l k (comm.Send c e) s = Piece.Empty
 takes_in t l k (comm.Receive e) s = op k Instr.Drop
@@ -101,12 +101,12 @@ default_from i (c ∷ cs) = default_or i c.kind (default_from (i + 1) cs)
 abbrev pub choice : ℕ → List ClausePart → Scope → Piece
 choice l cs s = all (all (map (λ c. c.operands l s) cs) ∷ Piece.Choose l (cases_from 0 cs) (default_from 0 cs) ∷ [])
 
--- seen from a clause, the end of the `select` is after the beginnings of so many clauses more
+-- the surroundings seen from a clause: the end of the `select` comes after the beginnings of the later clauses
 abbrev pub in_clause : ℕ → Around → Around
 in_clause later a = record { breaks = later; continues = a.continues + (later + 1); functions = a.functions }
 
--- Clauses after p, in which the first of them begins at target 0: each begins at the end of what stands before it, and
--- leads to the end of all.
+-- The clauses after p, seen from which the first of them begins at target 0. Each clause begins at the end of the code
+-- before it, and leads to the end of all.
 abbrev pub clauses_lay : ℕ → Piece → List ClausePart → Lay
 clauses_lay l p [] a s = laid p
 clauses_lay l p (c ∷ cs) a s =

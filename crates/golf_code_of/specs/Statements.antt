@@ -43,7 +43,7 @@ pub record Part : Type 0 where
 abbrev pub no_code : Laid
 no_code = record { piece = Piece.Empty; made = [] }
 
--- code for which no function is made
+-- code that needs no function to be made
 abbrev pub laid : Piece → Laid
 laid p = record { piece = p; made = [] }
 
@@ -53,11 +53,11 @@ wrapped f x = record { piece = f x.piece; made = x.made }
 abbrev pub follow : Laid → Laid → Laid
 follow x y = record { piece = Piece.Then x.piece y.piece; made = x.made ++ y.made }
 
--- after a statement, more functions are made
+-- the surroundings after a statement for which functions were made
 abbrev pub past : Around → Laid → Around
 past a x = record a { functions = a.functions + length x.made }
 
--- inside of so many targets more
+-- the surroundings inside n more targets
 abbrev pub within : ℕ → Around → Around
 within n a = record a { breaks = a.breaks + n; continues = a.continues + n }
 
@@ -66,7 +66,7 @@ within n a = record a { breaks = a.breaks + n; continues = a.continues + n }
 abbrev pub nothing : Part
 nothing = record { walk = λ s. W.nothing; lay = λ a s. no_code }
 
--- one and then another: what the first declares is known in the second
+-- one statement and then another; the names that the first declares are known in the second
 abbrev pub then_lay : Lay → Walk → Lay → Lay
 then_lay x w y a s = let first = x a s in follow first (y (past a first) (behind s (w s)))
 
@@ -87,7 +87,7 @@ in_block x = record { walk = W.in_block x.walk; lay = λ a s. x.lay a (begun s) 
 abbrev pub block : List Part → Part
 block body = in_block (in_order body)
 
--- Assigned names: a new one has the next slot, another keeps its place; what is put into `_` is dropped.
+-- Assigned names: a new name has the next slot, a known name keeps its place, and a value stored in `_` is dropped.
 
 abbrev pub stores_to : ℕ → Tables → Option Operand → Piece
 stores_to l t None = Piece.Empty
@@ -96,18 +96,18 @@ stores_to l t (Some p) = (name l t p).store
 abbrev pub stores_name : ℕ → Tables → Scope → List ℕ → Piece
 stores_name l t s n = stores_to l t (assigned_name s n)
 
--- n, if the scope at its declaration is the second one
+-- stores into n, in the next slot of the second scope if the name is new in the first
 abbrev pub stores_new : ℕ → Tables → Scope → Scope → List ℕ → Piece
 stores_new l t s at n = cond (is_new s n) (op l (Instr.Store at.next)) (stores_name l t s n)
 
--- the value and then `ok` are received; `ok` stands on top, so that it is stored first
+-- stores the received value and `ok`; `ok` is on top, so it is stored first
 abbrev pub stores_pair : ℕ → Tables → Scope → List ℕ → List ℕ → Option GoType → Piece
 stores_pair l t s n m of_type = all (stores_new l t s (behind s (one_new (is_new s n) n of_type s)) m
     ∷ stores_new l t s s n ∷ [])
 
 -- Simple statements.
 
--- what a call or receive leaves is dropped
+-- drops the value that a call or receive leaves
 abbrev pub drops : ℕ → Operand → Piece
 drops l (operand.Nothing late) = Piece.Empty
 drops l m = op l Instr.Drop
@@ -119,7 +119,7 @@ update_instr update.Multiply = Instr.Mul
 update_instr update.Divide = Instr.Div
 update_instr update.Remainder = Instr.Rem
 
--- `p op= e`: the place is told once ("Assignment statements")
+-- `p op= e`: the place is evaluated once ("Assignment statements")
 abbrev pub updates : ℕ → Made → Piece → Instr → Piece
 updates l p e i = all (p.parts ∷ p.twice ∷ p.read ∷ e ∷ op l i ∷ p.store ∷ [])
 
@@ -187,7 +187,7 @@ continue_part l = record { walk = W.continue_walk l; lay = λ a s. laid (Piece.E
 
 -- If.
 
--- a condition, and what stands after it; if it is false, it goes on at target 0
+-- a condition and the code after it; if the condition is false, it goes on at target 0
 abbrev pub behind_test : Tables → ℕ → Expr → Part → Part
 behind_test t l test x = record {
   walk = W.behind_test l test x.walk;

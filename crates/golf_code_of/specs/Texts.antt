@@ -1,5 +1,5 @@
--- The texts of a file: the empty one, and then each different one in the order of first appearance (Go specification,
--- "String literals"; profile).
+-- The texts of a file: the empty text, and then each different text in order of first appearance (Go specification,
+-- "String literals"; this runtime's rule).
 use Rattle.std.specs.Prelude.{flat_map, List, [], ◌∷◌, ◌++◌, Option, Some, None}
 use Rattle.golf_syntax_trees.specs.declared.expressions.Expr.{Expr}
 use Rattle.golf_syntax_trees.specs.declared.expressions.Expr.TheOpen as E

@@ -26,7 +26,7 @@ abbrev pub type_zero : List Layer → Base → Value
 type_zero [] b = base_zero b
 type_zero (x ∷ xs) b = Value.Nil
 
--- an unknown type has nil
+-- the zero value of an unknown type is nil
 abbrev pub zero_value : Option GoType → Value
 zero_value None = Value.Nil
 zero_value (Some t) = type_zero t.layers t.base
@@ -53,7 +53,7 @@ const_value texts const.False = Value.Bool false
 abbrev pub constant : Tables → ℕ → Value
 constant t k = unwrap_or (slice_get t.constants k) Value.Nil
 
--- what makes a slice or a channel of this type
+-- the instruction that makes a slice or a channel of this type
 abbrev pub new_container : List Layer → Base → Instr
 new_container [] b = Instr.Nil
 new_container (layer.Slice ∷ xs) b = Instr.NewSlice (type_zero xs b)

@@ -1,7 +1,7 @@
-//! What the code of a file is.
+//! The definition of the code of a file.
 //!
-//! The definitions stand in `specs/`: `CodeOf` is the code of a file, by recursion over its tree.
-//! `Tables` is what it looks up. Each function here has one law about the definitions as its contract.
+//! `CodeOf`, in `specs/`, is the code of a file, by recursion over its tree. `Tables` holds the texts and constants
+//! that code looks up. Each function here has one law of the definitions as its contract.
 #![tactic(auto)]
 
 mod making;
@@ -12,12 +12,12 @@ ghost use Rattle.golf_code_of.specs.Laws.{JudgmentsAgree, WalksAgree};
 pub use making::{Around, Making};
 pub use tables::{Tables, TextTable};
 
-/// What code takes an expression for is what the checker takes it for.
+/// States that code and checker agree about what an expression is.
 pub fn judgments_agree()
     ensures { JudgmentsAgree }
 {}
 
-/// What code knows after a statement is what the checker knows there.
+/// States that code and checker agree about what is known after a statement.
 pub fn walks_agree()
     ensures { WalksAgree }
 {}

@@ -1,10 +1,10 @@
-//! What the code of a statement is told, and what it asks for.
+//! What the code of a statement needs to know about its surroundings, and the functions that it needs.
 
 use golf_base::List;
 use golf_check_types::{BuiltIn, GoType};
 
-/// A function that is made for `go` or `defer` of a built-in call: what it does, the types of its
-/// parameters with the receiver first, and the line of the statement.
+/// A function that is made for `go` or `defer` of a built-in call. It has the operation, the types of its parameters
+/// with the receiver first, and the line of the statement.
 #[derive(Drop)]
 pub struct Making {
     pub operation: BuiltIn,
@@ -12,8 +12,8 @@ pub struct Making {
     pub line: u32,
 }
 
-/// Which of the targets around a statement `break` and `continue` lead to, counted from the innermost one,
-/// and how many functions stand before the next one that is made.
+/// The surroundings of a statement: the targets of `break` and `continue`, counted from the innermost one, and the
+/// number of functions before the next one that is made.
 #[derive(Clone, Copy, Debug, PartialEq, Eq)]
 pub struct Around {
     pub breaks: u32,

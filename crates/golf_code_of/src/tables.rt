@@ -1,4 +1,6 @@
-//! What code looks up: texts and constants by their numbers.
+//! The tables of a code: texts and constants by their numbers.
+//!
+//! The number of a text is its place in the table, which has each text once.
 
 ghost use Rattle.std.specs.Prelude.{◌≡◌, [], IfOk, OnOk};
 ghost use Rattle.golf_code_of.specs.Table.{with_text, text_number as text_number_of};
@@ -9,8 +11,8 @@ use indexmap::IndexSet;
 use std::alloc::Global;
 use std::marker::Model;
 
-/// Different texts in the order in which they came. The number of a text is its place. A look-up takes
-/// the time of one in a hash map.
+/// Different texts in the order in which they were added. The number of a text is its place. A look-up takes the time
+/// of a look-up in a hash map.
 #[derive(Drop)]
 pub struct TextTable {
     texts: IndexSet<Vec<u8>>,
@@ -25,7 +27,7 @@ impl Model for TextTable {
 }
 
 impl TextTable {
-    /// A table without texts.
+    /// Returns a table without texts.
     pub fn new(alloc: Global) -> TextTable
         ensures { result ≡ [] }
     {
@@ -34,7 +36,7 @@ impl TextTable {
         }
     }
 
-    /// Adds a text at the end, unless it is there.
+    /// Adds a text at the end, unless the table has it already.
     pub fn add(&mut self, alloc: Global, text: &[u8]) -> Result<(), Memory>
         ensures { OnOk result (self.new ≡ with_text self.old text.now) }
     {
@@ -43,14 +45,14 @@ impl TextTable {
         Ok(())
     }
 
-    // The place of a text, or that of the first one.
+    // Returns the place of a text, or 0 if the table does not have it.
     fn place(&self, text: &[u8]) -> usize
         ensures { result ≡ text_number_of self.now text.now }
     {
         self.texts.get_index_of(text).unwrap_or(0)
     }
 
-    /// The number of a text, or that of the first one if it is not there.
+    /// Returns the number of a text, or 0 if the table does not have it.
     ///
     /// # Errors
     ///
@@ -64,7 +66,7 @@ impl TextTable {
         }
     }
 
-    /// The texts as a list.
+    /// Returns the texts as a list.
     pub fn list(&self, alloc: Global) -> Result<List<List<u8>>, Memory>
         ensures { IfOk result (λ texts. texts ≡ self.now) }
     {
@@ -78,7 +80,7 @@ impl TextTable {
     }
 }
 
-/// What code looks up: the texts of the file, and the values of its constants in source order.
+/// The tables of a file's code: its texts, and the values of its constants in source order.
 #[derive(Drop)]
 pub struct Tables {
     pub texts: TextTable,

@@ -9,7 +9,7 @@ use Rattle.golf_syntax_trees.specs.Declarations.{print_file}
 use Rattle.golf_syntax_trees.specs.Reads.{Reads}
 use Rattle.golf_code_of.specs.Files.{CodeOf}
 
--- at most eight instructions for each of so many tokens
+-- the function has at most eight instructions for each token
 abbrev pub IsSmall : ℕ → Option Function → Type 0
 IsSmall tokens None = Unit {0}
 IsSmall tokens (Some function) = length function.body ≤ 8 * tokens

@@ -1,22 +1,22 @@
-//! The places of the code of a file fit their numbers.
+//! The places of the code of a file fit into 32 bits.
 //!
-//! The statements stand in `specs/`, the proofs in `proofs/`: each body has at most eight
-//! instructions for each token of its file, and a file has at most two tokens for each of its bytes.
+//! Each body has at most eight instructions for each token of its file. A file has at most two tokens for each of its
+//! bytes. The statements are in `specs/`, the proofs in `proofs/`.
 #![tactic(auto)]
 
 ghost use Rattle.golf_code_places.specs.Laws.{BodiesAreSmall, TokensAreFew, FilesHavePlaces};
 
-/// Each body of the code of a file has at most eight instructions for each token that the file prints.
+/// States that each body of a file's code has at most eight instructions for each token of the printed file.
 pub fn bodies_are_small()
     ensures { BodiesAreSmall }
 {}
 
-/// Bytes that lex have at most two tokens for each of them.
+/// States that bytes that lex have at most two tokens for each byte.
 pub fn tokens_are_few()
     ensures { TokensAreFew }
 {}
 
-/// The code of a file of fewer than 2^27 bytes has places.
+/// States that the places of the code of a file of fewer than 2^27 bytes fit into 32 bits.
 pub fn files_have_places()
     ensures { FilesHavePlaces }
 {}

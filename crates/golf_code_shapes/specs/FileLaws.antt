@@ -1,4 +1,4 @@
--- The law of the code of a whole file, as a statement: if its names fit, it has shapes.
+-- The law of the code of a whole file, as a statement: the code has shapes if the names fit.
 use Rattle.std.specs.List.{list_all}
 use Rattle.golf_theory.specs.Membership.{Every}
 use Rattle.std.specs.Prelude.{◌≡◌, ℕ, ◌+◌, true, List, [], ◌∷◌, ◌++◌, length, map, Option, Some, None, slice_get}
@@ -64,7 +64,7 @@ initial_type l (content.Zero w) s = (write_at l s w).type
 initial_type l (content.Typed w e) s = (write_at l s w).type
 initial_type l (content.Untyped e) s = type_given (given_by (judge_at l s e))
 
--- the global of this number has the type of what it begins with
+-- the global of this number has the type of its initial value
 pub record GlobalIsKnown (f : FileScope) (g l : ℕ) (c : VarContent) : Type 0 where
   pub of_type : GoType
   pub begins : initial_type l c (initial_scope f g) ≡ Some of_type
@@ -80,7 +80,7 @@ DeclarationIsKnown f g (d.Var v) = GlobalIsKnown f g v.line v.content
 DeclarationIsKnown f g (d.Func x) = ParametersAreKnown (outside f) x
 DeclarationIsKnown f g _ = Unit {0}
 
--- if so many globals stand above
+-- the declarations from here on; g is the number of globals declared above
 abbrev pub DeclarationsAreKnown : FileScope → ℕ → List Decl → Type 0
 DeclarationsAreKnown f g [] = Unit {0}
 DeclarationsAreKnown f g (x ∷ xs) = DeclarationIsKnown f g x × DeclarationsAreKnown f (globals_above g x) xs

@@ -1,4 +1,4 @@
--- What is said of the code of statements: it leads from the slots that are assigned before it to those after it.
+-- What is said of the code of statements: it leads from the slots assigned before it to those assigned after it.
 use Rattle.std.specs.Prelude.{◌≡◌, ℕ, ◌+◌, true, List, [], ◌∷◌, Option, Some, slice_get}
 use Rattle.golf_theory.specs.Membership.{In, Every}
 use Rattle.golf_check_types.specs.declared.types.GoType.{GoType}
@@ -22,7 +22,7 @@ abbrev pub Slotted : FunctionTypes → ℕ → List (Option GoType) → Type 0
 Slotted ft n [] = Unit {0}
 Slotted ft n (o ∷ os) = (slice_get (slot_types ft) n ≡ Some (known_type o)) × Slotted ft (n + 1) os
 
--- the functions from this one on are those that are made
+-- the functions from number n on are those that are made
 abbrev pub MadeFit : Types → ℕ → List Making → Type 0
 MadeFit types n [] = Unit {0}
 MadeFit types n (m ∷ ms) = ((callee : Signature) × (slice_get types.functions n ≡ Some callee)
@@ -45,11 +45,11 @@ BeginsWith built_in.Signal ts = ts ≡ ValueType.Cond ∷ []
 BeginsWith built_in.Broadcast ts = ts ≡ ValueType.Cond ∷ []
 BeginsWith _ ts = ⊥
 
--- the parameters of a function that is made are what its operation takes
+-- the parameters of a function that is made are the operands that its operation takes
 abbrev pub IsMaking : Making → Type 0
 IsMaking m = BeginsWith m.operation (known_types m.parameters)
 
--- `break` and `continue` lead if no operand stands, and no slot is asked for but these
+-- the targets of `break` and `continue` take no operands, and ask only for these slots
 pub record WaysFit (assigned : List ℕ) (exits : List Shape) (s : Scope) (a : Around) : Type 0 where
   pub breaks : s.breaks ≡ true → Reaches exits [] assigned a.breaks
   pub continues : s.loops ≡ true → Reaches exits [] assigned a.continues
@@ -67,7 +67,7 @@ StatementFits types t ft w x =
     → (w s).faults ≡ []
     → Leads types t ft assigned exits (behind s (w s)) (x a s).piece × Every IsMaking (x a s).made
 
--- the same of a piece that no jump leaves
+-- the same for a piece that no jump leaves
 abbrev pub Moves : Types → Tables → FunctionTypes → List ℕ → Scope → Piece → Type 0
 Moves types t ft assigned s p = (more : List ℕ) × Every (λ i. In i more) assigned × ScopeFits types t ft more s
     × ((exits : List Shape) → Has types ft p (shape [] assigned) (shape [] more) exits)

@@ -40,14 +40,14 @@ function_signature t file f = record {
   result = option_map value_type (result_type file f.result);
 }
 
--- if its written types are known, a function breaks no rule
+-- the written types of the function are known, it is well formed, and it breaks no rule
 pub record FunctionIsFit (file : Scope) (f : Func) : Type 0 where
   pub receiver : (r : Receiver) → f.receiver ≡ Some r → IsKnown (receiver_type file r.type_name)
   pub parameters : Every (λ (p : List ℕ × Option GoType). IsKnown p.1) (all_typed_names file f.parameters)
   pub good : stmts_good (map stmt_form f.body) ≡ true
   pub none : (func_walk f file).faults ≡ []
 
--- such a function fits its types, if those of the names of the file and of the functions that are made fit
+-- such a function fits its types, if the types of the file's names and of the functions that are made fit
 abbrev pub FunctionsFit : Type 0
 FunctionsFit = (types : Types) (t : Tables) (gives : List Bool) (names : FileScope) (f : Func) (n : ℕ)
     → FileFits types t names → FunctionIsFit (outside names) f → MadeFit types n (body_laid t (outside names) n f).made
@@ -60,7 +60,7 @@ FunctionsFit = (types : Types) (t : Tables) (gives : List Bool) (names : FileSco
 abbrev pub made_signature : Making → Signature
 made_signature m = record { params = known_types m.parameters; locals = []; result = None }
 
--- it fits them
+-- a function that is made fits them
 abbrev pub MadeFunctionsFit : Type 0
 MadeFunctionsFit = (types : Types) (gives : List Bool) (m : Making) → IsMaking m → (shapes : List Shape)
     × FunctionFits types (made_function gives m) (with_shapes (made_signature m) shapes)

@@ -18,7 +18,7 @@ use Rattle.golf_code_shapes.specs.NameLaws.{WellNamed}
 abbrev pub SameBelow : ℕ → List (Option GoType) → List (Option GoType) → Type 0
 SameBelow g xs ys = (k : ℕ) → k < g → type_at xs k ≡ type_at ys k
 
--- An expression that breaks no rule as the initialiser of a global is the same wherever the globals above that one have
+-- An initialiser of a global that breaks no rule has the same judgment in each scope in which the globals above it have
 -- the same types.
 abbrev pub FormsStay : Type 0
 FormsStay = (f : FileScope) (globals : List (Option GoType)) (g : ℕ) → SameBelow g globals f.globals

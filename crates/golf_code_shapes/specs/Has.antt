@@ -14,7 +14,7 @@ shape ts assigned = record { operands = ts; assigned = assigned }
 abbrev pub filled : FunctionTypes → List Shape → FunctionTypes
 filled ft full = record ft { shapes = full }
 
--- these shapes stand at this place
+-- these shapes are at this place
 abbrev pub Stand : List Shape → ℕ → List Shape → Type 0
 Stand full at [] = Unit {0}
 Stand full at (x ∷ xs) = (slice_get full at ≡ Some x) × Stand full (at + 1) xs
@@ -25,7 +25,7 @@ Fit types ft at [] = Unit {0}
 Fit types ft at (l ∷ ls) = ((sh : Shape) × (slice_get ft.shapes at ≡ Some sh) × InstructionFits types ft at l.instr sh)
     × Fit types ft (at + 1) ls
 
--- it may go on at this place with this shape
+-- the code can go on at this place with this shape
 abbrev pub To : FunctionTypes → Shape → ℕ → Type 0
 To ft sh k = GoesOn ft sh.operands sh.assigned k
 
@@ -35,7 +35,7 @@ Exits ft [] ts = Unit {0}
 Exits ft (sh ∷ shs) [] = ⊥
 Exits ft (sh ∷ shs) (t ∷ ts) = To ft sh t × Exits ft shs ts
 
--- A piece leads from one shape to another, if the targets around have these.
+-- A piece leads from one shape to another, and the targets around have these shapes.
 pub record Has (types : Types) (ft : FunctionTypes) (p : Piece) (from to : Shape) (exits : List Shape) : Type 0 where
   pub shapes : List Shape
   pub long : length shapes ≡ size p
@@ -51,12 +51,12 @@ pub record Ends (types : Types) (ft : FunctionTypes) (p : Piece) (from : Shape) 
   pub enters : (full : List Shape) (at : ℕ) → Stand full at shapes → To (filled ft full) from at
   pub fits : (full : List Shape) (at : ℕ) → Stand full at shapes → Fit types (filled ft full) at (placed p at [])
 
--- the target of this number takes these operands, and no slot but these
+-- the target of this number takes these operands, and asks only for these slots
 abbrev pub Reaches : List Shape → List ValueType → List ℕ → ℕ → Type 0
 Reaches exits ts assigned k = (needed : List ℕ) × (slice_get exits k ≡ Some (shape ts needed))
     × Every (λ i. In i assigned) needed
 
--- the operands of the cases stand in source order on top of `rest`, and each case reaches its target
+-- the operands of the cases are in source order on top of `rest`, and each case reaches its target
 abbrev pub CasesReach : List Shape → List ℕ → List ValueType → List SelectCase → List ValueType → List ValueType
     → Type 0
 CasesReach exits assigned below [] rest operands = operands ≡ rest

@@ -1,4 +1,4 @@
--- The laws of the code of a file, as statements: what breaks no rule has shapes.
+-- The laws of the code of a file, as statements: code that breaks no rule has shapes.
 use Rattle.std.specs.Prelude.{◌≡◌, ℕ, true, List, []}
 use Rattle.golf_syntax_trees.specs.declared.expressions.Expr.{Expr}
 use Rattle.golf_syntax_trees.specs.declared.statements.Stmt.{Stmt}
@@ -14,8 +14,8 @@ use Rattle.golf_code_of.specs.Laying.{stmt_part}
 use Rattle.golf_code_shapes.specs.Flowing.{StatementFits}
 use Rattle.golf_code_shapes.specs.Sound.{ScopeFits, Shown}
 
--- if the names of a scope mean what the types of the code say, an expression that breaks no rule has the code of what
--- it is
+-- the code of an expression that breaks no rule does what its judgment says, if the names of a scope mean what the
+-- types of the code say
 abbrev pub ExpressionFits : Types → Tables → FunctionTypes → Judge → (ℕ → Scope → Made) → Type 0
 ExpressionFits types t ft j c = (l : ℕ) (s : Scope) (assigned : List ℕ) → ScopeFits types t ft assigned s
     → (j l s).faults ≡ [] → Shown types t ft assigned s.file (j l s).meaning (c l s)
@@ -24,7 +24,7 @@ abbrev pub ExpressionsFit : Type 0
 ExpressionsFit = (types : Types) (t : Tables) (ft : FunctionTypes) (e : Expr)
     → ExpressionFits types t ft (judge e) (coded t e).code
 
--- the same of a well-formed statement: it leads on
+-- the same for a well-formed statement: its code leads on
 abbrev pub StatementsFit : Type 0
 StatementsFit = (types : Types) (t : Tables) (ft : FunctionTypes) (x : Stmt) → (stmt_form x).good ≡ true
     → StatementFits types t ft (walk x) (stmt_part t x).lay

@@ -30,7 +30,7 @@ pub record PutTogether (types : Types) (ft : FunctionTypes) : Type 0 where
       → Has types ft (Piece.Block p) from to exits
   pub again : (p : Piece) (from to : Shape) (exits : List Shape) → Has types ft p from to (from ∷ exits)
       → Has types ft (Piece.Again p) from to exits
-  -- fewer slots are asked for after it
+  -- fewer slots may be asked for after the piece
   pub weaker : (p : Piece) (from : Shape) (ts : List ValueType) (needed assigned : List ℕ) (exits : List Shape)
       → Every (λ i. In i assigned) needed → Has types ft p from (shape ts assigned) exits
       → Has types ft p from (shape ts needed) exits
@@ -38,7 +38,7 @@ pub record PutTogether (types : Types) (ft : FunctionTypes) : Type 0 where
 abbrev pub PiecesHaveShapes : Type 0
 PiecesHaveShapes = (types : Types) (ft : FunctionTypes) → PutTogether types ft
 
--- a body that begins with its parameters and ends fits its types
+-- a body fits its types if it begins with only its parameters assigned, and ends
 abbrev pub BodiesFit : Type 0
 BodiesFit = (types : Types) (sig : Signature) (p : Piece) (assigned : List ℕ) (fn : Function)
     → Ends types (with_shapes sig []) p (shape [] assigned) → Every (λ i. i < length sig.params) assigned

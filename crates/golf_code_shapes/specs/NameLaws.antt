@@ -20,7 +20,7 @@ use Rattle.golf_code_shapes.specs.Parts.{contents_of}
 abbrev pub named_with : Imports → List Decl → List (Option GoType) → FileScope
 named_with i xs globals = record (with_types (bare_file i xs) xs) { globals = globals }
 
--- so many globals have types
+-- the first n globals have known types
 abbrev pub GlobalsAreKnown : List (Option GoType) → ℕ → Type 0
 GlobalsAreKnown globals n = (g : ℕ) → g < n → (t : GoType) × (slice_get globals g ≡ Some (Some t))
 

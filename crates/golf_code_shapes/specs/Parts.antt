@@ -6,7 +6,7 @@ use Rattle.golf_syntax_trees.specs.declared.declarations.Func.{Func}
 use Rattle.golf_syntax_trees.specs.declared.declarations.Decl.{Decl}
 use Rattle.golf_syntax_trees.specs.declared.declarations.Decl.TheVariants as d
 
--- what a global begins with
+-- the initial value of a global
 abbrev pub contents_of : Decl → List VarContent
 contents_of (d.Var v) = v.content ∷ []
 contents_of _ = []

@@ -44,7 +44,7 @@ module _ (types : Types) (t : Tables) where
       × (callee.params ≡ receiver ++ known_types sig.parameters) × (callee.result ≡ option_map value_type sig.result)
       × Every IsKnown sig.parameters
 
-  -- what a name of the file means
+  -- the meaning of a name of the file
   abbrev pub NameFits : FileScope → Operand → Type 0
   NameFits f (operand.Variable (place.Global g) (Some of_type)) = slice_get types.globals g ≡ Some (value_type of_type)
   NameFits f (operand.Constant k b) = ValueFits types [] (constant t k) (base_type b)
@@ -75,7 +75,7 @@ module _ (types : Types) (t : Tables) (ft : FunctionTypes) where
     pub result : ft.result ≡ option_map value_type s.result
 
 module _ (types : Types) (ft : FunctionTypes) (assigned : List ℕ) where
-  -- takes these operands, the top one first, and leaves those
+  -- the piece takes these operands, the top one first, and leaves those
   abbrev pub Turns : Piece → List ValueType → List ValueType → Type 0
   Turns p takes leaves = (ops : List ValueType) (exits : List Shape)
       → Has types ft p (shape (takes ++ ops) assigned) (shape (leaves ++ ops) assigned) exits
@@ -83,11 +83,11 @@ module _ (types : Types) (ft : FunctionTypes) (assigned : List ℕ) where
   abbrev pub Pushes : Piece → ValueType → Type 0
   Pushes p e = Turns p [] (e ∷ [])
 
-  -- leaves the operands as they are
+  -- the piece leaves the operands as they are
   abbrev pub Silent : Piece → Type 0
   Silent p = Turns p [] []
 
-  -- a place that holds a value of this type, told by operands of these types
+  -- a place that holds a value of this type, named by operands of the types in `told`
   pub record Places (x : Made) (e : ValueType) : Type 0 where
     pub told : List ValueType
     pub parts : Turns x.parts [] told
@@ -105,7 +105,7 @@ module _ (types : Types) (ft : FunctionTypes) (assigned : List ℕ) where
   Receives (Some b) p = Pushes p (base_type b)
 
 module _ (types : Types) (t : Tables) (ft : FunctionTypes) (assigned : List ℕ) (f : FileScope) where
-  -- what the code of an expression does, by what it is
+  -- what the code of an expression does, by the expression's judgment
   abbrev pub Shown : Operand → Made → Type 0
   Shown (operand.Value (Some e)) x = Pushes types ft assigned x.piece (value_type e)
   Shown (operand.Outcome (Some e)) x = Pushes types ft assigned x.piece (value_type e)
@@ -128,7 +128,7 @@ module _ (types : Types) (t : Tables) (ft : FunctionTypes) (assigned : List ℕ)
   Shown operand.TypeName x = Unit {0}
   Shown _ x = ⊥
 
-  -- code whose value is one of these
+  -- the code pushes such a value
   abbrev pub Gives : Given → Piece → Type 0
   Gives (given_as.Typed e) p = Pushes types ft assigned p (value_type e)
   Gives given_as.Nil p = (e : ValueType) → IsNilable e → Pushes types ft assigned p e

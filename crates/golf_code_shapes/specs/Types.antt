@@ -26,7 +26,7 @@ layers_type (x ∷ xs) b = ValueType.Chan (layers_type xs b)
 abbrev pub value_type : GoType → ValueType
 value_type t = layers_type t.layers t.base
 
--- An unknown type, which no typed file has, stands for one that nil fits.
+-- An unknown type, which no typed file has, is read as a type that has nil.
 abbrev pub known_type : Option GoType → ValueType
 known_type None = ValueType.Mutex
 known_type (Some t) = value_type t

@@ -1,4 +1,4 @@
--- What the calls that write statements without functions tell. Out of memory, they tell nothing.
+-- The clause of the calls that write statements without functions. Without memory it says nothing.
 use Rattle.std.specs.Prelude.{◌≡◌, Result, Ok, Err}
 use Rattle.golf_base.specs.declared.Memory.{Memory}
 use Rattle.golf_code_facts.specs.Statements.{PieceBy}

@@ -1,4 +1,4 @@
-//! The communication of a clause of `select`: its operands, and what it does once it is chosen.
+//! The code of the communication of a clause of `select`: its operands, and its code once it is chosen.
 
 ghost use Rattle.golf_code_facts.specs.Selects.{operands_by, takes_in};
 ghost use Rattle.golf_code_expressions.specs.Writing.{Extends};
@@ -18,7 +18,7 @@ fn two_operands(writer: &mut Writer, line: u32, channel: &Expr, e: &Expr) -> Res
     expression(writer, line, e)
 }
 
-/// Adds what pushes the operands of a communication.
+/// Adds the code that pushes the operands of a communication.
 pub fn operands(writer: &mut Writer, line: u32, communication: &Communication) -> Result<(), Memory>
     ensures { Extends result (operands_by writer.old.draft.tables.now communication.now line writer.old.facts) writer.old writer.new }
 {
@@ -31,7 +31,7 @@ pub fn operands(writer: &mut Writer, line: u32, communication: &Communication) -
     }
 }
 
-/// Passes over the operands of a communication, and adds what a clause on this line does with what it was given.
+/// Passes over the operands of a communication, and adds the code for the received values of a clause on this line.
 pub fn communication(
     writer: &mut Writer,
     case_line: u32,

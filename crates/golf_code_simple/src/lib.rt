@@ -1,4 +1,4 @@
-//! The code of statements in which no other statement stands and for which no function is made, written by their facts.
+//! The code of statements that contain no other statement and need no function to be made, written by their facts.
 #![tactic(auto)]
 
 mod communications;

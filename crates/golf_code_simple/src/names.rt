@@ -1,4 +1,4 @@
-//! Values that are stored under names.
+//! The code that stores values under names.
 
 ghost use Rattle.golf_code_facts.specs.Statements.{stores_next, stores_two, past_two, defines_by};
 ghost use Rattle.golf_code_expressions.specs.Writing.{Writes};
@@ -8,7 +8,7 @@ use golf_base::Memory;
 use golf_code_expressions::{Writer, expression, store};
 use golf_syntax_trees::Expr;
 
-/// Stores what is on top under the name whose fact comes next.
+/// Adds the code that stores the top value under the name whose fact comes next.
 pub fn store_next(writer: &mut Writer, line: u32) -> Result<(), Memory>
     ensures { Does result (stores_next line writer.old.draft.tables.now writer.old.facts) writer.old writer.new }
 {
@@ -17,7 +17,8 @@ pub fn store_next(writer: &mut Writer, line: u32) -> Result<(), Memory>
     store(&mut writer.draft.emitted, line, operand)
 }
 
-/// Stores two values under the two names whose facts come next. That of the second stands on top.
+/// Adds the code that stores two values under the two names whose facts come next. The value of the
+/// second is on top.
 pub fn store_two(writer: &mut Writer, line: u32) -> Result<(), Memory>
     ensures { Writes result (stores_two line writer.old.draft.tables.now writer.old.facts) (past_two writer.old.facts) writer.old writer.new }
 {
@@ -29,7 +30,7 @@ pub fn store_two(writer: &mut Writer, line: u32) -> Result<(), Memory>
     store(&mut writer.draft.emitted, line, first)
 }
 
-/// An expression, whose value is stored under a name.
+/// Adds the code of an expression, and the code that stores its value under a name.
 pub fn define(writer: &mut Writer, line: u32, e: &Expr) -> Result<(), Memory>
     ensures { Does result (defines_by writer.old.draft.tables.now line e.now writer.old.facts) writer.old writer.new }
 {

@@ -1,4 +1,7 @@
-//! The names of a `range`.
+//! The code of the names of a `range`.
+//!
+//! The hidden slots hold the slice and the index, or the channel. Each name has a fact that says where its value is
+//! stored.
 
 ghost use Rattle.std.specs.Prelude.{◌≡◌, ◌+◌};
 ghost use Rattle.golf_code_facts.specs.Facts.{past_one};
@@ -15,7 +18,7 @@ use golf_code_layout::op;
 use golf_data::Instr;
 use golf_syntax_trees::RangeNames;
 
-// The index, which stands in this slot.
+// Adds the code that stores the index, which is in this slot.
 fn index_name(
     writer: &mut Writer,
     line: u32,
@@ -34,7 +37,7 @@ fn index_name(
     store_next(writer, line)
 }
 
-// The element at the index, of the slice in this slot.
+// Adds the code that stores the element at the index, of the slice in this slot.
 fn element_name(
     writer: &mut Writer,
     line: u32,
@@ -70,7 +73,8 @@ fn two_names(
     element_name(writer, line, slice, index, second)
 }
 
-/// The names of a `range` over a slice: the slice is in the first hidden slot, the next index in the third.
+/// Adds the code of the names of a `range` over a slice. The slice is in the first hidden slot, the next index in the
+/// third.
 pub fn slice_names(
     writer: &mut Writer,
     line: u32,
@@ -90,7 +94,7 @@ pub fn slice_names(
     }
 }
 
-// Two names, which no channel has: what was received is dropped.
+// Drops the received value, if there are two names. A checked `range` over a channel has at most one.
 fn two_received(writer: &mut Writer, line: u32, first: &[u8], second: &[u8]) -> Result<(), Memory>
     ensures { Writes result (channel_name_of writer.old.draft.tables.now line (RangeNames.Two first.now second.now) writer.old.facts) (past_two writer.old.facts) writer.old writer.new }
 {
@@ -99,7 +103,7 @@ fn two_received(writer: &mut Writer, line: u32, first: &[u8], second: &[u8]) -> 
     op(&mut writer.draft.emitted, line, Instr::Drop)
 }
 
-/// The name of a `range` over a channel.
+/// Adds the code of the name of a `range` over a channel.
 pub fn channel_name(writer: &mut Writer, line: u32, names: &RangeNames) -> Result<(), Memory>
     ensures { Writes result (channel_name_of writer.old.draft.tables.now line names.now writer.old.facts) (past_names names.now writer.old.facts) writer.old writer.new }
 {

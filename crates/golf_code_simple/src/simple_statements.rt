@@ -1,4 +1,4 @@
-//! Simple statements.
+//! The code of simple statements.
 
 ghost use Rattle.std.specs.Prelude.{◌≡◌};
 ghost use Rattle.golf_code_of.specs.Statements.{drops as drops_of, update_instr as update_instr_of};
@@ -14,7 +14,7 @@ use golf_code_layout::{Emitted, op};
 use golf_data::Instr;
 use golf_syntax_trees::{Expr, OwnedSimple, Simple, SimpleKind, UpdateOperator};
 
-// What a call or receive leaves is dropped.
+// Drops the value that a call or receive leaves.
 fn drops(emitted: &mut List<Emitted>, line: u32, operand: &Operand) -> Result<(), Memory>
     ensures { Adds result (drops_of line operand.now) emitted.old emitted.new }
 {

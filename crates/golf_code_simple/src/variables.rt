@@ -1,4 +1,4 @@
-//! Variables and returns.
+//! The code of variables and returns.
 
 ghost use Rattle.std.specs.Prelude.{◌≡◌};
 ghost use Rattle.golf_check_types.specs.Types.{type_of};
@@ -14,7 +14,7 @@ use golf_code_layout::op;
 use golf_data::Instr;
 use golf_syntax_trees::{OwnedExpr, TypeExpr, Var, VarContent};
 
-// The instruction that pushes the zero value of a variable.
+// Returns the instruction that pushes the zero value of a variable.
 fn zero_of(operand: &Operand) -> Instr
     ensures { result ≡ push_of (zero_value_of (type_of operand.now)) }
 {
@@ -39,7 +39,7 @@ fn zero_of(operand: &Operand) -> Instr
     }
 }
 
-// `var n T`
+// Adds the code of `var n T`.
 fn zero(writer: &mut Writer, line: u32, of_type: &TypeExpr) -> Result<(), Memory>
     ensures { Does result (var_by writer.old.draft.tables.now line (VarContent.Zero of_type.now) writer.old.facts) writer.old writer.new }
 {

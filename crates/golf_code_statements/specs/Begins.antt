@@ -1,4 +1,4 @@
--- What begins a function: `go` or `defer` (Go specification, "Go statements", "Defer statements").
+-- The instruction that begins a function: `go` or `defer` (Go specification, "Go statements", "Defer statements").
 use Rattle.std.specs.Prelude.{ℕ}
 use Rattle.golf_data.specs.declared.code.Instr.{Instr}
 use Rattle.golf_code_statements.specs.declared.begins.Begins.{Begins}

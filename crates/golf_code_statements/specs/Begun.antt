@@ -1,4 +1,4 @@
--- A function that is begun, after the code of what is called.
+-- A function that is begun, after the code of the callee.
 use Rattle.std.specs.Prelude.{ℕ, List, [], ◌∷◌, length, map}
 use Rattle.golf_syntax_trees.specs.declared.expressions.Expr.{Expr}
 use Rattle.golf_data.specs.declared.code.Instr.{Instr}
@@ -11,7 +11,7 @@ use Rattle.golf_code_facts.specs.Facts.{skip_all}
 use Rattle.golf_code_facts.specs.Expressions.{taking, arguments}
 use Rattle.golf_code_facts.specs.Statements.{LaidBy, by}
 
--- the arguments, and what begins the function, if so many functions stand before the next one that is made
+-- the code of the arguments, and the instruction; `next` is the number of the next function that is made
 abbrev pub begun : Tables → ℕ → (ℕ → ℕ → Instr) → ℕ → Operand → List Expr → List Fact → LaidBy
 begun t l begin next m xs fs =
     let ys = arguments l (map (taking t) xs) fs in

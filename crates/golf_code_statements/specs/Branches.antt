@@ -15,13 +15,13 @@ with_parts w ms = record { facts = w.facts; draft = record w.draft { emitted = m
 abbrev pub two_begun : Writer → Writer
 two_begun w = with_parts w ((w.draft.emitted ++ emit.Block ∷ []) ++ emit.Block ∷ [])
 
--- the first branch, which leads to the end of both, and the end of the inner block
+-- the first branch, which goes on at the end of both, and the end of the inner block
 abbrev pub branched : ℕ → LayBy → Targets → Writer → Writer
 branched l x u w =
     let v = after (two_begun w) (x (within 2 (around w u)) w.facts) in
     with_parts v ((v.draft.emitted ++ emit.Exit l 1 ∷ []) ++ emit.End ∷ [])
 
--- so many blocks end
+-- n blocks end
 abbrev pub shut : ℕ → List Emitted → List Emitted
 shut zero ms = ms
 shut (suc n) ms = shut n ms ++ emit.End ∷ []

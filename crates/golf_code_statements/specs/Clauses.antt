@@ -1,4 +1,4 @@
--- The clauses of a `select` on flat parts: one after the other, each at the end of what stands before it.
+-- The clauses of a `select` on flat parts: one after another, each at the end of the code before it.
 use Rattle.std.specs.Prelude.{ℕ, zero, suc, List, [], ◌∷◌, ◌++◌, length, Option, Some, None}
 use Rattle.golf_code_layout.specs.Piece.{Piece}
 use Rattle.golf_code_of.specs.Selects.{in_clause}
@@ -11,12 +11,12 @@ use Rattle.golf_code_expressions.specs.declared.writer.Writer.{Writer}
 use Rattle.golf_code_statements.specs.declared.targets.Targets.{Targets}
 use Rattle.golf_code_statements.specs.Lays.{around, after}
 
--- the first of two
+-- the first number if there is one, else the second
 abbrev pub first_of : Option ℕ → Option ℕ → Option ℕ
 first_of None later = later
 first_of (Some k) later = Some k
 
--- so many blocks begin
+-- n blocks begin
 abbrev pub opened : ℕ → List Emitted → List Emitted
 opened zero ms = ms
 opened (suc n) ms = opened n ms ++ emit.Block ∷ []
@@ -25,14 +25,14 @@ opened (suc n) ms = opened n ms ++ emit.Block ∷ []
 abbrev pub ended : Writer → Writer
 ended w = record { facts = w.facts; draft = record w.draft { emitted = w.draft.emitted ++ emit.End ∷ [] } }
 
--- it goes on at a target
+-- the code goes on at a target
 abbrev pub leaving : ℕ → ℕ → Writer → Writer
 leaving line k w = record {
   facts = w.facts;
   draft = record w.draft { emitted = onto w.draft.emitted (Piece.Exit line k) };
 }
 
--- a clause with this code, after which so many stand
+-- a clause with this code, which `later` clauses follow
 abbrev pub with_clause : ℕ → ℕ → LaidBy → Writer → Writer
 with_clause line later x w = leaving line later (after (ended w) x)
 

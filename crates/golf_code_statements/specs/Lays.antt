@@ -1,4 +1,4 @@
--- What the calls that write statements tell. Out of memory, they tell nothing.
+-- The clause of the calls that write statements. Without memory it says nothing.
 use Rattle.std.specs.Prelude.{◌≡◌, ◌+◌, ◌++◌, length, Result, Ok, Err}
 use Rattle.golf_base.specs.declared.Memory.{Memory}
 use Rattle.golf_code_of.specs.declared.making.Around.{Around}
@@ -9,15 +9,15 @@ use Rattle.golf_code_expressions.specs.declared.writer.Draft.{Draft}
 use Rattle.golf_code_expressions.specs.declared.writer.Writer.{Writer}
 use Rattle.golf_code_statements.specs.declared.targets.Targets.{Targets}
 
--- what stands around the next statement
+-- the surroundings of the next statement
 abbrev pub around : Writer → Targets → Around
 around w u = record { breaks = u.breaks; continues = u.continues; functions = w.draft.functions }
 
--- what stands around the body of a loop or of a function does not matter there
+-- the surroundings with no targets, for the body of a loop or of a function
 abbrev pub apart : Writer → Around
 apart w = record { breaks = 0; continues = 0; functions = w.draft.functions }
 
--- the code of a statement more, and the functions that are made for it
+-- the draft with the code of a statement and the functions to be made for it
 abbrev pub with_laid : Draft → Laid → Draft
 with_laid d x = record d {
   emitted = onto d.emitted x.piece;

@@ -1,4 +1,7 @@
-//! Go and defer statements.
+//! The code of go and defer statements (Go specification, "Go statements", "Defer statements").
+//!
+//! `go` and `defer` begin a function. For a built-in call the next function is made, which does the operation on its
+//! parameters.
 
 ghost use Rattle.std.specs.Prelude.{◌≡◌, ◌+◌, ◌∷◌, ◌++◌, [], length, map, IfOk, OnOk};
 ghost use Rattle.golf_check_types.specs.Types.{given, type_given};
@@ -22,12 +25,12 @@ use golf_data::Instr;
 use golf_syntax_trees::Expr;
 use std::alloc::Global;
 
-/// How a function is begun.
+/// How a statement begins a function.
 #[derive(Clone, Copy, Debug, PartialEq, Eq)]
 pub enum Begins {
-    /// On a goroutine of its own.
+    /// On a new goroutine.
     Go,
-    /// When the function around it ends.
+    /// When the function around it returns or panics.
     Defer,
 }
 
@@ -54,7 +57,7 @@ fn receiver_base(built_in: BuiltIn) -> Option<Base>
     }
 }
 
-// A list with the type of the receiver, if there is one.
+// Returns a list with the type of the receiver, if there is one.
 fn receiver_type(alloc: Global, base: Option<Base>) -> Result<List<Option<GoType>>, Memory>
     ensures { IfOk result (λ ts. ts ≡ with_receiver base []) }
 {
@@ -66,7 +69,7 @@ fn receiver_type(alloc: Global, base: Option<Base>) -> Result<List<Option<GoType
     Ok(types)
 }
 
-// The type of what an operand gives, if it has one.
+// Returns the type of the value that an operand gives, or `None` if it has none.
 #[tactic(auto, using(crate::proofs::Types::types_agree))]
 fn type_of_value(alloc: Global, operand: &Operand) -> Result<Option<GoType>, Memory>
     ensures { IfOk result (λ t. t ≡ type_given (given operand.now)) }
@@ -74,7 +77,7 @@ fn type_of_value(alloc: Global, operand: &Operand) -> Result<Option<GoType>, Mem
     type_of(alloc, operand)
 }
 
-// The arguments are pushed.
+// Adds the code that pushes the arguments.
 fn pushed(writer: &mut Writer, line: u32, xs: &[Expr]) -> Result<(), Memory>
     ensures { Writes result (pushes (arguments_of line (map (taking writer.old.draft.tables.now) xs.now) writer.old.facts)) (skip_all (length xs.now) writer.old.facts) writer.old writer.new }
 {
@@ -84,7 +87,7 @@ fn pushed(writer: &mut Writer, line: u32, xs: &[Expr]) -> Result<(), Memory>
     Ok(())
 }
 
-// The same, and adds their types.
+// Does the same, and adds the types of the arguments to a list.
 fn pushed_with_types(
     writer: &mut Writer,
     line: u32,
@@ -102,7 +105,7 @@ fn pushed_with_types(
     Ok(())
 }
 
-// A function or method of the file, with its arguments and so many operands more.
+// Begins a function or method of the file, with its arguments and `more` operands before them.
 fn begin_function(
     writer: &mut Writer,
     line: u32,
@@ -123,7 +126,7 @@ fn begin_function(
     )
 }
 
-// The next function is made: its number is named, and there is one more.
+// Records the next function to be made.
 fn make(writer: &mut Writer, making: Making) -> Result<(), Memory>
     ensures { OnOk result (writer.new ≡ record { facts = writer.old.facts; draft = record writer.old.draft { made = writer.old.draft.made ++ making ∷ []; functions = writer.old.draft.functions + 1 } }) }
 {
@@ -132,7 +135,7 @@ fn make(writer: &mut Writer, making: Making) -> Result<(), Memory>
     Ok(())
 }
 
-// A built-in operation, for which the next function is made.
+// Begins a built-in operation, for which the next function is made.
 fn begin_operation(
     writer: &mut Writer,
     line: u32,
@@ -159,7 +162,7 @@ fn begin_operation(
     make(writer, making)
 }
 
-// What begins a function that is no built-in operation: after the arguments there is no code if nothing can be called.
+// Begins a callee that is no built-in operation. If it cannot be called, there is no code after the arguments.
 fn begin_callee(
     writer: &mut Writer,
     line: u32,
@@ -190,7 +193,7 @@ fn begin_callee(
     }
 }
 
-/// A go or defer statement: receiver and arguments are evaluated now.
+/// Adds the code of a go or defer statement. Receiver and arguments are evaluated now.
 pub fn begin_at(
     writer: &mut Writer,
     targets: Targets,

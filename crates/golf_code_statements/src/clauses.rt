@@ -1,4 +1,7 @@
-//! What a `select` chooses from, before its clauses.
+//! The choice of a `select`, before the code of its clauses.
+//!
+//! The operands of all clauses come before the choice, so the facts of all clauses are gone over
+//! twice: here, and for their bodies.
 
 ghost use Rattle.std.specs.Prelude.{◌≡◌, ◌++◌, map, None, IfOk, OnOk};
 ghost use Rattle.golf_code_layout.specs.Piece.{all};
@@ -19,7 +22,7 @@ use golf_data::{CaseKind, SelectCase};
 use golf_syntax_trees::{Clause, Communication};
 use std::alloc::Global;
 
-/// The cases of a `select`, and which clause is `default`.
+/// The cases of a `select`, and the number of the `default` clause, if there is one.
 #[derive(Drop)]
 pub struct Choice {
     pub cases: List<SelectCase>,
@@ -36,7 +39,7 @@ fn kind(communication: &Communication) -> CaseKind
     }
 }
 
-/// The line of a clause.
+/// Returns the line of a clause.
 #[tactic(auto, unfolding(golf_code_facts::specs::Laying::clause_by))]
 pub fn clause_line(clause: &Clause) -> u32
     ensures { (t : Tables) → result ≡ (clause_by t clause.now).line }
@@ -47,7 +50,7 @@ pub fn clause_line(clause: &Clause) -> u32
     }
 }
 
-// Pushes the operands of a clause.
+// Adds the code that pushes the operands of a clause.
 #[tactic(auto, unfolding(golf_code_facts::specs::Laying::clause_by))]
 fn clause_operands(writer: &mut Writer, line: u32, clause: &Clause) -> Result<(), Memory>
     ensures { Extends result ((clause_by writer.old.draft.tables.now clause.now).operands line writer.old.facts) writer.old writer.new }
@@ -61,7 +64,7 @@ fn clause_operands(writer: &mut Writer, line: u32, clause: &Clause) -> Result<()
     }
 }
 
-// The same, and passes over the facts of the clause.
+// Does the same, and passes over the facts of the clause.
 fn push_operands(writer: &mut Writer, line: u32, clause: &Clause) -> Result<(), Memory>
     ensures { Writes result ((clause_by writer.old.draft.tables.now clause.now).operands line writer.old.facts) (skip writer.old.facts) writer.old writer.new }
 {
@@ -81,7 +84,7 @@ fn all_operands(writer: &mut Writer, line: u32, clauses: &[Clause]) -> Result<()
     Ok(())
 }
 
-// A clause of this number among those that are chosen from.
+// Adds a clause of this number to the choice.
 #[tactic(auto, unfolding(golf_code_facts::specs::Laying::clause_by))]
 fn add_clause(choice: &mut Choice, clause: &Clause, number: u32) -> Result<(), Memory>
     ensures cases { (t : Tables) → OnOk result (choice.new.cases ≡ choice.old.cases ++ case_to number (clause_by t clause.now).kind) }
@@ -120,7 +123,8 @@ fn choice_from(alloc: Global, clauses: &[Clause]) -> Result<Choice, Memory>
     Ok(choice)
 }
 
-/// The operands of all clauses in source order, and the choice. No fact is passed over.
+/// Adds the code of the operands of all clauses in source order, and the choice. It passes over no
+/// fact.
 pub fn choose(writer: &mut Writer, line: u32, clauses: &[Clause]) -> Result<(), Memory>
     ensures { Writes result (choice_of line (map (clause_by writer.old.draft.tables.now) clauses.now) writer.old.facts) writer.old.facts writer.old writer.new }
 {
@@ -135,7 +139,7 @@ pub fn choose(writer: &mut Writer, line: u32, clauses: &[Clause]) -> Result<(), 
     Ok(())
 }
 
-/// So many blocks begin.
+/// Begins `count` blocks.
 pub fn begin_blocks(emitted: &mut List<Emitted>, count: usize) -> Result<(), Memory>
     ensures { OnOk result (emitted.new ≡ opened count emitted.old) }
 {
@@ -145,7 +149,7 @@ pub fn begin_blocks(emitted: &mut List<Emitted>, count: usize) -> Result<(), Mem
     Ok(())
 }
 
-/// Ends so many blocks.
+/// Ends `count` blocks.
 pub fn end_blocks(emitted: &mut List<Emitted>, count: usize) -> Result<(), Memory>
     ensures { OnOk result (emitted.new ≡ shut count emitted.old) }
 {

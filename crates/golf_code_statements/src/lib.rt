@@ -1,4 +1,4 @@
-//! The code of statements and bodies, written by their facts to flat parts.
+//! The writer of the code of statements and bodies, by their facts, as flat parts.
 #![tactic(auto)]
 
 mod begins;

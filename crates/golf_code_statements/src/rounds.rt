@@ -1,4 +1,7 @@
-//! What stands around the bodies of loops.
+//! The code around the bodies of loops.
+//!
+//! A loop has two blocks: the target of the outer one is the end of the loop, the target of the
+//! inner one its beginning.
 
 ghost use Rattle.std.specs.Prelude.{◌≡◌, ◌+◌, [], ◌∷◌, ◌++◌, pos, OnOk, IfOk};
 ghost use Rattle.golf_check_types.specs.Types.{is_slice as is_slice_of, given, given_type, starts_with};
@@ -19,7 +22,7 @@ use golf_code_layout::{Emitted, again, block, end, exit, op, unless};
 use golf_data::Instr;
 use golf_syntax_trees::{Expr, OwnedExpr};
 
-/// The end and the beginning of a loop become targets.
+/// Begins the two blocks of a loop. Their targets are the end and the beginning of the loop.
 pub fn begin_round(emitted: &mut List<Emitted>) -> Result<(), Memory>
     ensures { OnOk result (emitted.new ≡ (emitted.old ++ emit.Block ∷ []) ++ emit.Again ∷ []) }
 {
@@ -27,7 +30,7 @@ pub fn begin_round(emitted: &mut List<Emitted>) -> Result<(), Memory>
     again(emitted)
 }
 
-/// A loop goes on at its beginning.
+/// Adds the jump to the beginning of a loop, and ends its two blocks.
 pub fn end_round(emitted: &mut List<Emitted>, line: u32) -> Result<(), Memory>
     ensures { OnOk result (emitted.new ≡ (onto emitted.old (Piece.Exit line 0) ++ emit.End ∷ []) ++ emit.End ∷ []) }
 {
@@ -36,7 +39,7 @@ pub fn end_round(emitted: &mut List<Emitted>, line: u32) -> Result<(), Memory>
     end(emitted)
 }
 
-/// A condition; if it is false, it goes on at a target.
+/// Adds the code of a condition. If it is false, the code goes on at a target.
 pub fn condition(writer: &mut Writer, line: u32, test: &Expr, target: u32) -> Result<(), Memory>
     ensures { Writes result (all ((taking writer.old.draft.tables.now test.now line writer.old.facts).piece ∷ Piece.Unless line target ∷ [])) (skip writer.old.facts) writer.old writer.new }
 {
@@ -44,7 +47,7 @@ pub fn condition(writer: &mut Writer, line: u32, test: &Expr, target: u32) -> Re
     unless(&mut writer.draft.emitted, line, target)
 }
 
-/// A condition of a loop, if there is one.
+/// Adds the code of the condition of a loop, if there is one.
 pub fn optional_test(writer: &mut Writer, line: u32, test: &Option<OwnedExpr>) -> Result<(), Memory>
     ensures { Does result (optional_test_of writer.old.draft.tables.now line test.now writer.old.facts) writer.old writer.new }
 {
@@ -72,7 +75,7 @@ fn slice_type(t: &Option<GoType>) -> bool
     }
 }
 
-/// Whether a value is a slice.
+/// Returns whether a value is a slice.
 pub fn is_slice(operand: &Operand) -> bool
     ensures { result ≡ is_outer is_slice_of (given operand.now) }
 {
@@ -97,14 +100,15 @@ pub fn is_slice(operand: &Operand) -> bool
     }
 }
 
-/// The slot that stands so many after another.
+/// Returns the slot that comes `count` after another.
 pub fn slot_after(slot: u32, count: u32) -> Result<u32, Memory>
     ensures { IfOk result (λ k. k ≡ slot + count) }
 {
     slot.checked_add(count).ok_or(Memory)
 }
 
-/// The hidden slots of a `range` over a slice take the slice, its length and the first index.
+/// Adds the code that stores the slice, its length and the first index in the hidden slots of a
+/// `range`.
 pub fn store_slice(
     emitted: &mut List<Emitted>,
     line: u32,
@@ -122,7 +126,8 @@ pub fn store_slice(
     op(emitted, line, Instr::Store(index))
 }
 
-/// Whether the index is below the length.
+/// Adds the code that tests whether the index is below the length, and leaves the loop if it is
+/// not.
 pub fn test_index(
     emitted: &mut List<Emitted>,
     line: u32,
@@ -137,7 +142,7 @@ pub fn test_index(
     unless(emitted, line, 1)
 }
 
-/// The next index.
+/// Adds the code that raises the index by one.
 pub fn step_index(emitted: &mut List<Emitted>, line: u32, index: u32) -> Result<(), Memory>
     ensures { Adds result (all (op_of line (Instr.Load index) ∷ op_of line (Instr.Int (pos 1)) ∷ op_of line Instr.Add ∷ op_of line (Instr.Store index) ∷ [])) emitted.old emitted.new }
 {
@@ -147,7 +152,8 @@ pub fn step_index(emitted: &mut List<Emitted>, line: u32, index: u32) -> Result<
     op(emitted, line, Instr::Store(index))
 }
 
-/// Receives from the channel in a hidden slot, as long as it is open.
+/// Adds the code that receives from the channel in a hidden slot, and leaves the loop if the
+/// channel is closed and empty.
 pub fn receive_open(emitted: &mut List<Emitted>, line: u32, channel: u32) -> Result<(), Memory>
     ensures { Adds result (all (op_of line (Instr.Load channel) ∷ op_of line Instr.ReceiveOk ∷ Piece.Unless line 1 ∷ [])) emitted.old emitted.new }
 {

@@ -1,4 +1,4 @@
-//! Statements in which no other statement stands and for which no function is made.
+//! The code of statements that contain no other statement and need no function to be made.
 
 ghost use Rattle.golf_code_facts.specs.Statements.{by_piece, simple_by, var_by, return_by, break_lay, continue_lay};
 ghost use Rattle.golf_code_statements.specs.Lays.{around, Lays};
@@ -10,7 +10,7 @@ use golf_code_layout::exit;
 use golf_code_simple::{returned, simple, variable};
 use golf_syntax_trees::{OwnedExpr, Simple, Var};
 
-/// A simple statement.
+/// Adds the code of a simple statement.
 pub fn simple_at(writer: &mut Writer, targets: Targets, one: &Simple) -> Result<(), Memory>
     ensures { Lays result (by_piece (simple_by writer.old.draft.tables.now one.now.line one.now.kind) (around writer.old targets) writer.old.facts) writer.old writer.new }
 {
@@ -18,7 +18,7 @@ pub fn simple_at(writer: &mut Writer, targets: Targets, one: &Simple) -> Result<
     Ok(())
 }
 
-/// A variable.
+/// Adds the code of a variable.
 pub fn variable_at(writer: &mut Writer, targets: Targets, var: &Var) -> Result<(), Memory>
     ensures { Lays result (by_piece (var_by writer.old.draft.tables.now var.now.line var.now.content) (around writer.old targets) writer.old.facts) writer.old writer.new }
 {
@@ -26,7 +26,7 @@ pub fn variable_at(writer: &mut Writer, targets: Targets, var: &Var) -> Result<(
     Ok(())
 }
 
-/// A return statement.
+/// Adds the code of a return statement.
 pub fn return_at(
     writer: &mut Writer,
     targets: Targets,
@@ -39,7 +39,7 @@ pub fn return_at(
     Ok(())
 }
 
-/// A break statement.
+/// Adds the code of a break statement.
 pub fn break_at(writer: &mut Writer, targets: Targets, line: u32) -> Result<(), Memory>
     ensures { Lays result (break_lay line (around writer.old targets) writer.old.facts) writer.old writer.new }
 {
@@ -47,7 +47,7 @@ pub fn break_at(writer: &mut Writer, targets: Targets, line: u32) -> Result<(), 
     Ok(())
 }
 
-/// A continue statement.
+/// Adds the code of a continue statement.
 pub fn continue_at(writer: &mut Writer, targets: Targets, line: u32) -> Result<(), Memory>
     ensures { Lays result (continue_lay line (around writer.old targets) writer.old.facts) writer.old writer.new }
 {

@@ -1,4 +1,7 @@
-//! The code of a statement, and of a body.
+//! The writer of the code of a statement and of a body, by their facts.
+//!
+//! It keeps the targets of `break` and `continue` and the number of the next function to be made. A loop follows each
+//! `else if`; other parts are written by recursion, whose depth the cost of tokens bounds.
 
 ghost use Rattle.std.specs.Prelude.{map, OnOk, ◌≡◌};
 ghost use Rattle.golf_code_facts.specs.Statements.{in_order, after_test, then_lay as then_lay_of, if_lay, else_lay};
@@ -9,8 +12,6 @@ ghost use Rattle.golf_code_facts.specs.Laying.{stmt_by, clause_by};
 ghost use Rattle.golf_code_statements.specs.Ranges.{ranged_slice, ranged_channel};
 ghost use Rattle.golf_code_statements.specs.Clauses.{with_clauses};
 ghost use Rattle.golf_code_statements.specs.Branches.{branched};
-ghost use Rattle.golf_syntax_trees.specs.Elses.{else_of, IsShorter};
-ghost use Rattle.golf_syntax_trees.specs.declared.statements.Stmt.{out-Stmt, size-Stmt};
 ghost use Rattle.golf_code_statements.specs.Lays.{around, apart, Lays};
 
 use crate::begins::{Begins, begin_at};
@@ -27,7 +28,7 @@ use golf_code_layout::{block as begin_block, end as end_block, exit, op};
 use golf_code_simple::{channel_name, communication, optional, slice_names};
 use golf_data::Instr;
 use golf_syntax_trees::{
-    Clause, Communication, Expr, Header, OwnedExpr, OwnedSimple, RangeNames, Stmt,
+    Clause, Communication, Expr, Header, OwnedExpr, OwnedSimple, RangeNames, Stmt, behind_else,
 };
 
 #[cycle(laying)]
@@ -86,7 +87,8 @@ fn if_at(
     end_block(&mut writer.draft.emitted)
 }
 
-// The first branch of an `if` with an `else`, which leads to the end of both, in two blocks of which the inner one ends.
+// Adds the first branch of an `if` with an `else`, which goes on at the end of both. It begins two blocks and ends the
+// inner one.
 #[cycle(laying)]
 fn first_branch(
     writer: &mut Writer,
@@ -126,29 +128,7 @@ fn else_at(
     Ok(())
 }
 
-// Returns the statement behind the `else` of an `if`, or the statement itself if it has none.
-#[tactic(auto, unfolding(golf_syntax_trees::specs::Elses::else_of))]
-fn behind_else(stmt: &Stmt) -> &Stmt
-    ensures is { result.now ≡ else_of stmt.now }
-    ensures smaller { IsShorter (out-Stmt stmt.now) (size-Stmt result.now) (size-Stmt stmt.now) }
-{
-    match stmt {
-        Stmt::IfElse(_, _, _, _, otherwise) => otherwise.get(),
-        Stmt::Var(_) => stmt,
-        Stmt::Simple(_) => stmt,
-        Stmt::Go(_, _, _) => stmt,
-        Stmt::Defer(_, _, _) => stmt,
-        Stmt::Return(_, _) => stmt,
-        Stmt::Break(_) => stmt,
-        Stmt::Continue(_) => stmt,
-        Stmt::Block(_, _) => stmt,
-        Stmt::If(_, _, _, _) => stmt,
-        Stmt::For(_, _, _) => stmt,
-        Stmt::Select(_, _) => stmt,
-    }
-}
-
-// The statement behind `else`. A loop follows each `else if`, since nothing bounds their number.
+// Adds the code of the statement after `else`. A loop follows each `else if`, since nothing bounds their number.
 #[cycle(laying)]
 fn otherwise_at(writer: &mut Writer, targets: Targets, otherwise: &Stmt) -> Result<(), Memory>
     ensures { Lays result (stmt_by writer.old.draft.tables.now otherwise.now (around writer.old targets) writer.old.facts) writer.old writer.new }
@@ -167,7 +147,7 @@ fn otherwise_at(writer: &mut Writer, targets: Targets, otherwise: &Stmt) -> Resu
     Ok(())
 }
 
-// The body of a loop, which `break` and `continue` leave by these targets.
+// Adds the code of the body of a loop. `break` and `continue` leave it by these targets.
 #[cycle(laying)]
 fn loop_body(writer: &mut Writer, breaks: u32, continues: u32, body: &[Stmt]) -> Result<(), Memory>
     ensures { Lays result (in_loop breaks continues (in_order (map (stmt_by writer.old.draft.tables.now) body.now)) (apart writer.old) writer.old.facts) writer.old writer.new }
@@ -195,7 +175,8 @@ fn while_at(writer: &mut Writer, line: u32, body: &[Stmt], test: &Expr) -> Resul
     end_round(&mut writer.draft.emitted, line)
 }
 
-// The facts of the post statement stand before those of the body, and its code after it.
+// Adds the code of a loop with a post statement. The facts of the post statement come before those of the body, and its
+// code after it.
 #[cycle(laying)]
 fn stepping(
     writer: &mut Writer,
@@ -398,7 +379,7 @@ fn select_at(
     Ok(())
 }
 
-/// Adds the code of a statement and the functions that are made for it, by the facts that come next.
+/// Adds the code of a statement and the functions to be made for it, by the facts that come next.
 #[cycle(laying)]
 #[tactic(auto, unfolding(golf_code_facts::specs::Laying::clause_by, golf_code_facts::specs::Laying::stmt_by))]
 pub fn statement(writer: &mut Writer, targets: Targets, stmt: &Stmt) -> Result<(), Memory>

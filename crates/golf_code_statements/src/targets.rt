@@ -1,17 +1,17 @@
-//! What stands around a statement.
+//! The targets around a statement.
 
 ghost use Rattle.std.specs.Prelude.{◌≡◌, ◌+◌, IfOk};
 
 use golf_base::Memory;
 
-/// Which of the targets around a statement `break` and `continue` lead to, counted from the innermost one.
+/// The targets of `break` and `continue` around a statement, counted from the innermost target.
 #[derive(Clone, Copy, Debug, PartialEq, Eq)]
 pub struct Targets {
     pub breaks: u32,
     pub continues: u32,
 }
 
-/// Inside of so many targets more.
+/// Returns the targets inside `count` more targets.
 pub fn within(targets: Targets, count: u32) -> Result<Targets, Memory>
     ensures { IfOk result (λ u. u ≡ record { breaks = targets.breaks + count; continues = targets.continues + count }) }
 {
@@ -21,7 +21,7 @@ pub fn within(targets: Targets, count: u32) -> Result<Targets, Memory>
     })
 }
 
-/// In a clause of `select`, after which so many stand.
+/// Returns the targets inside a clause of `select` that `later` clauses follow.
 pub fn in_clause(targets: Targets, later: u32) -> Result<Targets, Memory>
     ensures { IfOk result (λ u. u ≡ record { breaks = later; continues = targets.continues + (later + 1) }) }
 {
@@ -32,7 +32,7 @@ pub fn in_clause(targets: Targets, later: u32) -> Result<Targets, Memory>
     })
 }
 
-/// One more than a count.
+/// Returns a count plus one.
 pub fn one_more(count: usize) -> Result<usize, Memory>
     ensures { IfOk result (λ n. n ≡ count + 1) }
 {

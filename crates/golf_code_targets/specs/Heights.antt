@@ -1,4 +1,4 @@
--- The most operands that stand at a place, by one pass over the parts.
+-- The most operands at any place, by one pass over the parts.
 use Rattle.std.specs.Prelude.{ℕ, ◌-◌, Bool, true, false, max, List, [], ◌∷◌, Option, Some, None}
 use Rattle.std.specs.Option.{option_map}
 use Rattle.golf_data.specs.declared.code.SelectCase.{SelectCase}
@@ -9,23 +9,23 @@ use Rattle.golf_code_layout.specs.declared.emitted.Emitted.TheVariants as emit
 use Rattle.golf_code_targets.specs.declared.heights.Heights.{Heights}
 use Rattle.golf_code_targets.specs.Passes.{rest}
 
--- what stands here afterwards
+-- this number of operands is at the present place
 abbrev pub stands : Option ℕ → Heights → Heights
 stands after s = record s { most = max s.most (height after); here = after }
 
--- a jump to a target with so many operands
+-- a jump to a target with this number of operands
 abbrev pub leads : ℕ → Option ℕ → Heights → Heights
 leads k h s = record s { targets = reached s.targets k h }
 
 abbrev pub takes_in : Heights → Flow → Heights
 takes_in s f = record s { most = max s.most f.most; here = f.behind; targets = f.targets }
 
--- where a block ends: what leads to its end, if that is its target
+-- the operands after the end of a block; jumps to its end count if that is its target
 abbrev pub end_height : List Bool → Option ℕ → List (Option ℕ) → Option ℕ
 end_height (true ∷ kinds) h targets = met h (innermost targets)
 end_height _ h targets = h
 
--- The same case by case.
+-- The same, case by case.
 
 abbrev pub case_chosen : Option ℕ → SelectCase → Heights → Heights
 case_chosen below c s = let after = above below

@@ -10,21 +10,20 @@ use Rattle.golf_code_layout.specs.declared.emitted.Emitted.TheVariants as emit
 use Rattle.golf_code_targets.specs.declared.targets.Targets.{Targets}
 use Rattle.golf_code_targets.specs.declared.bodies.Body.{Body}
 
--- all but the first
+-- all items but the first
 abbrev pub rest : {X : Type 0} → List X → List X
 rest [] = []
 rest (x ∷ xs) = xs
 
 -- The targets of the blocks, in the order in which the blocks begin.
 
--- the block that ends here has its target here, if it waits for its end
+-- the targets after a block ends here; its target is here, if it is the block's end
 abbrev pub ended : ℕ → List (Option ℕ) → List ℕ → List ℕ
 ended at [] found = found
 ended at (None ∷ waiting) found = found
 ended at (Some i ∷ waiting) found = slice_set found i at
 
--- a place is gone past, and the blocks that begin are waiting for their end, each with the place among the targets that
--- waits
+-- a part is passed over; a block whose target is its end waits for it with the number of that target
 abbrev pub target_step : Emitted → Targets → Targets
 target_step (emit.Op i line) s = record s { at = s.at + 1 }
 target_step (emit.Exit line k) s = record s { at = s.at + 1 }
@@ -44,12 +43,12 @@ no_targets = record { at = 0; waiting = []; found = [] }
 abbrev pub targets_of : List Emitted → List ℕ
 targets_of ms = (target_steps ms no_targets).found
 
--- The lines, if the blocks have these targets.
+-- The lines of blocks with these targets.
 
 abbrev pub with_line : Body → Instr → ℕ → Body
 with_line s i line = record s { lines = s.lines ++ on i line ∷ [] }
 
--- a block begins: its target is the next one
+-- a block begins; its target is the next one
 abbrev pub entered : List ℕ → Body → Body
 entered found s = record s { around = unwrap_or (slice_get found s.next) 0 ∷ s.around; next = s.next + 1 }
 

@@ -1,4 +1,7 @@
-//! The second pass: the lines, with the targets put in.
+//! The second pass: the lines of a body, with the targets put in.
+//!
+//! The first pass has the target of each block. This pass meets the blocks in the same order, and
+//! keeps the targets of the blocks around.
 
 ghost use Rattle.std.specs.Prelude.{◌≡◌, map, IfOk, OnOk};
 ghost use Rattle.std.specs.Option.{option_map};
@@ -13,10 +16,10 @@ use golf_code_layout::Emitted;
 use golf_data::{CodeLine, Instr, SelectCase};
 use std::alloc::Global;
 
-/// The lines of a body, as far as a pass over parts has come.
+/// The state of the second pass: the lines of a body so far.
 #[derive(Drop)]
 pub struct Body {
-    /// The targets of the blocks around.
+    /// The targets of the blocks around the next part.
     pub around: Nesting<u32>,
     /// How many blocks have begun.
     pub next: usize,
@@ -33,7 +36,7 @@ fn no_lines(alloc: Global) -> Body
     }
 }
 
-// The place of a target, counted from the innermost one.
+// Returns the place of a target, counted from the innermost one.
 #[tactic(auto, using(crate::proofs::Looks::target_got))]
 fn target(around: &Nesting<u32>, number: u32) -> u32
     ensures { result ≡ target_of around.now number }
@@ -88,7 +91,7 @@ fn add_choice(
     add_line(body, Instr::Select(placed, default), line)
 }
 
-// A block begins, and its target is the next one.
+// Begins a block. Its target is the next one of `found`.
 fn enter(found: &[u32], body: &mut Body) -> Result<(), Memory>
     ensures { OnOk result (body.new ≡ entered found.now body.old) }
 {
@@ -132,7 +135,7 @@ fn step(alloc: Global, found: &[u32], body: &mut Body, part: &Emitted) -> Result
     }
 }
 
-/// The lines of a body whose blocks have these targets.
+/// Returns the lines of a body whose blocks have these targets.
 pub fn lines_of(alloc: Global, found: &[u32], emitted: &[Emitted]) -> Result<List<CodeLine>, Memory>
     ensures { IfOk result (λ lines. lines ≡ (line_steps found.now emitted.now no_lines_of).lines) }
 {

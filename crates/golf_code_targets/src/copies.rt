@@ -14,7 +14,7 @@ fn copy_choice(alloc: Global, cases: &[SelectCase], otherwise: Option<u32>) -> R
     Ok(Instr::Select(copy, otherwise))
 }
 
-/// A copy of an instruction.
+/// Returns a copy of an instruction.
 pub fn copy_instr(alloc: Global, instr: &Instr) -> Result<Instr, Memory>
     ensures { IfOk result (λ i. i ≡ instr.now) }
 {

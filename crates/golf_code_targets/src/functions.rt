@@ -1,4 +1,6 @@
-//! From parts to functions.
+//! From parts to functions: all passes, and the masks of live slots.
+//!
+//! The parts stay as they are, so that the three passes can go over them.
 
 ghost use Rattle.std.specs.Prelude.{◌≡◌, IfOk};
 ghost use Rattle.golf_code_targets.specs.Passes.{lines_of as lines_of_of};
@@ -20,12 +22,12 @@ fn body_of(alloc: Global, emitted: &[Emitted]) -> Result<List<CodeLine>, Memory>
     lines_of(alloc, found.as_slice(), emitted)
 }
 
-/// The function that these parts are the code of, if these functions give a value.
+/// Returns the function with these parts as its code. `gives` says which functions give a value.
 ///
 /// # Errors
 ///
-/// `Memory` also if the body has more instructions, or more operands stand at a place, than a `u32`
-/// can count. No body of a file that is read has so many instructions (`golf_code_places`).
+/// `Memory` also comes if a `u32` cannot count the instructions of the body or the operands at a
+/// place. No body of a file that is read has that many instructions (`golf_code_places`).
 pub fn function(
     alloc: Global,
     gives: &[bool],

@@ -1,4 +1,7 @@
-//! The third pass: the most operands that stand at a place.
+//! The third pass: the most operands that a frame has at any place.
+//!
+//! The operands at a place are known from the jumps to it and from the instruction before it. They
+//! are `None` if the place is not reached.
 
 ghost use Rattle.std.specs.Prelude.{◌≡◌, ◌-◌, ◌∷◌, ◌<◌, true, false, Some, None, max, IfOk, OnOk};
 ghost use Rattle.std.specs.Option.{option_map};
@@ -16,16 +19,16 @@ use golf_code_layout::Emitted;
 use golf_data::{Instr, SelectCase, case_left, case_taken, effect_of};
 use std::alloc::Global;
 
-/// How many operands stand at places, as far as a pass over parts has come.
+/// The state of the third pass: the numbers of operands at places so far.
 #[derive(Drop)]
 pub struct Heights {
-    /// The most so far.
+    /// The most operands so far.
     pub most: u32,
-    /// How many stand here; None if no way leads here.
+    /// How many operands there are here; `None` if this place is not reached.
     pub here: Option<u32>,
     /// Whether the target of each block around is its end.
     pub kinds: Nesting<bool>,
-    /// How many stand at the target of each block around, as far as it is led to.
+    /// How many operands there are at the target of each block around, as far as it is reached.
     pub targets: Nesting<Option<u32>>,
 }
 
@@ -40,7 +43,7 @@ fn no_heights(alloc: Global) -> Heights
     }
 }
 
-// How many operands stand after an instruction that has so many before it.
+// Returns how many operands there are after an instruction with `before` operands before it.
 fn through(gives: &[bool], instr: &Instr, before: u32) -> Result<Option<u32>, Memory>
     ensures { IfOk result (λ h. h ≡ through_of gives.now instr.now before) }
 {
@@ -96,7 +99,7 @@ fn raise(h: Option<u32>, by: u32) -> Result<Option<u32>, Memory>
     }
 }
 
-// A target is led to with so many operands.
+// Records a jump to a target with this number of operands.
 #[tactic(auto, using(crate::proofs::Looks::reached_there, crate::proofs::Looks::reached_past))]
 fn reach(targets: &mut Nesting<Option<u32>>, number: u32, h: Option<u32>)
     ensures { targets.new ≡ reached targets.old number h }
@@ -107,7 +110,7 @@ fn reach(targets: &mut Nesting<Option<u32>>, number: u32, h: Option<u32>)
     }
 }
 
-// So many operands stand here now.
+// Records this number of operands at the present place.
 fn stand(heights: &mut Heights, after: Option<u32>)
     ensures { heights.new ≡ stands after heights.old }
 {
@@ -148,7 +151,7 @@ fn cases_taken(cases: &[SelectCase]) -> Result<u32, Memory>
     Ok(sum)
 }
 
-// The target of a case is led to.
+// Records the jump of a case to its target.
 fn choose_case(heights: &mut Heights, below: Option<u32>, case: SelectCase) -> Result<(), Memory>
     ensures { OnOk result (heights.new ≡ case_chosen below case heights.old) }
 {
@@ -171,7 +174,7 @@ fn choose_cases(
     Ok(())
 }
 
-// The target of `default` is led to, if there is one; the next place is not.
+// Records the jump of `default` to its target, if there is one. The next place is not reached.
 fn choose_default(heights: &mut Heights, below: Option<u32>, otherwise: Option<u32>)
     ensures { heights.new ≡ default_chosen below otherwise heights.old }
 {
@@ -253,7 +256,8 @@ fn step(gives: &[bool], heights: &mut Heights, part: &Emitted) -> Result<(), Mem
     }
 }
 
-/// The most operands that stand at a place of these parts, if these functions give a value.
+/// Returns the most operands at any place of these parts. `gives` says which functions give a
+/// value.
 pub fn most_of(alloc: Global, gives: &[bool], emitted: &[Emitted]) -> Result<u32, Memory>
     ensures { IfOk result (λ most. most ≡ most_of_of gives.now emitted.now) }
 {

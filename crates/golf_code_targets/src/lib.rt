@@ -1,7 +1,7 @@
-//! From structured code as a flat list to functions: two passes put the targets in, a third finds the most operands.
+//! From structured code as a flat list to functions. Two passes put the targets in; a third pass computes the most
+//! operands.
 //!
-//! The definitions stand in `specs/`: what each pass is, part by part, and that together they give
-//! the function of the piece.
+//! The definitions are in `specs/`: each pass, part by part. Together the passes give the function of the piece.
 #![tactic(auto)]
 
 mod bodies;

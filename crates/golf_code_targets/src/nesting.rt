@@ -1,4 +1,7 @@
-//! What stands around a place, the innermost first.
+//! The blocks around a place, the innermost first.
+//!
+//! The list is kept in memory with the first item last, so that its front grows and shrinks at the
+//! end.
 
 ghost use Rattle.std.specs.Prelude.{◌≡◌, ◌∷◌, [], slice_get, slice_set, MatchOption, OnOk};
 
@@ -6,7 +9,7 @@ use golf_base::{List, Memory};
 use std::alloc::Global;
 use std::marker::Model;
 
-/// A list that grows and shrinks at its front.
+/// A list that grows and shrinks at its front. Contracts see its items, the first one first.
 #[derive(Drop)]
 pub struct Nesting<T> {
     last_first: List<T>,
@@ -24,6 +27,7 @@ impl<T> Model for Nesting<T> {
 }
 
 impl<T> Nesting<T> {
+    /// Returns an empty nesting.
     pub fn new(alloc: Global) -> Nesting<T>
         ensures { result ≡ [] }
     {
@@ -32,7 +36,7 @@ impl<T> Nesting<T> {
         }
     }
 
-    /// Takes the first item.
+    /// Takes the first item and returns it, or `None` if there is none.
     pub fn pop(&mut self) -> Option<T>
         ensures { MatchOption result ((self.old ≡ []) × (self.new ≡ [])) (λ first. self.old ≡ first ∷ self.new) }
     {
@@ -41,7 +45,7 @@ impl<T> Nesting<T> {
 }
 
 impl<T: Drop> Nesting<T> {
-    /// Adds an item at the head. On an `Err` nothing is said of the items.
+    /// Adds an item at the front. On `Err` nothing is said of the items.
     pub fn push(&mut self, item: T) -> Result<(), Memory>
         ensures { OnOk result (self.new ≡ item ∷ self.old) }
     {
@@ -51,7 +55,7 @@ impl<T: Drop> Nesting<T> {
 }
 
 impl<T: Copy> Nesting<T> {
-    /// The item at a place, counted from the front.
+    /// Returns the item at a place, counted from the front, or `None`.
     pub fn get(&self, at: usize) -> Option<T>
         ensures { result ≡ slice_get self.now at }
     {
@@ -63,7 +67,7 @@ impl<T: Copy> Nesting<T> {
         }
     }
 
-    /// Puts an item in the place of the one at a place, if there is one.
+    /// Replaces the item at a place, if there is one.
     pub fn set(&mut self, at: usize, item: T)
         ensures { self.new ≡ slice_set self.old at item }
     {

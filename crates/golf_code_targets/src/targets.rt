@@ -1,4 +1,7 @@
 //! The first pass: the target of each block.
+//!
+//! A block whose target is its beginning has it at once. A block whose target is its end gets it
+//! when it ends.
 
 ghost use Rattle.std.specs.Prelude.{◌≡◌, ◌+◌, ◌∷◌, ◌++◌, [], Some, None, length, slice_set, OnOk, IfOk};
 ghost use Rattle.golf_code_targets.specs.Passes.{rest, ended, target_step, no_targets as no_targets_of};
@@ -9,14 +12,15 @@ use golf_base::{List, Memory};
 use golf_code_layout::Emitted;
 use std::alloc::Global;
 
-/// The targets of blocks, as far as a pass over parts has come.
+/// The state of the first pass: the targets of blocks so far.
 #[derive(Drop)]
 pub struct Targets {
     /// The place of the next instruction.
     pub at: u32,
-    /// The blocks around, and for each that waits for its end, which target is then known.
+    /// The blocks around. A block whose target is its end has the number of that target, which is
+    /// not known yet.
     pub waiting: Nesting<Option<usize>>,
-    /// The target of each block that has begun.
+    /// The target of each block that has begun. It is 0 as long as it is not known.
     pub found: List<u32>,
 }
 
@@ -30,7 +34,7 @@ fn no_targets(alloc: Global) -> Targets
     }
 }
 
-// An instruction is gone past.
+// Passes over an instruction.
 fn pass(targets: &mut Targets) -> Result<(), Memory>
     ensures { OnOk result (targets.new ≡ record targets.old { at = targets.old.at + 1 }) }
 {
@@ -38,7 +42,7 @@ fn pass(targets: &mut Targets) -> Result<(), Memory>
     Ok(())
 }
 
-// A block begins, whose target is its end.
+// Begins a block whose target is its end.
 fn begin_block(targets: &mut Targets) -> Result<(), Memory>
     ensures { OnOk result (targets.new ≡ record targets.old { waiting = Some (length targets.old.found) ∷ targets.old.waiting; found = targets.old.found ++ 0 ∷ [] }) }
 {
@@ -48,7 +52,7 @@ fn begin_block(targets: &mut Targets) -> Result<(), Memory>
     Ok(())
 }
 
-// A block begins, whose target is its beginning.
+// Begins a block whose target is its beginning.
 fn begin_again(targets: &mut Targets) -> Result<(), Memory>
     ensures { OnOk result (targets.new ≡ record targets.old { waiting = None ∷ targets.old.waiting; found = targets.old.found ++ targets.old.at ∷ [] }) }
 {
@@ -57,7 +61,7 @@ fn begin_again(targets: &mut Targets) -> Result<(), Memory>
     Ok(())
 }
 
-// Puts a target in its place, if there is one.
+// Stores a target at its place, if there is such a place.
 fn put(found: &mut List<u32>, place: usize, target: u32)
     ensures { found.new ≡ slice_set found.old place target }
 {
@@ -66,7 +70,7 @@ fn put(found: &mut List<u32>, place: usize, target: u32)
     }
 }
 
-// A block ends.
+// Ends a block.
 fn end(targets: &mut Targets)
     ensures { targets.new ≡ record targets.old { waiting = rest targets.old.waiting; found = ended targets.old.at targets.old.waiting targets.old.found } }
 {
@@ -94,7 +98,7 @@ fn step(targets: &mut Targets, part: &Emitted) -> Result<(), Memory>
     }
 }
 
-/// The target of each block, in the order in which the blocks begin.
+/// Returns the target of each block, in the order in which the blocks begin.
 pub fn targets_of(alloc: Global, emitted: &[Emitted]) -> Result<List<u32>, Memory>
     ensures { IfOk result (λ found. found ≡ targets_of_of emitted.now) }
 {

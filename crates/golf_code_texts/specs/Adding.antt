@@ -2,6 +2,6 @@
 use Rattle.std.specs.Prelude.{fold}
 use Rattle.golf_code_of.specs.Table.{Texts, with_text}
 
--- a table, and then these texts, each unless it is there
+-- the table with these texts added, each unless the table has it
 unfoldable pub with_texts : Texts → Texts → Texts
 with_texts table ts = fold with_text table ts

@@ -1,4 +1,4 @@
--- The texts of what stands after a left operand.
+-- The texts of the parts of an expression after its left operand.
 use Rattle.std.specs.Prelude.{◌≡◌, List, [], flat_map}
 use Rattle.std.specs.Borrow.{Bor}
 use Rattle.golf_syntax_trees.specs.declared.expressions.Expr.{Expr, out-Expr, size-Expr}
@@ -15,15 +15,15 @@ rest_texts_step (Call f xs) = flat_map expr_texts xs
 rest_texts_step (Binary o a b) = expr_texts b
 rest_texts_step _ = []
 
--- the texts of what stands after the left operand
+-- the texts of the parts after the left operand
 unfoldable pub rest_texts : Expr → Texts
 rest_texts e = rest_texts_step (out-Expr e)
 
--- the table with the texts of an expression, if it has those of the left operand
+-- the table with the texts of an expression, if it has those of the left operand already
 abbrev pub raised : Expr → Texts → Texts
 raised e t = with_texts t (rest_texts e)
 
--- the rests of these are still to be added to the second table
+-- the texts of these expressions, without those of their left operands, are still to be added to the second table
 abbrev pub Rising : Expr → Texts → List (Bor Expr) → Texts → Type 0
 Rising e old ws new = record {
   whole : risen raised (shown ws) new ≡ with_texts old (expr_texts e);

@@ -1,4 +1,4 @@
-//! The texts of expressions.
+//! Adds the texts of expressions to a table.
 
 ghost use Rattle.std.specs.Prelude.{◌≡◌, ◌++◌, None, flat_map, OnOk};
 ghost use Rattle.golf_syntax_trees.specs.Spines.{left_of};
@@ -55,7 +55,7 @@ fn whole(alloc: Global, table: &mut TextTable, e: &Expr) -> Result<(), Memory>
     }
 }
 
-// Adds the texts of what stands after the left operand.
+// Adds the texts of the parts after the left operand.
 #[cycle(walking)]
 #[tactic(auto, using(crate::proofs::Walks::with_none), unfolding(crate::specs::Spines::rest_texts))]
 fn rest(alloc: Global, table: &mut TextTable, e: &Expr) -> Result<(), Memory>
@@ -82,7 +82,7 @@ fn rest(alloc: Global, table: &mut TextTable, e: &Expr) -> Result<(), Memory>
     }
 }
 
-// Adds the texts of two expressions, one after the other.
+/// Adds the texts of two expressions, one after another.
 #[tactic(auto, using(crate::proofs::Walks::with_more))]
 pub fn both(alloc: Global, table: &mut TextTable, a: &Expr, b: &Expr) -> Result<(), Memory>
     ensures { OnOk result (table.new ≡ with_texts table.old (expr_texts a.now ++ expr_texts b.now)) }

@@ -1,4 +1,6 @@
-//! The texts of a file, and what its code looks up.
+//! The table of the texts of a file.
+//!
+//! It begins with the empty text, which is the zero value of a string.
 
 ghost use Rattle.std.specs.Prelude.{◌≡◌, flat_map, IfOk, OnOk};
 ghost use Rattle.golf_code_of.specs.Texts.{decl_texts, texts_of, const_texts};
@@ -45,7 +47,8 @@ fn all_decls(alloc: Global, table: &mut TextTable, decls: &[Decl]) -> Result<(),
     Ok(())
 }
 
-/// The texts of a file, in the order in which they are printed.
+/// Returns the texts of a file: the empty text, and then each different text in the order in which
+/// it is printed.
 #[tactic(auto, using(crate::proofs::Walks::whole_table))]
 pub fn texts_of_decls(alloc: Global, decls: &[Decl]) -> Result<TextTable, Memory>
     ensures { IfOk result (λ t. t ≡ texts_of decls.now) }

@@ -1,4 +1,5 @@
-//! The texts of a file, by one walk over the tree in the order in which it is printed.
+//! The texts of a file: one walk over the tree, in the order in which it is printed, adds them to a
+//! table.
 #![tactic(auto)]
 
 mod expressions;

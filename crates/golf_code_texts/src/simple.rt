@@ -1,4 +1,4 @@
-//! The texts of what stands in statements beside other statements.
+//! Adds the texts of the parts of statements that are no statements.
 
 ghost use Rattle.std.specs.Prelude.{◌≡◌, ◌++◌, OnOk};
 ghost use Rattle.golf_code_of.specs.Texts.{simple_texts, optional_simple_texts, optional_texts, expr_texts};
@@ -58,7 +58,7 @@ pub fn optional_expr(
     }
 }
 
-/// Adds the texts of what a variable begins with.
+/// Adds the texts of the initial value of a variable.
 #[tactic(auto, using(crate::proofs::Walks::with_none))]
 pub fn content(alloc: Global, table: &mut TextTable, content: &VarContent) -> Result<(), Memory>
     ensures { OnOk result (table.new ≡ with_texts table.old (content_texts content.now)) }
@@ -98,7 +98,7 @@ pub fn header(alloc: Global, table: &mut TextTable, header: &Header) -> Result<(
     }
 }
 
-/// Adds the texts of what a case of a `select` does.
+/// Adds the texts of the communication of a case of a `select`.
 pub fn communication(alloc: Global, table: &mut TextTable, c: &Communication) -> Result<(), Memory>
     ensures { OnOk result (table.new ≡ with_texts table.old (comm_texts c.now)) }
 {

@@ -1,17 +1,15 @@
-//! The texts of statements.
+//! Adds the texts of statements to a table.
 
 ghost use Rattle.std.specs.Prelude.{◌≡◌, flat_map, OnOk};
 ghost use Rattle.golf_code_of.specs.Texts.{stmt_texts, optional_simple_texts, expr_texts, header_texts, comm_texts};
 ghost use Rattle.golf_code_of.proofs.TextEquations.{clause_texts};
-ghost use Rattle.golf_syntax_trees.specs.declared.statements.Stmt.{out-Stmt, size-Stmt};
-ghost use Rattle.golf_syntax_trees.specs.Elses.{else_of, IsShorter};
 ghost use Rattle.golf_code_texts.specs.Adding.{with_texts};
 
 use crate::expressions::{call, expr};
 use crate::simple::{communication, content, header, optional_expr, optional_simple, simple};
 use golf_base::Memory;
 use golf_code_of::TextTable;
-use golf_syntax_trees::{Clause, Communication, Expr, Header, OwnedSimple, Stmt};
+use golf_syntax_trees::{Clause, Communication, Expr, Header, OwnedSimple, Stmt, behind_else};
 use std::alloc::Global;
 
 /// Adds the texts of statements.
@@ -55,29 +53,8 @@ fn both_parts(
     otherwise_at(alloc, table, otherwise)
 }
 
-// Returns the statement behind the `else` of an `if`, or the statement itself if it has none.
-#[tactic(auto, unfolding(golf_syntax_trees::specs::Elses::else_of))]
-fn behind_else(stmt: &Stmt) -> &Stmt
-    ensures is { result.now ≡ else_of stmt.now }
-    ensures smaller { IsShorter (out-Stmt stmt.now) (size-Stmt result.now) (size-Stmt stmt.now) }
-{
-    match stmt {
-        Stmt::IfElse(_, _, _, _, otherwise) => otherwise.get(),
-        Stmt::Var(_) => stmt,
-        Stmt::Simple(_) => stmt,
-        Stmt::Go(_, _, _) => stmt,
-        Stmt::Defer(_, _, _) => stmt,
-        Stmt::Return(_, _) => stmt,
-        Stmt::Break(_) => stmt,
-        Stmt::Continue(_) => stmt,
-        Stmt::Block(_, _) => stmt,
-        Stmt::If(_, _, _, _) => stmt,
-        Stmt::For(_, _, _) => stmt,
-        Stmt::Select(_, _) => stmt,
-    }
-}
-
-// The statement behind `else`. A loop follows each `else if`, since nothing bounds their number.
+// Adds the texts of the statement after `else`. A loop follows each `else if`, since nothing bounds
+// their number.
 #[cycle(walking)]
 #[tactic(auto, using(crate::proofs::Walks::statements))]
 fn otherwise_at(alloc: Global, table: &mut TextTable, otherwise: &Stmt) -> Result<(), Memory>

@@ -1,9 +1,9 @@
--- What a line of words asks for that was looked for.
+-- The number of threads that a command line asks for.
 use Rattle.std.specs.Prelude.{ℕ, Option, Some, None, Result, Ok, Err}
 use Rattle.golf_base.specs.declared.Memory.{Memory}
 use Rattle.golf_command_words.specs.declared.line.CommandLine.{CommandLine}
 
--- so many threads, if it is a threads line
+-- the number of threads, if the command line asks for them
 abbrev pub threads_asked : Result (Option CommandLine) Memory → Option ℕ
 threads_asked (Ok (Some (CommandLine.Threads n))) = Some n
 threads_asked (Ok (Some (CommandLine.Run options))) = None

@@ -1,4 +1,4 @@
--- What the parts of the top call say of their status.
+-- The meaning of the status of each part of the top call.
 use Rattle.std.specs.Prelude.{◌≡◌, ℕ, ◌⊎◌, List, Option}
 use Rattle.std.specs.Io.KnownBytes.{Appends}
 use Rattle.golf_base.specs.Causes.{Rose, WritesPrefix}
@@ -9,7 +9,7 @@ use Rattle.golf_run_texts.specs.Fixed.{no_memory_text}
 use Rattle.golf_run_texts.specs.declared.status.Status.{Status}
 use Rattle.golf_run_texts.specs.declared.status.Status.TheVariants as s
 
--- the line was written with that status, or the write failed in the middle of it
+-- the line was written, with that status; or the write failed in the middle of it
 abbrev pub EndsWith : Status → Status → List ℕ → Option (List ℕ) → Option (List ℕ) → ℕ → ℕ → Type 0
 EndsWith result status line err err' before now = ((result ≡ status) × Appends err err' line × (now ≡ before))
     ⊎ ((result ≡ s.WriteFault) × WritesPrefix err err' line × Rose before now)
@@ -21,14 +21,14 @@ refusal_line (refusals.Syntax line) = syntax_line line
 refusal_line (refusals.Untyped line rule) = rule_line line rule
 refusal_line refusals.Memory = no_memory_text
 
--- how the program ends with it
+-- the status of the program after a refusal
 abbrev pub refusal_status : Refusal → Status
 refusal_status (refusals.Lexical line byte) = s.Refused
 refusal_status (refusals.Syntax line) = s.Refused
 refusal_status (refusals.Untyped line rule) = s.Refused
 refusal_status refusals.Memory = s.Memory
 
--- the refusal's line was written with its status, or memory ran out for the line
+-- the line of the refusal was written with its status; or memory ran out for that line
 abbrev pub Refuses : Status → Refusal → Option (List ℕ) → Option (List ℕ) → ℕ → ℕ → Type 0
 Refuses result refusal err err' before now =
     EndsWith result (refusal_status refusal) (refusal_line refusal) err err' before now

@@ -1,4 +1,4 @@
--- How a generated file is run, and what its run writes (profile).
+-- The run of a generated file, and its texts (profile).
 use Rattle.std.specs.Prelude.{ℕ, true, false, List, [], ◌∷◌, None}
 use Rattle.golf_data.specs.declared.code.Code.{Code}
 use Rattle.golf_run_schedules.specs.declared.schedule.Schedule.{Schedule}
@@ -12,7 +12,7 @@ use Rattle.golf_run_texts.specs.Totals.{totals_of}
 use Rattle.golf_run_texts.specs.Output.{reports_of, end_of}
 use Rattle.golf_run_texts.specs.Writes.{Write}
 
--- in rotation, by four markers, with recovery
+-- the options of the run: in rotation, by four markers, with recovery
 unfoldable pub generated_options : RunOptions
 generated_options = record {
   schedule = Schedule.Rotate;
@@ -35,10 +35,10 @@ summed_up n t = record {
   objects = t.objects;
 }
 
--- the line that sums the run up
+-- the summary line of the run
 unfoldable pub generated_summary : ℕ → Code → List ℕ
 generated_summary n code = summary (summed_up n (totals_of (reports_of code generated_options)))
 
--- it goes to standard output, and how the run ended to standard error
+-- the summary line goes to standard output, and the last line of the run goes to standard error
 unfoldable pub generated_writes : ℕ → Code → List Write
 generated_writes n code = Write.ToOut (generated_summary n code) ∷ Write.ToErr (end_of code generated_options) ∷ []

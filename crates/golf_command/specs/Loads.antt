@@ -1,4 +1,4 @@
--- What the reading of a line's file comes to.
+-- The result of reading the file of a command line.
 use Rattle.std.specs.Prelude.{◌≡◌, ℕ, ◌≤◌, ◌⊎◌, List, length, Option, IfSome, Result, Ok, Err}
 use Rattle.std.specs.Io.KnownBytes.{IsAtEnd}
 use Rattle.golf_base.specs.Causes.{Rose}
@@ -19,7 +19,7 @@ use Rattle.golf_command.specs.Ends.{EndsWith}
 use Rattle.golf_command.specs.Promises.{Reads, Accepts, RefusedBy}
 use Rattle.golf_command.specs.Means.{seen, LineTells}
 
--- a line says why there is no file, which is all that a line that reads comes to then
+-- a line says why there is no file, and the call of a command line that reads a file ends so
 abbrev pub Ends : Status → Option (List ℕ) → Option (List ℕ) → ℕ → ℕ → Option (List ℕ) → Option (List ℕ) → ℕ → ℕ
     → Type 0
 Ends status left left' before now err err' faults faults' =
@@ -27,16 +27,16 @@ Ends status left left' before now err err' faults faults' =
     → LineTells line status (seen left before (sinks out out_faults err faults))
     (seen left' now (sinks out out_faults err' faults'))
 
--- ---- why there is no file, in words of no line
+-- ---- why there is no file, for a program with any command lines
 
--- the source failed
+-- the source failed, and a line says so
 pub record SourceFailed (status : Status) (before now : ℕ) (err err' : Option (List ℕ)) (faults faults' : ℕ) : Type 0
   where
     pub rose : Rose before now
     pub later : before ≤ now
     pub says : EndsWith status s.ReadFault read_fault_text err err' faults faults'
 
--- the bytes of the source are refused with this text
+-- the bytes of the source are refused with this text, and a line says so
 pub record FileRefused (status : Status) (left : Option (List ℕ)) (before now : ℕ) (err err' : Option (List ℕ))
     (faults faults' : ℕ) : Type 0 where
   pub bytes : List ℕ
@@ -46,13 +46,13 @@ pub record FileRefused (status : Status) (left : Option (List ℕ)) (before now 
   pub quiet : now ≡ before
   pub says : EndsWith status s.Refused text err err' faults faults'
 
--- memory ran out
+-- memory ran out, and a line says so
 pub record MemoryRanOut (status : Status) (before now : ℕ) (err err' : Option (List ℕ)) (faults faults' : ℕ) : Type 0
   where
     pub quiet : now ≡ before
     pub says : EndsWith status s.Memory no_memory_text err err' faults faults'
 
--- one of the three, if there is no file
+-- one of the three holds, if there is no file
 abbrev pub FailsSo : {T : Type 0} → Result T Status → Option (List ℕ) → ℕ → ℕ → Option (List ℕ) → Option (List ℕ) → ℕ
     → ℕ → Type 0
 FailsSo (Ok file) left before now err err' faults faults' = Unit {0}
@@ -60,16 +60,16 @@ FailsSo (Err status) left before now err err' faults faults' =
     SourceFailed status before now err err' faults faults' ⊎ (FileRefused status left before now err err' faults faults'
     ⊎ MemoryRanOut status before now err err' faults faults')
 
--- ---- what there is
+-- ---- the file
 
--- the source was read to its end, and these are its bytes, no more than a file may have
+-- the source was read to its end; these are its bytes, at most as many as a file may have
 pub record HasFetched (bytes : List ℕ) (left left' : Option (List ℕ)) (before now : ℕ) : Type 0 where
   pub told : IfSome left (λ known. known ≡ bytes)
   pub at_end : IsAtEnd left'
   pub quiet : now ≡ before
   pub within : length bytes ≤ most_bytes
 
--- the source was read to its end, and this is the file that the program accepts
+-- the source was read to its end; the program accepts this file, and no other one for these bytes
 pub record HasFile (file : File) (left left' : Option (List ℕ)) (before now : ℕ) : Type 0 where
   pub bytes : List ℕ
   pub told : IfSome left (λ known. known ≡ bytes)
@@ -78,7 +78,7 @@ pub record HasFile (file : File) (left left' : Option (List ℕ)) (before now : 
   pub accepts : Accepts bytes file
   pub only : IsOnly bytes file
 
--- the bytes, and nothing was written; or why there are none
+-- the bytes, and nothing was written; or the reason for which there are none
 abbrev pub Fetches : Result (List ℕ) Status → Option (List ℕ) → Option (List ℕ) → ℕ → ℕ → Option (List ℕ)
     → Option (List ℕ) → ℕ → ℕ → Type 0
 Fetches (Ok bytes) left left' before now err err' faults faults' = HasFetched bytes left left' before now × (err' ≡ err)
@@ -86,7 +86,7 @@ Fetches (Ok bytes) left left' before now err err' faults faults' = HasFetched by
 Fetches (Err status) left left' before now err err' faults faults' =
     Ends status left left' before now err err' faults faults'
 
--- the code, and nothing was written; or why there is none
+-- the code, and nothing was written; or the reason for which there is none
 abbrev pub Loads : Result Code Status → Option (List ℕ) → Option (List ℕ) → ℕ → ℕ → Option (List ℕ) → Option (List ℕ)
     → ℕ → ℕ → Type 0
 Loads (Ok code) left left' before now err err' faults faults' = (file : File) × HasFile file left left' before now
@@ -94,7 +94,7 @@ Loads (Ok code) left left' before now err err' faults faults' = (file : File) ×
 Loads (Err status) left left' before now err err' faults faults' =
     Ends status left left' before now err err' faults faults'
 
--- the tree with what the checker found of it, and nothing was written; or why there is none
+-- the tree with the scope and the facts of the checker, and nothing was written; or the reason for which there is none
 abbrev pub LoadsTree : Result Checked Status → Option (List ℕ) → Option (List ℕ) → ℕ → ℕ → Option (List ℕ)
     → Option (List ℕ) → ℕ → ℕ → Type 0
 LoadsTree (Ok checked) left left' before now err err' faults faults' =

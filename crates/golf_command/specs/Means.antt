@@ -1,4 +1,4 @@
--- What the status of a call says of the words, of the file, of what the sinks got and of what failed.
+-- The meaning of the status of a call: on the words, on the file, on the bytes that the sinks got, and on faults.
 use Rattle.std.specs.Prelude.{◌≡◌, ℕ, ◌≤◌, ◌⊎◌, List, [], ◌∷◌, ◌++◌, map, Option, Some, None, string_bytes}
 use Rattle.std.specs.declared.string.String.{String}
 use Rattle.std.specs.declared.alloc.Global.{Global}
@@ -22,8 +22,8 @@ use Rattle.golf_command.specs.Promises.{MeansItsSource, RefusedBy, WordsMean}
 abbrev pub words_of : List (String Global) → List (List ℕ)
 words_of words = map string_bytes words
 
--- what is seen of a source and two sinks at a time: the bytes that are left, and those that were written, if they are
--- told, and how often each has failed
+-- A source and two sinks at one time: the bytes that are left, those that were written, and how often each has failed.
+-- The bytes are there only if they are known.
 pub record View : Type 0 where
   pub left : Option (List ℕ)
   pub read_faults : ℕ
@@ -32,34 +32,34 @@ pub record View : Type 0 where
 abbrev pub seen : Option (List ℕ) → ℕ → Sinks → View
 seen left read_faults sinks = record { left = left; read_faults = read_faults; sinks = sinks }
 
--- ---- what sinks got
+-- ---- the writes that the sinks got
 
--- they got the first writes whole and a prefix of the next one, whose sink failed, and nothing after it
+-- the sinks got the first writes whole, and a prefix of the next write, whose sink failed, and nothing more
 pub record Breaks (old new : Sinks) (done : List Write) (cut : Write) : Type 0 where
   pub prefix : Write
   pub is_prefix : IsPrefixOf prefix cut
   pub got : GotWrites (done ++ prefix ∷ []) old new
   pub failed : HasFailed cut old new
 
--- ---- what a status says of a file
+-- ---- the meaning of a status on a file
 
 -- the reports of the run of the code are true, and no turn of it is ever stuck
 pub record IsSoundRun (code : Code) (options : RunOptions) : Type 0 where
   pub reports : AreTrue code options
   pub moves : MovesAlways code options
 
--- of a run, that it is sound; nothing more if nothing is run
+-- if the file is run, the run is sound
 abbrev pub IsSoundBy : Option RunOptions → Code → Type 0
 IsSoundBy (Some options) code = IsSoundRun code options
 IsSoundBy None code = Unit {0}
 
--- what is said of an accepted file, in whichever way the line goes: the code of each function and method does what its
--- source says; and what is said of the run
+-- An accepted file is sound in the given way. The code of each function and method does what its source says. The run,
+-- if there is one, is sound.
 pub record IsSound (way : Way) (file : File) : Type 0 where
   pub source : MeansItsSource file
   pub run : IsSoundBy (options_of way) (CodeOf file)
 
--- the first writes of a sound way of the line over the file
+-- the first writes of a sound way of the command line over the file
 pub record Begins (line : CommandLine) (file : File) (done : List Write) : Type 0 where
   pub way : Way
   pub is_way : IsWayOf line file way
@@ -72,20 +72,19 @@ pub record AreFirst (line : CommandLine) (bytes : List ℕ) (done : List Write) 
   pub accepted : (file : File) → Accepts bytes file → Begins line file done
   pub refused : ((file : File) → Accepts bytes file → ⊥) → done ≡ []
 
--- the text of a cause, which may stand after them; only the file of a line that reads is refused
+-- the text of a cause, which may follow these writes; only the file of a command line that reads is refused
 pub data IsCause (line : CommandLine) (bytes : List ℕ) : List ℕ → Type 0 where
   Refusal : (text : List ℕ) → Reads line → RefusedBy bytes text → IsCause line bytes text
   OutOfMemory : IsCause line bytes no_memory_text
 
--- what may be written after them: the next write of the way, or the text of a cause
+-- the write that may follow these: the next write of the way, or the text of a cause
 pub data MayFollow (line : CommandLine) (bytes : List ℕ) (done : List Write) : Write → Type 0 where
   Next : (write : Write) → AreFirst line bytes (done ++ write ∷ []) → MayFollow line bytes done write
   Cause : (text : List ℕ) → AreFirst line bytes done → IsCause line bytes text
       → MayFollow line bytes done (Write.ToErr text)
 
--- The file was accepted, and each sink got its whole text: of a run, what the machine that frees and reclaims nothing
--- prints, and the reports of its book with the last line; if nothing is run, the line that says how many functions
--- agree, and nothing.
+-- The file was accepted, and each sink got its whole text. After a run these are the output and the reports of the
+-- plain machine, with the last line. If nothing is run, it is the line that says how many functions agree.
 pub record GoesWhole (line : CommandLine) (bytes : List ℕ) (answer : Status) (old new : Sinks) : Type 0 where
   pub file : File
   pub accepts : Accepts bytes file
@@ -96,22 +95,22 @@ pub record GoesWhole (line : CommandLine) (bytes : List ℕ) (answer : Status) (
   pub err : Appends old.err new.err (err_for way (CodeOf file))
   pub sound : IsSound way file
 
--- the file of a line that reads was refused, and standard error got the line that says why
+-- the command line reads a file, which was refused, and standard error got the line with the reason
 pub record IsRefused (line : CommandLine) (bytes : List ℕ) (old new : Sinks) : Type 0 where
   pub reads : Reads line
   pub text : List ℕ
   pub why : RefusedBy bytes text
   pub got : GotWrites (Write.ToErr text ∷ []) old new
 
--- which writes may stand if memory runs out: a run by options has written its first ones, the others have written
--- nothing
+-- The writes that may be done before memory runs out. A run by options may have done its first writes, and any other
+-- command line has done none.
 abbrev pub MayStand : CommandLine → List Write → Type 0
 MayStand (CommandLine.Run options) done = Unit {0}
 MayStand (CommandLine.Generate n) done = done ≡ []
 MayStand (CommandLine.Threads n) done = done ≡ []
 MayStand CommandLine.Meaning done = done ≡ []
 
--- What a status says of a file's bytes and of what the sinks got.
+-- The meaning of a status on a file's bytes and on the writes that the sinks got.
 abbrev pub FileMeans : CommandLine → List ℕ → Status → Sinks → Sinks → Type 0
 FileMeans line bytes s.Clean old new = GoesWhole line bytes s.Clean old new
 FileMeans line bytes s.Found old new = GoesWhole line bytes s.Found old new
@@ -125,21 +124,21 @@ FileMeans line bytes s.WriteFault old new = (done : List Write)
 FileMeans line bytes s.Memory old new = (done : List Write) × MayStand line done × AreFirst line bytes done
     × GotWrites (done ++ Write.ToErr no_memory_text ∷ []) old new
 
--- ---- what it says of a call
+-- ---- the meaning of a status on a call
 
--- a line that says why nothing was done, with its status; or its write failed
+-- a line says why nothing was done, with its status; or the write of that line failed
 abbrev pub Says : Status → List ℕ → Status → Sinks → Sinks → Type 0
 Says status text answer old new =
     ((answer ≡ status) × GotWrites (Write.ToErr text ∷ []) old new × IsSteady old new)
     ⊎ ((answer ≡ s.WriteFault) × Breaks old new [] (Write.ToErr text))
 
--- the source of a line that reads failed, and the sinks got that line
+-- the source of a command line that reads failed, and the sinks got the line that says so
 pub record IsUnread (line : CommandLine) (answer : Status) (old new : View) : Type 0 where
   pub reads : Reads line
   pub failed : Rose old.read_faults new.read_faults
   pub says : Says s.ReadFault read_fault_text answer old.sinks new.sinks
 
--- the status is that of a line whose file was accepted
+-- the status is one of a command line whose file was accepted
 abbrev pub IsWholeEnd : Status → Type 0
 IsWholeEnd s.Clean = Unit {0}
 IsWholeEnd s.Found = Unit {0}
@@ -147,23 +146,24 @@ IsWholeEnd s.Crashed = Unit {0}
 IsWholeEnd s.Spent = Unit {0}
 IsWholeEnd _ = ⊥
 
--- the line's file, of which the status tells; the source of a line that reads is at its end if the file was accepted
+-- The status has its meaning on the file of the command line. If the command line reads a file and the file was
+-- accepted, the source is at its end.
 pub record TellsOfFile (line : CommandLine) (answer : Status) (old new : View) : Type 0 where
   pub bytes : List ℕ
   pub is_file : IsFileOf line old.left bytes
   pub means : FileMeans line bytes answer old.sinks new.sinks
   pub at_end : Reads line → IsWholeEnd answer → IsAtEnd new.left
 
--- what a status says if the words are this line
+-- the meaning of a status if the words are this command line
 abbrev pub LineMeans : CommandLine → Status → View → View → Type 0
 LineMeans line answer old new = IsUnread line answer old new ⊎ TellsOfFile line answer old new
 
--- what it says if they are none
+-- the meaning of a status if the words are no command line
 abbrev pub UsageMeans : Status → View → View → Type 0
 UsageMeans answer old new = Says s.Usage usage_text answer old.sinks new.sinks
     ⊎ Says s.Memory no_memory_text answer old.sinks new.sinks
 
--- which counts of faults rose: those that a status names, and no other
+-- which counts of faults rose: those that the status names, and no other
 abbrev pub SinkCauses : Status → Sinks → Sinks → Type 0
 SinkCauses s.WriteFault old new = Rose old.out_faults new.out_faults ⊎ Rose old.err_faults new.err_faults
 SinkCauses _ old new = IsSteady old new
@@ -177,13 +177,13 @@ pub record Causes (answer : Status) (old new : View) : Type 0 where
   pub source : SourceCauses answer old.read_faults new.read_faults
   pub sinks : SinkCauses answer old.sinks new.sinks
 
--- no count rose
+-- no count of faults rose
 pub record IsQuiet (old new : View) : Type 0 where
   pub source : Rose old.read_faults new.read_faults → ⊥
   pub out : Rose old.sinks.out_faults new.sinks.out_faults → ⊥
   pub err : Rose old.sinks.err_faults new.sinks.err_faults → ⊥
 
--- the sinks got all that the words and the file mean, with its status
+-- the sinks got all that the words and the file mean, with their status
 pub record GotMeaning (words : List (List ℕ)) (answer : Status) (old new : View) : Type 0 where
   pub out : List ℕ
   pub err : List ℕ
@@ -191,27 +191,27 @@ pub record GotMeaning (words : List (List ℕ)) (answer : Status) (old new : Vie
   pub got_out : Appends old.sinks.out new.sinks.out out
   pub got_err : Appends old.sinks.err new.sinks.err err
 
--- if no count rose, so it is, or memory ran out
+-- if no count of faults rose, the sinks got that meaning, or memory ran out
 abbrev pub IsComplete : List (List ℕ) → Status → View → View → Type 0
 IsComplete words answer old new = IsQuiet old new → (answer ≡ s.Memory) ⊎ GotMeaning words answer old new
 
--- what a status says of a file's bytes
+-- the meaning of a status on a file's bytes, and the sinks that failed
 pub record FileTells (line : CommandLine) (bytes : List ℕ) (answer : Status) (old new : Sinks) : Type 0 where
   pub means : FileMeans line bytes answer old new
   pub causes : SinkCauses answer old new
 
--- what the status of a call says if the words are this line
+-- the meaning of the status of a call if the words are this command line, and the causes of a fault
 pub record LineTells (line : CommandLine) (answer : Status) (old new : View) : Type 0 where
   pub means : LineMeans line answer old new
   pub causes : Causes answer old new
 
--- nothing was read: the source has what it had, and its count stands still
+-- nothing was read: the source has all that it had, and its count of faults is the same
 pub record IsUntouched (old new : View) : Type 0 where
   pub left : Keeps old.left new.left
   pub faults : new.read_faults ≡ old.read_faults
 
--- All that the status of a call says: what it means if the words are a line, and if they are none; that nothing is read
--- but for a line that reads; what failed; and that nothing is lacking if nothing failed.
+-- All that the status of a call says. It has a meaning if the words are a command line, and one if they are not. Only a
+-- command line that reads touches the source. The status names what failed. Without a fault nothing is missing.
 pub record Tells (words : List (List ℕ)) (answer : Status) (old new : View) : Type 0 where
   pub line : (line : CommandLine) → IsLine words line → LineMeans line answer old new
   pub usage : IsNoLine words → UsageMeans answer old new

@@ -1,4 +1,4 @@
--- In which way a line may go, and what it writes then.
+-- The ways in which a command line may go, and the texts of each.
 use Rattle.std.specs.Prelude.{◌≡◌, ℕ, ◌<◌, ◌≤◌, false, List, [], ◌∷◌, ◌++◌, length, map, take, slice_get, Option, Some}
 use Rattle.std.specs.Prelude.{None}
 use Rattle.golf_data.specs.declared.code.Code.{Code}
@@ -20,23 +20,23 @@ use Rattle.golf_command.specs.Generating.{generated_options, generated_summary, 
 
 -- ---- turns by threads
 
--- the turns with these numbers, and no collection besides those of the program
+-- the turns with these numbers, and no collections except for those of the program
 abbrev pub turns_with : List ℕ → List Event
 turns_with ns = map (λ n. Event.Turn n) ns
 
--- the plain machine after them
+-- the state of the plain machine after these turns
 unfoldable pub after_turns : Code → List ℕ → State
 after_turns code ns = run code (start code) (turns_with ns)
 
--- the number n stands at place t: one of so many threads took that turn, with the number that follows from which it is,
--- the place and how many goroutines could run; and the program had not ended before
+-- The number n is at the place t. One of the threads took that turn. The number follows from the thread, the place, and
+-- how many goroutines could run. The program had not ended before.
 pub record IsTurnAt (code : Code) (threads : ℕ) (ns : List ℕ) (t n : ℕ) : Type 0 where
   pub thread : ℕ
   pub is_one : thread < threads
   pub number : n ≡ number_at thread t (length (runnable (after_turns code (take t ns))))
   pub goes : ending (after_turns code (take t ns)) ≡ None
 
--- how a run whose turns had these numbers is run again: by them as written choices, without recovery
+-- the options that repeat a run whose turns had these numbers: written choices, without recovery
 unfoldable pub history_options : List ℕ → RunOptions
 history_options ns = record {
   schedule = Schedule.Choices ns;
@@ -47,8 +47,8 @@ history_options ns = record {
   why = false;
 }
 
--- these are the numbers of all turns of a run by so many threads: no proper prefix of them has an ending, and all
--- together have one, or are as many as a history may have
+-- The numbers of all turns of a run by this many threads. No proper prefix of them ends the program. All together end
+-- it, or are as many as a history may have.
 pub record AreTurns (code : Code) (threads : ℕ) (ns : List ℕ) : Type 0 where
   pub each : (t n : ℕ) → slice_get ns t ≡ Some n → IsTurnAt code threads ns t n
   pub few : length ns ≤ most_entries
@@ -57,29 +57,29 @@ pub record AreTurns (code : Code) (threads : ℕ) (ns : List ℕ) : Type 0 where
 
 -- ---- ways
 
--- a run goes by options, or as that of a generated file, or by threads whose turns had these numbers; or nothing is
--- run, and so many functions are compared with their source
+-- The way of a command line: a run by options, the run of a generated file, or a run by threads whose turns had these
+-- numbers. Or nothing is run, and this many functions are compared with their source.
 pub data Way : Type 0 where
   ByOptions : (options : RunOptions) → Way
   Generated : (parts : ℕ) → Way
   ByThreads : (numbers : List ℕ) → Way
   Compared : (functions : ℕ) → Way
 
--- a way in which the line may go over this file
+-- the command line may go over this file in this way
 abbrev pub IsWayOf : CommandLine → File → Way → Type 0
 IsWayOf (CommandLine.Run options) file way = way ≡ Way.ByOptions options
 IsWayOf (CommandLine.Generate n) file way = way ≡ Way.Generated n
 IsWayOf (CommandLine.Threads n) file way = (ns : List ℕ) × (way ≡ Way.ByThreads ns) × AreTurns (CodeOf file) n ns
 IsWayOf CommandLine.Meaning file way = way ≡ Way.Compared (function_count file.declarations)
 
--- the options of a run that shows the same, if anything is run
+-- the options of a run with the same texts, if anything is run
 abbrev pub options_of : Way → Option RunOptions
 options_of (Way.ByOptions options) = Some options
 options_of (Way.Generated n) = Some generated_options
 options_of (Way.ByThreads ns) = Some (history_options ns)
 options_of (Way.Compared n) = None
 
--- the status: that of the run, and 0 if nothing is run
+-- the status: that of the run, or 0 if nothing is run
 abbrev pub status_by_options : Option RunOptions → Code → Status
 status_by_options (Some options) code = status_of code options
 status_by_options None code = s.Clean
@@ -87,7 +87,7 @@ status_by_options None code = s.Clean
 abbrev pub status_for : Way → Code → Status
 status_for way code = status_by_options (options_of way) code
 
--- what standard output gets, and what standard error gets
+-- the text of standard output, and the text of standard error
 abbrev pub out_for : Way → Code → List ℕ
 out_for (Way.ByOptions options) code = out_of code options
 out_for (Way.Generated n) code = generated_summary n code
@@ -100,7 +100,7 @@ err_for (Way.Generated n) code = end_of code generated_options
 err_for (Way.ByThreads ns) code = err_of code (history_options ns) ++ history_line ns
 err_for (Way.Compared n) code = []
 
--- what is written, in its order; threads write nothing before all turns are taken
+-- the writes in their order; a run by threads writes nothing before all turns are taken
 abbrev pub writes_for : Way → Code → List Write
 writes_for (Way.ByOptions options) code = writes_of code options
 writes_for (Way.Generated n) code = generated_writes n code

@@ -1,4 +1,4 @@
-//! How a call that runs no file ends: a line on the second sink, and the status.
+//! The end of a call that runs no file: a line on the second sink, and the status.
 
 ghost use Rattle.std.specs.Prelude.{◌≡◌, IfOk};
 ghost use Rattle.golf_command.specs.Ends.{EndsWith, Refuses, refusal_line, refusal_status as refusal_status_of};
@@ -8,7 +8,7 @@ use golf_reader::Refusal;
 use golf_run_texts::{NO_MEMORY, Status, lexical_line, list_of, rule_line, syntax_line};
 use std::alloc::Global;
 
-/// Writes a last line, and answers the status, or that the write failed.
+/// Writes a last line. Returns the status, or `WriteFault` if the write failed.
 pub fn end<E: Sink>(err: &mut E, line: &[u8], status: Status) -> Status
     ensures { EndsWith result status line.now (E.written err.old) (E.written err.new) (E.faults err.old) (E.faults err.new) }
 {
@@ -41,7 +41,7 @@ fn refusal_status(refusal: Refusal) -> Status
     }
 }
 
-/// Writes why a file is not run, and answers the status.
+/// Writes the reason for which a file is refused, and returns the status.
 pub(crate) fn refuse<E: Sink>(alloc: Global, err: &mut E, refusal: Refusal) -> Status
     ensures { Refuses result refusal (E.written err.old) (E.written err.new) (E.faults err.old) (E.faults err.new) }
 {

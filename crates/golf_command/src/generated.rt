@@ -1,4 +1,6 @@
 //! The run of a generated file.
+//!
+//! The file is made in memory. The source is not read.
 
 ghost use Rattle.std.specs.Prelude.{◌≡◌, ◌≤◌, IfOk};
 ghost use Rattle.golf_data.specs.Places.{HasPlaces};
@@ -23,7 +25,7 @@ use golf_run_texts::{NO_MEMORY, Status, Totals};
 use std::alloc::Global;
 use std::thread::Threads;
 
-// In rotation, by four markers, with recovery.
+// The options of the run of a generated file: in rotation, by four markers, with recovery.
 fn generated_options() -> RunOptions
     ensures options { result ≡ generated_options_of }
     ensures limits { IsWithinLimits result }
@@ -38,7 +40,7 @@ fn generated_options() -> RunOptions
     }
 }
 
-// The line that sums the run of a file of so many parts up.
+// The summary line of the run of a file of this many parts.
 fn summary(alloc: Global, parts: u32, totals: Totals) -> Result<List<u8>, Memory>
     requires { parts ≤ most_parts }
     ensures { IfOk result (λ text. text ≡ summary_of (summed_up parts totals)) }
@@ -57,7 +59,7 @@ fn summary(alloc: Global, parts: u32, totals: Totals) -> Result<List<u8>, Memory
     summary_line(alloc, of)
 }
 
-// The texts of the run of the code of the generated file of so many parts.
+// The texts of the run of the code of the generated file of this many parts.
 #[tactic(auto, unfolding(crate::specs::Generating::generated_summary))]
 fn surveyed<R: Threads + Sync, G: Gate + Sync>(
     rt: &R,
@@ -79,8 +81,8 @@ fn surveyed<R: Threads + Sync, G: Gate + Sync>(
     })
 }
 
-/// Makes the file of so many parts, reads it and runs it, and writes what its run came to. Every such file
-/// is accepted.
+/// Makes the file of this many parts, reads it and runs it. It writes the summary line and the last line of
+/// the run. No such file is refused.
 pub(crate) fn run_generated<R: Threads + Sync, O: Sink, E: Sink, G: Gate + Sync>(
     rt: &R,
     alloc: Global,

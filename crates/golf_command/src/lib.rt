@@ -1,7 +1,7 @@
-//! What the program does with its words and its streams: the top call, over any source and sinks.
+//! The whole program, over any source and any two sinks.
 //!
-//! - `golf`: the whole of it.
-//! - `load`: the file of the source, and `end`: a last line with its status, for other programs.
+//! - `golf`: the top call, which does all that the program does.
+//! - `load`, `end`: the code of a source, and a last line with its status, for other programs.
 #![tactic(auto)]
 
 mod ends;

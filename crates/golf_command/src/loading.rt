@@ -1,4 +1,6 @@
-//! The reading of a line's file.
+//! Reads the file of a command line from the source.
+//!
+//! A file has at most 1,048,576 bytes (this runtime's rule).
 
 ghost use Rattle.std.specs.Prelude.{IfOk};
 ghost use Rattle.golf_data.specs.Places.{HasPlaces};
@@ -12,7 +14,7 @@ use golf_reader::{judge, read};
 use golf_run_texts::{LIMIT, NO_MEMORY, READ_FAULT, Status, TOO_LONG};
 use std::alloc::Global;
 
-// Reads the source to its end.
+// Reads the source to its end. If it cannot, it writes the reason, and returns the status.
 fn fetch<S: Source, E: Sink>(alloc: Global, source: &mut S, err: &mut E) -> Result<List<u8>, Status>
     ensures fails { FailsSo result (S.left source.old) (S.faults source.old) (S.faults source.new) (E.written err.old) (E.written err.new) (E.faults err.old) (E.faults err.new) }
     ensures fetches { Fetches result (S.left source.old) (S.left source.new) (S.faults source.old) (S.faults source.new) (E.written err.old) (E.written err.new) (E.faults err.old) (E.faults err.new) }
@@ -25,11 +27,11 @@ fn fetch<S: Source, E: Sink>(alloc: Global, source: &mut S, err: &mut E) -> Resu
     }
 }
 
-/// Reads the source to its end and makes the code of its file. If there is none, a line says why, and the
-/// answer is how the program ends.
+/// Reads the source to its end, and returns the code of its file. If there is none, it writes a line with
+/// the reason, and returns the status of the program.
 ///
-/// `loads` says what this is for the lines of `golf`; `fails` says why there is no code for whoever
-/// has other lines.
+/// The clause `loads` is for the command lines of `golf`. The clause `fails` says the same to a program
+/// with other command lines.
 pub fn load<S: Source, E: Sink>(alloc: Global, source: &mut S, err: &mut E) -> Result<Code, Status>
     ensures places { IfOk result HasPlaces }
     ensures fails { FailsSo result (S.left source.old) (S.faults source.old) (S.faults source.new) (E.written err.old) (E.written err.new) (E.faults err.old) (E.faults err.new) }
@@ -45,8 +47,8 @@ pub fn load<S: Source, E: Sink>(alloc: Global, source: &mut S, err: &mut E) -> R
     }
 }
 
-/// Reads the source to its end and judges its file. If it is refused, a line says why, and the answer is how
-/// the program ends.
+/// Reads the source to its end, and returns the typed tree of its file. If there is none, it writes a line
+/// with the reason, and returns the status of the program.
 pub(crate) fn load_tree<S: Source, E: Sink>(
     alloc: Global,
     source: &mut S,

@@ -1,4 +1,6 @@
-//! The comparison of a file's code with its source.
+//! Compares a file's code with its source.
+//!
+//! It runs nothing.
 
 ghost use Rattle.std.specs.Prelude.{◌≡◌, IfOk};
 ghost use Rattle.golf_check_types.specs.Files.{facts_in};
@@ -18,7 +20,7 @@ use golf_meaning::{check_all, function_count};
 use golf_run_texts::{Status, meaning_line};
 use std::alloc::Global;
 
-// The line that says how many functions agree with their source: all.
+// The line that says that all functions agree with their source, and how many there are.
 fn agreement(alloc: Global, checked: &Checked) -> Result<List<u8>, Memory>
     requires scope { checked.now.scope ≡ scope_of checked.now.file }
     requires facts { checked.now.facts ≡ facts_in checked.now.file }
@@ -32,8 +34,8 @@ fn agreement(alloc: Global, checked: &Checked) -> Result<List<u8>, Memory>
     meaning_line(alloc, function_count(checked.file.declarations.as_slice()))
 }
 
-/// Reads the file of a meaning line, and compares the code of each of its functions with its source. Nothing
-/// is run.
+/// Serves the command line `meaning`: reads the file, and compares the code of each of its functions with
+/// its source. It runs nothing.
 pub(crate) fn serve_meaning<S: Source, O: Sink, E: Sink>(
     alloc: Global,
     source: &mut S,

@@ -1,4 +1,4 @@
-//! What is written at the end of a line: of a run that is over, a text to each sink.
+//! Writes the texts at the end of a command line: after a run one text to each sink.
 
 ghost use Rattle.golf_run.specs.HasRun.{sinks};
 ghost use Rattle.golf_command.specs.Written.{HasTold, HasWritten, WroteBoth};
@@ -7,7 +7,7 @@ use crate::ends::end;
 use golf_base::{List, Memory, Sink, write_all};
 use golf_run_texts::{NO_MEMORY, Status};
 
-/// What is written of a run that is over, and how the program ends.
+/// The texts of a run that is over, and the status of the program.
 #[derive(Debug, Drop)]
 pub(crate) struct RunTexts {
     pub status: Status,
@@ -15,7 +15,7 @@ pub(crate) struct RunTexts {
     pub err: List<u8>,
 }
 
-// Writes a text to each sink. It answers whether both are whole.
+// Writes a text to each sink. Returns whether both were written whole.
 fn write_both<O: Sink, E: Sink>(out: &mut O, err: &mut E, text: &[u8], line: &[u8]) -> bool
     ensures { WroteBoth result text.now line.now
         (sinks (O.written out.old) (O.faults out.old) (E.written err.old) (E.faults err.old))
@@ -30,7 +30,8 @@ fn write_both<O: Sink, E: Sink>(out: &mut O, err: &mut E, text: &[u8], line: &[u
     }
 }
 
-/// Writes the texts of a run, if there was memory to make them, and else the line that says so.
+/// Writes the texts of a run, and returns the status. If there was no memory for them, it writes the line
+/// that says so.
 pub(crate) fn write_texts<O: Sink, E: Sink>(
     out: &mut O,
     err: &mut E,
@@ -51,8 +52,8 @@ pub(crate) fn write_texts<O: Sink, E: Sink>(
     }
 }
 
-/// Writes the one text of a line that runs nothing, if there was memory to make it, and else the line that
-/// says so.
+/// Writes the text of a command line that runs nothing, and returns the status. If there was no memory for
+/// it, it writes the line that says so.
 pub(crate) fn write_told<O: Sink, E: Sink>(
     out: &mut O,
     err: &mut E,

@@ -1,4 +1,6 @@
 //! The run of a file by threads.
+//!
+//! Nothing is written before all turns are taken.
 
 ghost use Rattle.std.specs.Prelude.{◌≡◌, ◌≤◌, ◌++◌, IfOk, length, map};
 ghost use Rattle.golf_data.specs.Places.{HasPlaces};
@@ -21,7 +23,7 @@ use std::alloc::Global;
 use std::sync::Wait;
 use std::thread::Threads;
 
-// Texts that the caller owns.
+// A copy of the texts.
 fn copied(alloc: Global, texts: &[List<u8>]) -> Result<List<List<u8>>, Memory>
     ensures { IfOk result (λ copies. copies ≡ texts.now) }
 {
@@ -43,7 +45,7 @@ fn numbers_of(alloc: Global, entries: &[HistoryEntry]) -> Result<List<u64>, Memo
     Ok(numbers)
 }
 
-// The reports, the last line, and the line of the numbers of all turns.
+// The text for standard error: the reports, the last line, and the line of the numbers of all turns.
 fn errors(
     alloc: Global,
     texts: &[List<u8>],
@@ -63,7 +65,7 @@ fn errors(
     Ok(text)
 }
 
-// The texts of a run of the code by so many threads.
+// The texts of a run of the code by this many threads.
 fn texts_by_threads<R: Threads + Wait + Sync, G: Gate + Sync>(
     rt: &R,
     alloc: Global,
@@ -88,8 +90,9 @@ fn texts_by_threads<R: Threads + Wait + Sync, G: Gate + Sync>(
     })
 }
 
-/// Reads the file of a threads line and runs it by so many threads, each of which passes the gate before
-/// each of its steps. Nothing is written before all turns are taken. It may wait for the lock of the program.
+/// Serves the command line `run --threads`: reads the file and runs it by this many threads. Each thread
+/// passes the gate before each of its steps. It writes nothing before all turns are taken. It may wait for
+/// the lock of the program.
 pub(crate) fn serve_threads<
     R: AllocGlobal + Threads + Wait + Sync,
     S: Source,

@@ -1,4 +1,6 @@
 //! The top call.
+//!
+//! It reads the words, and serves the command line that they stand for.
 
 ghost use Rattle.std.specs.Prelude.{◌≡◌, IfOk, IfSome, List, None, ℕ};
 ghost use Rattle.golf_run_schedules.specs.Options.{IsWithinLimits};
@@ -21,7 +23,7 @@ use std::alloc::Global;
 use std::sync::Wait;
 use std::thread::Threads;
 
-// Reads the file of a run line, and runs it by the options.
+// Reads the file of a run, and runs it by the options.
 fn run_source<R: AllocGlobal + Threads + Sync, S: Source, O: Sink, E: Sink, G: Gate + Sync>(
     rt: &R,
     options: RunOptions,
@@ -46,7 +48,7 @@ fn run_source<R: AllocGlobal + Threads + Sync, S: Source, O: Sink, E: Sink, G: G
     }
 }
 
-// How many threads a threads line asks for; none if the words are no threads line.
+// How many threads the command line asks for, or `None` if it asks for none.
 fn threads_of(line: &Result<Option<CommandLine>, Memory>) -> Option<u32>
     ensures { result ≡ threads_asked line.now }
 {
@@ -58,7 +60,7 @@ fn threads_of(line: &Result<Option<CommandLine>, Memory>) -> Option<u32>
     }
 }
 
-// All that the program does if its words are no threads line. It waits for nobody, so it returns.
+// Serves all command lines except for `run --threads`. It waits for no lock, so it returns.
 fn serve<R: AllocGlobal + Threads + Sync, S: Source, O: Sink, E: Sink, G: Gate + Sync>(
     rt: &R,
     line: Result<Option<CommandLine>, Memory>,
@@ -85,18 +87,18 @@ fn serve<R: AllocGlobal + Threads + Sync, S: Source, O: Sink, E: Sink, G: Gate +
     }
 }
 
-/// All that the program does: it looks at the words, reads the file from `source`, judges it and
-/// runs it, or compares its code with its source. What the file prints goes to `out`, everything
-/// else to `err`.
+/// Does all that the program does. It reads the words, reads the file from `source`, and judges it. Then it
+/// runs the file, or compares its code with its source. The file's output goes to `out`, and everything
+/// else goes to `err`.
 ///
-/// A threads line may wait for the lock of its program. Every other line is served by a call that
-/// returns: the body of `golf` shows this, and no clause of it can, since its `rt` has the bound
-/// `Wait`.
+/// With `--threads` it may wait for the lock of its program. For every other command line it returns. The
+/// body of `golf` shows this. No clause can, since `rt` has the bound `Wait`.
 ///
-/// The clause is about what is seen of the source and the sinks before the call and after it: what
-/// the status tells if the words are a line, and if they are not; which counts of faults
-/// rose, which are those that the status names and no other; and that without a fault all is
-/// written, unless memory ran out.
+/// The clause is about the source and the sinks before the call and after it. It says:
+///
+/// - the meaning of the status, both if the words are a command line and if they are not,
+/// - which counts of faults rose: those that the status names, and no other,
+/// - that without a fault all is written, unless memory ran out.
 pub fn golf<R: AllocGlobal + Threads + Wait + Sync, S: Source, O: Sink, E: Sink, G: Gate + Sync>(
     rt: &R,
     words: &[String],

@@ -1,4 +1,4 @@
--- The generated file of n parts, and the line that sums its run up (profile).
+-- The generated file of n parts, and the summary line of its run (profile).
 use Rattle.std.specs.Prelude.{ℕ, zero, suc, List, [], ◌++◌, codes, decimal}
 use Rattle.golf_command_sample.specs.declared.summary.Summary.{Summary}
 
@@ -16,8 +16,8 @@ part_body =
     codes
     "(n int) {\n\tc := make(chan int)\n\tgo wait(c)\n\tif n%2 == 0 {\n\t\troot = &Node{c: c, next: root}\n\t}\n}\n\n"
 
--- the k-th part leaves a waiter; nothing else holds the channel of an odd one, and the list at `root` that of an even
--- one
+-- The k-th part leaves a goroutine that waits on a channel. The list at `root` holds the channel if k is even. Nothing
+-- else holds it if k is odd.
 abbrev pub part : ℕ → List ℕ
 part k = codes "func part" ++ (decimal k ++ part_body)
 
@@ -29,19 +29,19 @@ parts (suc n) = parts n ++ part (suc n)
 abbrev pub call : ℕ → List ℕ
 call k = codes "\tpart" ++ (decimal k ++ (codes "(" ++ (decimal k ++ codes ")\n")))
 
--- their calls
+-- the calls of these parts
 abbrev pub calls : ℕ → List ℕ
 calls zero = []
 calls (suc n) = calls n ++ call (suc n)
 
--- so many rounds that every part comes to its wait, and a collection
+-- as many rounds as each goroutine needs to block, and a collection
 abbrev pub tail : ℕ → List ℕ
 tail n = codes "\tfor i := 0; i < " ++ (decimal n ++ codes "; i++ {\n\t}\n\truntime.GC()\n}\n")
 
 unfoldable pub file : ℕ → List ℕ
 file n = head ++ (parts n ++ (codes "func main() {\n" ++ (calls n ++ tail n)))
 
--- the line that sums a run of the file up: its parts and lines, and the numbers of its collections and reports
+-- the first part of the summary line: the parts and lines of the file, and the numbers of its collections and reports
 abbrev pub summary_front : ℕ → ℕ → ℕ → ℕ → List ℕ
 summary_front n lines collections reported =
     codes "generated " ++ (decimal n ++ (codes ": lines "

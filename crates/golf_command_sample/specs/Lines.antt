@@ -1,4 +1,4 @@
--- How many lines the generated file has.
+-- The number of lines of the generated file.
 use Rattle.std.specs.Prelude.{◌≡◌, ℕ, ◌+◌, ◌*◌, ◌<◌, ◌^◌, ◌==◌, List, count_by}
 use Rattle.golf_command_sample.specs.File.{file}
 

@@ -1,4 +1,7 @@
 //! The generated file, made in memory.
+//!
+//! Each part leaves one goroutine that waits for ever. The goroutines of the odd parts are dead, and those
+//! of the even parts are live.
 
 ghost use Rattle.std.specs.Prelude.{◌≡◌, ◌<◌, ◌-◌, ◌++◌, IfOk, OnOk, decimal};
 ghost use Rattle.golf_command_sample.specs.File.{part, parts, call, calls, tail, file as file_of};
@@ -70,7 +73,8 @@ fn add_tail(alloc: Global, text: &mut List<u8>, count: u32) -> Result<(), Memory
     Ok(())
 }
 
-/// The generated file of so many parts. It has under 700,000 bytes for `MOST_PARTS`.
+/// Returns the generated file of `count` parts. With `MOST_PARTS` it has fewer than 700,000 bytes. The only
+/// error is `Memory`.
 pub fn sample_file(alloc: Global, count: u32) -> Result<List<u8>, Memory>
     ensures { IfOk result (λ file. file ≡ file_of count) }
 {
@@ -83,7 +87,7 @@ pub fn sample_file(alloc: Global, count: u32) -> Result<List<u8>, Memory>
     Ok(text)
 }
 
-/// The generated file of n parts has 20 + 9n lines, for every n below 2^32.
+/// States that the generated file of n parts has 20 + 9n lines, for every n below 2^32.
 pub fn file_lines()
     ensures { HasLines }
 {}

@@ -1,4 +1,5 @@
-//! The generated file: one that leaves many goroutines blocked for ever, and many that are not.
+//! The generated file, whose run leaves many goroutines blocked for ever, and many blocked goroutines that
+//! are live.
 #![tactic(auto)]
 
 mod file;

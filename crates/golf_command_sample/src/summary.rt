@@ -1,4 +1,4 @@
-//! The line that sums the run of a generated file up.
+//! The summary line of the run of a generated file.
 
 ghost use Rattle.std.specs.Prelude.{◌≡◌, IfOk, string_bytes};
 ghost use Rattle.golf_command_sample.specs.File.{summary, summary_back, summary_front};
@@ -15,17 +15,17 @@ pub struct Summary {
     pub lines: u32,
     /// How many collections there were.
     pub collections: u32,
-    /// How many goroutines were reported, all collections together.
+    /// How many goroutines all collections together reported.
     pub reported: u64,
     /// How many dead goroutines the last collection kept.
     pub kept: u32,
-    /// How many goroutines were taken back, all collections together.
+    /// How many goroutines all collections together reclaimed.
     pub reclaimed: u64,
     /// How many objects the last collection left.
     pub objects: u32,
 }
 
-/// The line that sums a run up.
+/// Returns the summary line of a run.
 pub fn summary_line(alloc: Global, of: Summary) -> Result<List<u8>, Memory>
     ensures { IfOk result (λ line. line ≡ summary of) }
 {
@@ -37,7 +37,7 @@ pub fn summary_line(alloc: Global, of: Summary) -> Result<List<u8>, Memory>
     Ok(text)
 }
 
-// What was generated and reported.
+// The first part of the line: the file and the reports.
 fn front_of(alloc: Global, of: Summary) -> Result<String, Memory>
     ensures { IfOk result (λ text. string_bytes text ≡ summary_front of.parts of.lines of.collections of.reported) }
 {
@@ -50,7 +50,7 @@ fn front_of(alloc: Global, of: Summary) -> Result<String, Memory>
     )?)
 }
 
-// What the last collection left.
+// The second part of the line: what the last collection left.
 fn back_of(alloc: Global, of: Summary) -> Result<String, Memory>
     ensures { IfOk result (λ text. string_bytes text ≡ summary_back of.kept of.reclaimed of.objects) }
 {

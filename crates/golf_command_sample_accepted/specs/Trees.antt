@@ -53,7 +53,7 @@ is_even = ex.Binary binary.Equal (ex.Binary binary.Remainder (name (codes "n")) 
 abbrev pub int_field : List ℕ → Field
 int_field n = record { first = n; more = []; of_type = ty.Named (codes "int") }
 
--- the function of the k-th part, if its first line is l
+-- the function of the k-th part, whose first line is l
 abbrev pub part_func : ℕ → ℕ → Func
 part_func k l = record {
   line = l;
@@ -71,7 +71,7 @@ part_decl k l = d.Func (part_func k l)
 abbrev pub next_part : ℕ → ℕ
 next_part l = l + 1 + 1 + 1 + 1 + 1 + 1 + 1 + 1
 
--- the line of the part after n of them
+-- the line of the part after n parts
 abbrev pub part_line : ℕ → ℕ
 part_line zero = 16
 part_line (suc n) = next_part (part_line n)
@@ -96,7 +96,7 @@ counts_to n l = st.For l (header.Steps (Some
 abbrev pub collects : ℕ → Stmt
 collects l = does l (simple.Expression (ex.Call (ex.Selector (name (codes "runtime")) (codes "GC")) []))
 
--- the line after n calls, if `main` stands on line l
+-- the line after n calls; `main` is on line l
 abbrev pub call_line : ℕ → ℕ → ℕ
 call_line l zero = l + 1
 call_line l (suc n) = call_line l n + 1

@@ -1,118 +1,80 @@
 -- Worked examples: what the definition of a line says of these words.
 use Rattle.std.proofs.Common.{◌≡◌, refl, List, [], ◌∷◌, Some, None, codes, true, false}
+use Rattle.golf_run_schedules.specs.declared.options.RunOptions.{RunOptions}
 use Rattle.golf_run_schedules.specs.declared.schedule.Schedule.{Schedule}
 use Rattle.golf_command_words.specs.Values.{Text, numbers_of}
 use Rattle.golf_command_words.specs.Words.{line_of, uses_after}
 use Rattle.golf_command_words.specs.declared.line.CommandLine.{CommandLine}
 
-abbrev run_alone : List Text
-run_alone = codes "run" ∷ []
+-- a run without options
+abbrev plain : RunOptions
+plain = record {
+  schedule = Schedule.Rotate;
+  turns = 1000000;
+  every = None;
+  markers = 1;
+  recover = false;
+  why = false;
+}
 
-run_alone_is : line_of run_alone ≡ Some (CommandLine.Run
-    (record { schedule = Schedule.Rotate; turns = 1000000; every = None; markers = 1; recover = false; why = false }))
+-- `run` with these words behind it
+abbrev run : List Text → List Text
+run words = codes "run" ∷ words
+
+run_alone : line_of (run []) ≡ Some (CommandLine.Run plain)
 unfolding uses_after
-run_alone_is = refl
+run_alone = refl
 
-abbrev seed_and_markers : List Text
-seed_and_markers = codes "run" ∷ codes "--schedule=seed:0" ∷ codes "--markers" ∷ codes "002" ∷ codes "--recover"
-    ∷ codes "--" ∷ []
-
-seed_and_markers_is : line_of seed_and_markers ≡ Some
-    (CommandLine.Run (record {
-      schedule = Schedule.Seed 0;
-      turns = 1000000;
-      every = None;
-      markers = 2;
-      recover = true;
-      why = false;
-    }))
+seed_and_markers : line_of (run (codes "--schedule=seed:0" ∷ codes "--markers" ∷ codes "002" ∷ codes "--recover"
+    ∷ codes "--" ∷ [])) ≡ Some (CommandLine.Run
+    (record plain { schedule = Schedule.Seed 0; markers = 2; recover = true }))
 unfolding uses_after
-seed_and_markers_is = refl
+seed_and_markers = refl
 
-abbrev why_first : List Text
-why_first = codes "run" ∷ codes "--why" ∷ codes "--turns=9" ∷ codes "--recover" ∷ []
-
-why_first_is : line_of why_first ≡ Some (CommandLine.Run
-    (record { schedule = Schedule.Rotate; turns = 9; every = None; markers = 1; recover = true; why = true }))
+why_first : line_of (run (codes "--why" ∷ codes "--turns=9" ∷ codes "--recover" ∷ []))
+    ≡ Some (CommandLine.Run (record plain { turns = 9; recover = true; why = true }))
 unfolding uses_after
-why_first_is = refl
+why_first = refl
 
-abbrev why_twice : List Text
-why_twice = codes "run" ∷ codes "--why" ∷ codes "--why" ∷ []
-
-why_twice_is : line_of why_twice ≡ None
+why_twice : line_of (run (codes "--why" ∷ codes "--why" ∷ [])) ≡ None
 unfolding uses_after
-why_twice_is = refl
+why_twice = refl
 
-abbrev why_with_a_value : List Text
-why_with_a_value = codes "run" ∷ codes "--why=1" ∷ []
-
-why_with_a_value_is : line_of why_with_a_value ≡ None
+why_with_a_value : line_of (run (codes "--why=1" ∷ [])) ≡ None
 unfolding uses_after
-why_with_a_value_is = refl
+why_with_a_value = refl
 
-abbrev threads_and_why : List Text
-threads_and_why = codes "run" ∷ codes "--threads=2" ∷ codes "--why" ∷ []
-
-threads_and_why_are : line_of threads_and_why ≡ None
+threads_and_why : line_of (run (codes "--threads=2" ∷ codes "--why" ∷ [])) ≡ None
 unfolding uses_after
-threads_and_why_are = refl
+threads_and_why = refl
 
-abbrev twice : List Text
-twice = codes "run" ∷ codes "--recover" ∷ codes "--recover" ∷ []
-
-twice_is : line_of twice ≡ None
+recover_twice : line_of (run (codes "--recover" ∷ codes "--recover" ∷ [])) ≡ None
 unfolding uses_after
-twice_is = refl
+recover_twice = refl
 
-abbrev hyphens_as_value : List Text
-hyphens_as_value = codes "run" ∷ codes "--turns" ∷ codes "--" ∷ []
-
-hyphens_as_value_is : line_of hyphens_as_value ≡ None
+hyphens_as_value : line_of (run (codes "--turns" ∷ codes "--" ∷ [])) ≡ None
 unfolding uses_after
-hyphens_as_value_is = refl
+hyphens_as_value = refl
 
-abbrev twenty_digits : List Text
-twenty_digits = codes "run" ∷ codes "--turns" ∷ codes "00000000000000000007" ∷ []
-
-twenty_digits_are : line_of twenty_digits ≡ Some
-    (CommandLine.Run (record {
-      schedule = Schedule.Rotate;
-      turns = 7;
-      every = None;
-      markers = 1;
-      recover = false;
-      why = false;
-    }))
+twenty_digits : line_of (run (codes "--turns" ∷ codes "00000000000000000007" ∷ []))
+    ≡ Some (CommandLine.Run (record plain { turns = 7 }))
 unfolding uses_after
-twenty_digits_are = refl
+twenty_digits = refl
 
-abbrev twenty_one_digits : List Text
-twenty_one_digits = codes "run" ∷ codes "--turns" ∷ codes "000000000000000000007" ∷ []
-
-twenty_one_digits_are : line_of twenty_one_digits ≡ None
+twenty_one_digits : line_of (run (codes "--turns" ∷ codes "000000000000000000007" ∷ [])) ≡ None
 unfolding uses_after
-twenty_one_digits_are = refl
+twenty_one_digits = refl
 
-abbrev two_threads : List Text
-two_threads = codes "run" ∷ codes "--threads=002" ∷ codes "--" ∷ []
-
-two_threads_are : line_of two_threads ≡ Some (CommandLine.Threads 2)
+two_threads : line_of (run (codes "--threads=002" ∷ codes "--" ∷ [])) ≡ Some (CommandLine.Threads 2)
 unfolding uses_after
-two_threads_are = refl
+two_threads = refl
 
-abbrev threads_and_markers : List Text
-threads_and_markers = codes "run" ∷ codes "--markers=2" ∷ codes "--threads" ∷ codes "2" ∷ []
-
-threads_and_markers_are : line_of threads_and_markers ≡ None
+threads_and_markers : line_of (run (codes "--markers=2" ∷ codes "--threads" ∷ codes "2" ∷ [])) ≡ None
 unfolding uses_after
-threads_and_markers_are = refl
+threads_and_markers = refl
 
-abbrev generate_five : List Text
-generate_five = codes "generate" ∷ codes "--" ∷ codes "5" ∷ []
-
-generate_five_is : line_of generate_five ≡ Some (CommandLine.Generate 5)
-generate_five_is = refl
+generate_five : line_of (codes "generate" ∷ codes "--" ∷ codes "5" ∷ []) ≡ Some (CommandLine.Generate 5)
+generate_five = refl
 
 -- a list of at most three numbers
 three_numbers : numbers_of 3 (codes "0,007,1") ≡ Some (0 ∷ 7 ∷ 1 ∷ [])
@@ -127,32 +89,17 @@ no_number : numbers_of 3 (codes "0,") ≡ None
 unfolding numbers_of
 no_number = refl
 
-abbrev meaning_alone : List Text
-meaning_alone = codes "meaning" ∷ []
+meaning_alone : line_of (codes "meaning" ∷ []) ≡ Some CommandLine.Meaning
+meaning_alone = refl
 
-meaning_alone_is : line_of meaning_alone ≡ Some CommandLine.Meaning
-meaning_alone_is = refl
+meaning_and_hyphens : line_of (codes "meaning" ∷ codes "--" ∷ []) ≡ Some CommandLine.Meaning
+meaning_and_hyphens = refl
 
-abbrev meaning_and_hyphens : List Text
-meaning_and_hyphens = codes "meaning" ∷ codes "--" ∷ []
+meaning_and_a_word : line_of (codes "meaning" ∷ codes "x" ∷ []) ≡ None
+meaning_and_a_word = refl
 
-meaning_and_hyphens_is : line_of meaning_and_hyphens ≡ Some CommandLine.Meaning
-meaning_and_hyphens_is = refl
+meaning_hyphens_and_a_word : line_of (codes "meaning" ∷ codes "--" ∷ codes "x" ∷ []) ≡ None
+meaning_hyphens_and_a_word = refl
 
-abbrev meaning_and_a_word : List Text
-meaning_and_a_word = codes "meaning" ∷ codes "x" ∷ []
-
-meaning_and_a_word_is : line_of meaning_and_a_word ≡ None
-meaning_and_a_word_is = refl
-
-abbrev meaning_hyphens_and_a_word : List Text
-meaning_hyphens_and_a_word = codes "meaning" ∷ codes "--" ∷ codes "x" ∷ []
-
-meaning_hyphens_and_a_word_is : line_of meaning_hyphens_and_a_word ≡ None
-meaning_hyphens_and_a_word_is = refl
-
-abbrev meaning_twice_hyphens : List Text
-meaning_twice_hyphens = codes "meaning" ∷ codes "--" ∷ codes "--" ∷ []
-
-meaning_twice_hyphens_is : line_of meaning_twice_hyphens ≡ None
-meaning_twice_hyphens_is = refl
+meaning_twice_hyphens : line_of (codes "meaning" ∷ codes "--" ∷ codes "--" ∷ []) ≡ None
+meaning_twice_hyphens = refl

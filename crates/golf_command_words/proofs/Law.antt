@@ -16,11 +16,12 @@ use Rattle.clap.specs.Simple.{App, Shape, built, entered, names_of}
 use Rattle.clap.specs.Faults.{bundle_fault, check_fault, defaults_fault, entered_fault, flag_word_fault, level_fault}
 use Rattle.clap.specs.Faults.{other_fault, settle_fault, step_fault, turn_fault, walk_fault}
 use Rattle.clap.proofs.WalkLemmas.{walk_stopped}
-use Rattle.golf_command_words.specs.Values.{Text}
+use Rattle.golf_command_words.specs.Values.{Text, most_choices}
 use Rattle.golf_command_words.specs.Words.{generate_of, line_of, meaning_of, run_of, uses_after}
 use Rattle.golf_command_words.specs.Splitting.{generate_by, golf_app, line_by, run_by, split_of, unless_fault}
 use Rattle.golf_command_words.specs.declared.line.CommandLine.{CommandLine}
-use Rattle.golf_command_words.proofs.Outcomes.{bundle_fails, fails, level_is, short_text, unless_fails, unless_none}
+use Rattle.golf_command_words.proofs.Outcomes.{bundle_fails, fails, level_is, outcome, short_text, unless_fails}
+use Rattle.golf_command_words.proofs.Outcomes.{unless_none}
 use Rattle.golf_command_words.proofs.Runs.{run_shape, same_text}
 use Rattle.golf_command_words.proofs.RunLines.{run_line_is, settle_first}
 use Rattle.golf_command_words.proofs.Generates.{generate_line_is, generate_shape}
@@ -65,52 +66,8 @@ unfolding walk_fault walked
 left_to_it name seen [] = refl
 left_to_it name seen (word ∷ rest) = left_to_it name (seen ++ word ∷ []) rest
 
-at_run : (rest : List Text) → walk_fault top names (walk_from nothing_held) (codes "run" ∷ rest) ≡ []
-unfolding walk_fault walked
-at_run rest = left_to_it (codes "run") [] rest
-
-run_stops : (rest : List Text) → stopped_at (codes "run") rest ≡ walk top.rules names nothing_held (codes "run" ∷ rest)
-unfolding walked
-run_stops rest = walk_stopped top.rules names (walk_from nothing_held) (codes "run") [] rest
-
-at_generate : (rest : List Text) → walk_fault top names (walk_from nothing_held) (codes "generate" ∷ rest) ≡ []
-unfolding walk_fault walked
-at_generate rest = left_to_it (codes "generate") [] rest
-
-generate_stops : (rest : List Text) → stopped_at (codes "generate") rest ≡ walk top.rules names nothing_held
-    (codes "generate" ∷ rest)
-unfolding walked
-generate_stops rest = walk_stopped top.rules names (walk_from nothing_held) (codes "generate") [] rest
-
-at_meaning : (rest : List Text) → walk_fault top names (walk_from nothing_held) (codes "meaning" ∷ rest) ≡ []
-unfolding walk_fault walked
-at_meaning rest = left_to_it (codes "meaning") [] rest
-
-meaning_stops : (rest : List Text) → stopped_at (codes "meaning") rest ≡ walk top.rules names nothing_held
-    (codes "meaning" ∷ rest)
-unfolding walked
-meaning_stops rest = walk_stopped top.rules names (walk_from nothing_held) (codes "meaning") [] rest
-
 abbrev rows_of_leaf : Shape → List Text → List Row
 rows_of_leaf s words = finished s.rules (walk s.rules [] nothing_held words).held
-
-run_entered : (rest : List Text) → found_at [] (stopped_at (codes "run") rest)
-    ≡ unless_fault (or_else (level_fault run_shape [] nothing_held rest false []) [])
-    (Some (codes "run", rows_of_leaf run_shape rest))
-unfolding defaults_fault
-run_entered rest = refl
-
-generate_entered : (rest : List Text) → found_at [] (stopped_at (codes "generate") rest)
-    ≡ unless_fault (or_else (level_fault generate_shape [] nothing_held rest false []) [])
-    (Some (codes "generate", rows_of_leaf generate_shape rest))
-unfolding defaults_fault
-generate_entered rest = refl
-
-meaning_entered : (rest : List Text) → found_at [] (stopped_at (codes "meaning") rest)
-    ≡ unless_fault (or_else (level_fault meaning_shape [] nothing_held rest false []) [])
-    (Some (codes "meaning", rows_of_leaf meaning_shape rest))
-unfolding defaults_fault
-meaning_entered rest = refl
 
 -- the line by the rows of a subcommand, if nothing in its words is at fault
 line_found : (name : Text) (read : List Row → Option CommandLine) (kinds : Kinds) (rows : List Row)
@@ -120,37 +77,49 @@ line_found : (name : Text) (read : List Row → Option CommandLine) (kinds : Kin
 line_found name read [] rows is = is
 line_found name read (k ∷ ks) rows is = refl
 
-run_law : (rest : List Text) → AllByRecursion IsUtf8 rest
-    → line_of (codes "run" ∷ rest) ≡ line_by (split_of (codes "run" ∷ rest))
-run_law rest utf8 =
-    let kinds = level_fault run_shape [] nothing_held rest false [] in
-    sym (ap line_by (split_is (codes "run" ∷ rest)
-    ∙ ap₂ (λ (k : Kinds) (f : Walk). found_at k f) (at_run rest) (sym (run_stops rest)) ∙ run_entered rest)
-    ∙ line_found (codes "run") run_by kinds (rows_of_leaf run_shape rest) refl
-    ∙ ap (option_and_then run_by) (level_is run_shape rest)
-    ∙ run_line_is rest utf8)
+-- the word is the name of a subcommand of this shape
+record IsLeaf (name : Text) (shape : Shape) : Type 0 where
+  at : (rest : List Text) → walk_fault top names (walk_from nothing_held) (name ∷ rest) ≡ []
+  stops : (rest : List Text) → stopped_at name rest ≡ walk top.rules names nothing_held (name ∷ rest)
+  entered : (rest : List Text) → found_at [] (stopped_at name rest)
+      ≡ unless_fault (or_else (level_fault shape [] nothing_held rest false []) [])
+      (Some (name, rows_of_leaf shape rest))
 
-generate_law : (rest : List Text) → AllByRecursion IsUtf8 rest
-    → line_of (codes "generate" ∷ rest) ≡ line_by (split_of (codes "generate" ∷ rest))
-generate_law rest utf8 =
-    let kinds = level_fault generate_shape [] nothing_held rest false [] in
-    sym (ap line_by (split_is (codes "generate" ∷ rest)
-    ∙ ap₂ (λ (k : Kinds) (f : Walk). found_at k f) (at_generate rest) (sym (generate_stops rest))
-    ∙ generate_entered rest)
-    ∙ line_found (codes "generate") generate_by kinds (rows_of_leaf generate_shape rest) refl
-    ∙ ap (option_and_then generate_by) (level_is generate_shape rest)
-    ∙ generate_line_is rest utf8)
+run_leaf : IsLeaf (codes "run") run_shape
+unfolding walk_fault walked defaults_fault
+run_leaf = record {
+  at = left_to_it (codes "run") [];
+  stops = walk_stopped top.rules names (walk_from nothing_held) (codes "run") [];
+  entered = λ rest. refl;
+}
 
-meaning_law : (rest : List Text) → AllByRecursion IsUtf8 rest
-    → line_of (codes "meaning" ∷ rest) ≡ line_by (split_of (codes "meaning" ∷ rest))
-meaning_law rest utf8 =
-    let kinds = level_fault meaning_shape [] nothing_held rest false [] in
-    sym (ap line_by (split_is (codes "meaning" ∷ rest)
-    ∙ ap₂ (λ (k : Kinds) (f : Walk). found_at k f) (at_meaning rest) (sym (meaning_stops rest))
-    ∙ meaning_entered rest)
-    ∙ line_found (codes "meaning") meaning_by kinds (rows_of_leaf meaning_shape rest) refl
-    ∙ ap (option_and_then meaning_by) (level_is meaning_shape rest)
-    ∙ meaning_line_is rest utf8)
+generate_leaf : IsLeaf (codes "generate") generate_shape
+unfolding walk_fault walked defaults_fault
+generate_leaf = record {
+  at = left_to_it (codes "generate") [];
+  stops = walk_stopped top.rules names (walk_from nothing_held) (codes "generate") [];
+  entered = λ rest. refl;
+}
+
+meaning_leaf : IsLeaf (codes "meaning") meaning_shape
+unfolding walk_fault walked defaults_fault
+meaning_leaf = record {
+  at = left_to_it (codes "meaning") [];
+  stops = walk_stopped top.rules names (walk_from nothing_held) (codes "meaning") [];
+  entered = λ rest. refl;
+}
+
+-- a line whose first word is the name of this subcommand
+leaf_law : {name : Text} {shape : Shape} → IsLeaf name shape → (read : List Row → Option CommandLine) (rest : List Text)
+    → line_by (Some (name, rows_of_leaf shape rest)) ≡ read (rows_of_leaf shape rest)
+    → option_and_then read (outcome shape (walk_from nothing_held) rest) ≡ line_of (name ∷ rest)
+    → line_of (name ∷ rest) ≡ line_by (split_of (name ∷ rest))
+leaf_law {name} {shape} leaf read rest by line =
+    let kinds = level_fault shape [] nothing_held rest false [] in
+    sym (ap line_by (split_is (name ∷ rest)
+    ∙ ap₂ (λ (k : Kinds) (f : Walk). found_at k f) (leaf.at rest) (sym (leaf.stops rest)) ∙ leaf.entered rest)
+    ∙ line_found name read kinds (rows_of_leaf shape rest) by
+    ∙ ap (option_and_then read) (level_is shape rest) ∙ line)
 
 -- ---- any other first word
 
@@ -275,13 +244,13 @@ line_law (word ∷ rest) utf8 = go (bytes_eq (codes "run") word) (bytes_eq (code
     go : (r g m : Bool) → bytes_eq (codes "run") word ≡ r → bytes_eq (codes "generate") word ≡ g
         → bytes_eq (codes "meaning") word ≡ m → line_of (word ∷ rest) ≡ line_by (split_of (word ∷ rest))
     go true g m run generate meaning = subst (λ w. line_of (w ∷ rest) ≡ line_by (split_of (w ∷ rest)))
-        (same_text (codes "run") word run) (run_law rest utf8.1)
+        (same_text (codes "run") word run) (leaf_law run_leaf (run_by most_choices) rest refl (run_line_is rest utf8.1))
     go false true m run generate meaning =
         subst (λ w. line_of (w ∷ rest) ≡ line_by (split_of (w ∷ rest))) (same_text (codes "generate") word generate)
-        (generate_law rest utf8.1)
+        (leaf_law generate_leaf generate_by rest refl (generate_line_is rest utf8.1))
     go false false true run generate meaning =
         subst (λ w. line_of (w ∷ rest) ≡ line_by (split_of (w ∷ rest))) (same_text (codes "meaning") word meaning)
-        (meaning_law rest utf8.1)
+        (leaf_law meaning_leaf meaning_by rest refl (meaning_line_is rest utf8.1))
     go false false false run generate meaning = no_line word rest run generate meaning
         ∙ sym (ap line_by (other_found word rest utf8.0 (no_subcommand word run generate meaning)))
 

@@ -182,13 +182,7 @@ module _ (s : Shape) where
   }
 
   abbrev pub trailed : Held → Waiting → ℕ → Walk
-  trailed h waiting position = record {
-    held = h;
-    waiting = waiting;
-    position = position;
-    is_trailing = true;
-    stopped = None;
-  }
+  trailed h waiting position = record (standing h waiting position) { is_trailing = true }
 
   -- one word, by its fault and by what it was
   abbrev pub turned : Held → Waiting → ℕ → Text → List Text → Kinds → Held × Step → Option (List Row)

@@ -12,28 +12,25 @@ use Rattle.clap.specs.Walk.{Held, Row, Rule, idle, option, arg_by_long, most_val
 use Rattle.clap.specs.Walk.{takes_values, used_by_id, walk_from}
 use Rattle.clap.specs.Faults.{long_fault, option_fault, react_fault, settle_fault, use_fault}
 use Rattle.clap.specs.declared.error.kind.ErrorKind.TheVariants.{TooManyValues}
-use Rattle.golf_command_words.specs.Values.{Text}
-use Rattle.golf_command_words.specs.Words.{Use, is_last, option_in, option_met, run_of, uses_after, with_use}
+use Rattle.golf_command_words.specs.Values.{Text, most_choices}
+use Rattle.golf_command_words.specs.Words.{Use, option_met, run_of, uses_after, with_use}
 use Rattle.golf_command_words.specs.Splitting.{run_by, unless_fault}
 use Rattle.golf_command_words.proofs.Outcomes.{IsBundle, fails, long_is, outcome, plain_is, short_is, standing, turned}
 use Rattle.golf_command_words.proofs.Outcomes.{unless_fails, unless_or}
-use Rattle.golf_command_words.proofs.Runs.{long_hyphen, option_in-long, plain_hyphen, row, rules, run_shape}
+use Rattle.golf_command_words.proofs.Runs.{long_hyphen, plain_hyphen, row, rules, run_shape}
 use Rattle.golf_command_words.proofs.Runs.{short_hyphen, use_is}
-use Rattle.golf_command_words.proofs.RunWords.{AtRest, AtValue, at_hyphen, by_word, held, lacks, lacks_fails}
+use Rattle.golf_command_words.proofs.RunWords.{AtRest, AtValue, at_hyphen, held, lacks, lacks_fails}
 use Rattle.golf_command_words.proofs.RunWords.{rest_dashes, rest_nil, told_use, value_dashes, value_nil, value_none}
-use Rattle.golf_command_words.proofs.RunOptions.{rest_long, rest_none}
+use Rattle.golf_command_words.proofs.RunOptions.{at_word, rest_long, rest_none}
 
 -- ---- a word that no option is
 
 no_option : (us : List Use) (word : Text) (rest : List Text) → bytes_eq word (45 ∷ 45 ∷ []) ≡ false
     → long_of word ≡ None → uses_after us None (word ∷ rest) ≡ None
 no_option us word rest e none =
-    by_word us word rest
-    ∙ ap (λ b. cond b (cond (is_last rest) (Some us) None)
-    (option_and_then (λ (o : Text × Option Text). option_met us o.0 o.1 (λ now waiting. uses_after now waiting rest))
-    (option_in word))) e
+    at_word us word rest e
     ∙ ap (option_and_then (λ (o : Text × Option Text). option_met us o.0 o.1
-    (λ now waiting. uses_after now waiting rest))) (option_in-long word e ∙ none)
+    (λ now waiting. uses_after now waiting rest))) none
 
 rest_short : {flags : Text} (word : Text) (rest : List Text) → IsBundle word flags → AtRest (word ∷ rest)
 rest_short word rest short rows pending us told same =
@@ -104,7 +101,7 @@ value_plain word rest e none short later us name told v =
     let h = lacks us name in
     let full : Held = held (map row us) (Some (name, word ∷ [])) in
     let rows = map row us in
-    ap (λ (o : Option (List Row)). option_and_then run_by o)
+    ap (λ (o : Option (List Row)). option_and_then (run_by most_choices) o)
     (plain_is run_shape h (option name) 1 word rest e none short
     ∙ ap (λ a. turned run_shape h (option name) 1 word rest []
     ((option_word a name word h).0, next (option_word a name word h).1)) v.kept
@@ -139,6 +136,6 @@ each_word (word ∷ rest) utf8 =
 
 -- the words after `run` give the line that the grammar gives
 pub run_line_is : (words : List Text) → AllByRecursion IsUtf8 words
-    → option_and_then run_by (outcome run_shape (walk_from nothing_held) words) ≡ option_and_then run_of
+    → option_and_then (run_by most_choices) (outcome run_shape (walk_from nothing_held) words) ≡ option_and_then run_of
     (uses_after [] None words)
 run_line_is words utf8 = (each_word words utf8).0 [] None (Some []) tt refl

@@ -82,16 +82,25 @@ use_then a values name value rest fault gives new later us told =
         (told_more us (name, value) told new) (ap Some (new_use us name value e))
         ∙ sym (ap (λ b. line_from (cond b None (Some (us ++ (name, value) ∷ []))) rest) e)
 
-at_long : (us : List Use) (word : Text) (rest : List Text) (name : Text) (value : Option Text)
-    → bytes_eq word (45 ∷ 45 ∷ []) ≡ false → long_of word ≡ Some (name, value)
-    → uses_after us None (word ∷ rest) ≡ option_told us name value (λ now waiting. uses_after now waiting rest)
-at_long us word rest name value e is =
+-- a word that is not `--` is the option that `clap` sees in it, or none
+pub at_word : (us : List Use) (word : Text) (rest : List Text) → bytes_eq word (45 ∷ 45 ∷ []) ≡ false
+    → uses_after us None (word ∷ rest) ≡ option_and_then (λ (o : Text × Option Text). option_told us o.0 o.1
+    (λ now waiting. uses_after now waiting rest)) (long_of word)
+at_word us word rest e =
     by_word us word rest
     ∙ ap (λ b. cond b (cond (is_last rest) (Some us) None)
     (option_and_then (λ (o : Text × Option Text). option_told us o.0 o.1 (λ now waiting. uses_after now waiting rest))
     (option_in word))) e
     ∙ ap (option_and_then (λ (o : Text × Option Text). option_told us o.0 o.1
-    (λ now waiting. uses_after now waiting rest))) (option_in-long word e ∙ is)
+    (λ now waiting. uses_after now waiting rest))) (option_in-long word e)
+
+at_long : (us : List Use) (word : Text) (rest : List Text) (name : Text) (value : Option Text)
+    → bytes_eq word (45 ∷ 45 ∷ []) ≡ false → long_of word ≡ Some (name, value)
+    → uses_after us None (word ∷ rest) ≡ option_told us name value (λ now waiting. uses_after now waiting rest)
+at_long us word rest name value e is =
+    at_word us word rest e
+    ∙ ap (option_and_then (λ (o : Text × Option Text). option_told us o.0 o.1
+    (λ now waiting. uses_after now waiting rest))) is
 
 -- `--name=value` of an option with a value
 rest_attached : (word : Text) (rest : List Text) (name text : Text) → IsValued name

@@ -9,7 +9,7 @@ use Rattle.std.specs.Option.{option_map_or}
 use Rattle.clap.specs.Kinds.{Kinds, or_else}
 use Rattle.clap.specs.Walk.{Held, Row, Rule, Waiting, idle, option, has_row, is_empty, settled, with_default}
 use Rattle.clap.specs.Faults.{default_fault, defaults_fault, given_default_fault, settle_fault, use_fault}
-use Rattle.golf_command_words.specs.Values.{Text}
+use Rattle.golf_command_words.specs.Values.{Text, most_choices}
 use Rattle.golf_command_words.specs.Words.{Use, begins_with_hyphen, is_last, is_used, option_in, option_met, run_of}
 use Rattle.golf_command_words.specs.Words.{takes_value, uses_after, with_use, word_met}
 use Rattle.golf_command_words.specs.Splitting.{run_by, unless_fault}
@@ -59,7 +59,7 @@ abbrev pub held : List Row → Option (Text × List Text) → Held
 held rows pending = record { rows = rows; pending = pending; skip = 0 }
 
 abbrev pub read : Option (List Row) → Option CommandLine
-read rows = option_and_then run_by rows
+read rows = option_and_then (run_by most_choices) rows
 
 abbrev pub line_from : Option (List Use) → List Text → Option CommandLine
 line_from us words = option_and_then run_of (option_and_then (λ now. uses_after now None words) us)

@@ -104,80 +104,44 @@ pub record IsValued (name : Text) : Type 0 where
   pub none : (rows : List Row) → fails (use_fault false rule [] rows) ≡ true
   pub told : takes_value name ≡ true
 
-valued_schedule : IsValued (codes "schedule")
-valued_schedule = record {
-  rule = _;
-  found = refl;
-  kept = refl;
-  id = refl;
-  takes = refl;
-  most = refl;
-  fault = λ v rows. or_else-nil (repeat_fault false (codes "schedule") rows);
-  gives = λ v rows. refl;
-  none =
-      λ rows. refl;
-  told = refl;
+-- the rule of an option on its name, and what is computed of it
+as-valued : (name : Text) (rule : Rule) → arg_by_long rules name ≡ Some rule → arg_by_id rules name ≡ Some rule
+    → rule.id ≡ name → takes_values rule ≡ true → most_values rule ≡ 1
+    → ((v : Text) (rows : List Row) → use_fault false rule (v ∷ []) rows ≡ or_else (repeat_fault false name rows) [])
+    → ((v : Text) (rows : List Row) → used rule (v ∷ []) rows ≡ used_rows name (Some v) rows)
+    → ((rows : List Row) → fails (use_fault false rule [] rows) ≡ true) → takes_value name ≡ true → IsValued name
+as-valued name rule found kept id takes most fault gives none told = record {
+  rule = rule;
+  found = found;
+  kept = kept;
+  id = id;
+  takes = takes;
+  most = most;
+  fault = λ v rows. fault v rows ∙ or_else-nil (repeat_fault false name rows);
+  gives = gives;
+  none = none;
+  told = told;
 }
+
+valued_schedule : IsValued (codes "schedule")
+valued_schedule = as-valued (codes "schedule") _ refl refl refl refl refl (λ v rows. refl) (λ v rows. refl)
+    (λ rows. refl) refl
 
 valued_turns : IsValued (codes "turns")
-valued_turns = record {
-  rule = _;
-  found = refl;
-  kept = refl;
-  id = refl;
-  takes = refl;
-  most = refl;
-  fault = λ v rows. or_else-nil (repeat_fault false (codes "turns") rows);
-  gives = λ v rows. refl;
-  none =
-      λ rows. refl;
-  told = refl;
-}
+valued_turns = as-valued (codes "turns") _ refl refl refl refl refl (λ v rows. refl) (λ v rows. refl)
+    (λ rows. refl) refl
 
 valued_every : IsValued (codes "every")
-valued_every = record {
-  rule = _;
-  found = refl;
-  kept = refl;
-  id = refl;
-  takes = refl;
-  most = refl;
-  fault = λ v rows. or_else-nil (repeat_fault false (codes "every") rows);
-  gives = λ v rows. refl;
-  none =
-      λ rows. refl;
-  told = refl;
-}
+valued_every = as-valued (codes "every") _ refl refl refl refl refl (λ v rows. refl) (λ v rows. refl)
+    (λ rows. refl) refl
 
 valued_markers : IsValued (codes "markers")
-valued_markers = record {
-  rule = _;
-  found = refl;
-  kept = refl;
-  id = refl;
-  takes = refl;
-  most = refl;
-  fault = λ v rows. or_else-nil (repeat_fault false (codes "markers") rows);
-  gives = λ v rows. refl;
-  none =
-      λ rows. refl;
-  told = refl;
-}
+valued_markers = as-valued (codes "markers") _ refl refl refl refl refl (λ v rows. refl) (λ v rows. refl)
+    (λ rows. refl) refl
 
 valued_threads : IsValued (codes "threads")
-valued_threads = record {
-  rule = _;
-  found = refl;
-  kept = refl;
-  id = refl;
-  takes = refl;
-  most = refl;
-  fault = λ v rows. or_else-nil (repeat_fault false (codes "threads") rows);
-  gives = λ v rows. refl;
-  none =
-      λ rows. refl;
-  told = refl;
-}
+valued_threads = as-valued (codes "threads") _ refl refl refl refl refl (λ v rows. refl) (λ v rows. refl)
+    (λ rows. refl) refl
 
 pub valued : (name : Text) → takes_value name ≡ true → IsValued name
 valued name e = elim (or_cases (bytes_eq (codes "schedule") name) _ e) [
@@ -204,29 +168,25 @@ pub record IsFlag (name : Text) : Type 0 where
   pub untold : takes_value name ≡ false
   pub told : is_flag name ≡ true
 
-flag_recover : IsFlag (codes "recover")
-flag_recover = record {
-  rule = _;
-  found = refl;
-  takes = refl;
-  fault = λ rows. or_else-nil (repeat_fault false (codes "recover") rows);
-  gives = λ rows. refl;
-  untold = refl;
-  told =
-      refl;
+as-flag : (name : Text) (rule : Rule) → arg_by_long rules name ≡ Some rule → takes_values rule ≡ false
+    → ((rows : List Row) → use_fault false rule [] rows ≡ or_else (repeat_fault false name rows) [])
+    → ((rows : List Row) → used rule [] rows ≡ used_rows name None rows) → takes_value name ≡ false
+    → is_flag name ≡ true → IsFlag name
+as-flag name rule found takes fault gives untold told = record {
+  rule = rule;
+  found = found;
+  takes = takes;
+  fault = λ rows. fault rows ∙ or_else-nil (repeat_fault false name rows);
+  gives = gives;
+  untold = untold;
+  told = told;
 }
 
+flag_recover : IsFlag (codes "recover")
+flag_recover = as-flag (codes "recover") _ refl refl (λ rows. refl) (λ rows. refl) refl refl
+
 flag_why : IsFlag (codes "why")
-flag_why = record {
-  rule = _;
-  found = refl;
-  takes = refl;
-  fault = λ rows. or_else-nil (repeat_fault false (codes "why") rows);
-  gives = λ rows. refl;
-  untold = refl;
-  told =
-      refl;
-}
+flag_why = as-flag (codes "why") _ refl refl (λ rows. refl) (λ rows. refl) refl refl
 
 pub flagged : (name : Text) → is_flag name ≡ true → IsFlag name
 flagged name e = elim (or_cases (bytes_eq (codes "recover") name) _ e) [

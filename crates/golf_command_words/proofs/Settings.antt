@@ -1,8 +1,8 @@
 -- What the rows of a run line say of its settings.
 -- For: `parse`, src/reading.rt; `run_of`, specs/Words.antt
 -- By: induction over the list of uses and over the list of rows
-use Rattle.std.proofs.Common.{◌≡◌, ◌∙◌, ◌||◌, ◌++◌, ℕ, Bool, cond, true, false, refl, sym, ap, ap₂, List, [], ◌∷◌, map}
-use Rattle.std.proofs.Common.{drop, Option, Some, None, option_map, option_and_then, fold, is_some, find, bytes_eq}
+use Rattle.std.proofs.Common.{◌≡◌, ◌∙◌, ◌||◌, ◌++◌, Bool, cond, true, false, refl, sym, ap, ap₂, List, [], ◌∷◌, map}
+use Rattle.std.proofs.Common.{drop, Option, Some, None, option_and_then, fold, is_some, find, bytes_eq}
 use Rattle.std.proofs.Common.{slice_get, codes, true≢false}
 use Rattle.std.specs.List.{AllByRecursion}
 use Rattle.std.specs.Option.{option_or}
@@ -11,14 +11,10 @@ use Rattle.std.proofs.lemmas.List.Folds.{find-append}
 use Rattle.clap.specs.Walk.{Row, first_of, has_row, more_values, with_default, with_values}
 use Rattle.clap.specs.declared.parser.matches.ValueSource.TheVariants.{DefaultValue}
 use Rattle.clap.specs.declared.builder.value_parser.Reading.TheVariants.{AsWritten}
-use Rattle.golf_run_schedules.specs.Options.{most_turns}
-use Rattle.golf_run_schedules.specs.declared.schedule.Schedule.{Schedule}
-use Rattle.golf_command_words.specs.Values.{Text, number_within, schedule_of}
-use Rattle.golf_command_words.specs.Words.{Use, default_turns, every_in, has_others, is_used, markers_in}
-use Rattle.golf_command_words.specs.Words.{run_by_options, run_by_threads, run_of, schedule_in, setting, takes_value}
-use Rattle.golf_command_words.specs.Words.{threads_by, turns_in, value_in}
-use Rattle.golf_command_words.specs.Splitting.{every_or_none, is_true, options_by, others_in, run_by, with_threads}
-use Rattle.golf_command_words.specs.declared.line.CommandLine.{CommandLine}
+use Rattle.golf_command_words.specs.Values.{Text, most_choices}
+use Rattle.golf_command_words.specs.Words.{Use, any_used, by_uses, is_used, run_by_threads, run_by_values, run_of}
+use Rattle.golf_command_words.specs.Words.{takes_value, threads_by, value_in}
+use Rattle.golf_command_words.specs.Splitting.{by_rows, is_true, run_by, with_threads}
 use Rattle.golf_command_words.proofs.Runs.{at_no_row, has_row-used, row, rules, same_text, value_of}
 
 -- a use has a value if its option takes one
@@ -149,53 +145,6 @@ flag_first flag rows false self has found =
 
 -- ---- the line
 
-abbrev by_values : Option Text → Option Text → Option Text → Option Text → Bool → Bool → Option CommandLine
-by_values schedule turns every markers recover why =
-    option_and_then (λ turns_read.
-    option_and_then (λ every_read.
-    option_and_then (λ markers_read.
-    option_map (λ schedule_read. CommandLine.Run
-    (record {
-      schedule = schedule_read;
-      turns = turns_read;
-      every = every_read;
-      markers = markers_read;
-      recover = recover;
-      why = why;
-    }))
-    (setting schedule Schedule.Rotate schedule_of)) (setting markers 1 (number_within 1 16))) (every_or_none every))
-    (setting turns default_turns (number_within 1 most_turns))
-
-in_any_order : (s : Option Schedule) (t : Option ℕ) (e : Option (Option ℕ)) (m : Option ℕ) (recover why : Bool)
-    → option_and_then (λ turns. option_and_then
-    (λ every. option_and_then (λ markers. option_map
-    (λ schedule. CommandLine.Run (record {
-      schedule = schedule;
-      turns = turns;
-      every = every;
-      markers = markers;
-      recover = recover;
-      why = why;
-    })) s) m) e) t
-    ≡ option_and_then (λ schedule. option_and_then
-    (λ turns. option_and_then (λ every. option_map
-    (λ markers. CommandLine.Run (record {
-      schedule = schedule;
-      turns = turns;
-      every = every;
-      markers = markers;
-      recover = recover;
-      why = why;
-    })) m) e) t) s
-in_any_order (Some s) (Some t) (Some e) (Some m) recover why = refl
-in_any_order None None e m recover why = refl
-in_any_order None (Some t) None m recover why = refl
-in_any_order None (Some t) (Some e) None recover why = refl
-in_any_order None (Some t) (Some e) (Some m) recover why = refl
-in_any_order (Some s) None e m recover why = refl
-in_any_order (Some s) (Some t) None m recover why = refl
-in_any_order (Some s) (Some t) (Some e) None recover why = refl
-
 -- what the rows of uses have
 module _ (us : List Use) (told : AllByRecursion IsTold us) where
   abbrev rows_of_uses : List Row
@@ -221,47 +170,26 @@ module _ (us : List Use) (told : AllByRecursion IsTold us) where
       ∙ found_flag us (codes "why") refl told)
 
   -- what is made of the rows is made of the uses
-  by_uses : {X : Type 0} (f : Option Text → Option Text → Option Text → Option Text → Bool → Bool → X)
-      → f (first_of (codes "schedule") rows_of_uses) (first_of (codes "turns") rows_of_uses)
-      (first_of (codes "every") rows_of_uses) (first_of (codes "markers") rows_of_uses)
-      (is_true (first_of (codes "recover") rows_of_uses)) (is_true (first_of (codes "why") rows_of_uses))
-      ≡ f (value_in us (codes "schedule")) (value_in us (codes "turns")) (value_in us (codes "every"))
-      (value_in us (codes "markers")) (is_used us (codes "recover")) (is_used us (codes "why"))
-  by_uses f =
+  uses_are : {X : Type 0} (f : Option Text → Option Text → Option Text → Option Text → Bool → Bool → X)
+      → by_rows f rows_of_uses ≡ by_uses f us
+  uses_are f =
       let rows = rows_of_uses in
-      ap (λ o. f o (first_of (codes "turns") rows) (first_of (codes "every") rows) (first_of (codes "markers") rows)
-      (is_true (first_of (codes "recover") rows)) (is_true (first_of (codes "why") rows)))
-      (value (codes "schedule") refl refl refl)
-      ∙ ap (λ o. f (value_in us (codes "schedule")) o (first_of (codes "every") rows) (first_of (codes "markers") rows)
-      (is_true (first_of (codes "recover") rows)) (is_true (first_of (codes "why") rows)))
-      (value (codes "turns") refl refl refl)
-      ∙ ap (λ o. f (value_in us (codes "schedule")) (value_in us (codes "turns")) o (first_of (codes "markers") rows)
-      (is_true (first_of (codes "recover") rows)) (is_true (first_of (codes "why") rows)))
-      (value (codes "every") refl refl refl)
-      ∙ ap (λ o. f (value_in us (codes "schedule")) (value_in us (codes "turns")) (value_in us (codes "every")) o
-      (is_true (first_of (codes "recover") rows)) (is_true (first_of (codes "why") rows)))
-      (value (codes "markers") refl refl refl)
+      let recover = is_true (first_of (codes "recover") rows) in
+      let why = is_true (first_of (codes "why") rows) in
+      ap₂ (λ s t. f s t (first_of (codes "every") rows) (first_of (codes "markers") rows) recover why)
+      (value (codes "schedule") refl refl refl) (value (codes "turns") refl refl refl)
+      ∙ ap₂ (λ e m. f (value_in us (codes "schedule")) (value_in us (codes "turns")) e m recover why)
+      (value (codes "every") refl refl refl) (value (codes "markers") refl refl refl)
       ∙ ap₂ (λ b c. f (value_in us (codes "schedule")) (value_in us (codes "turns")) (value_in us (codes "every"))
       (value_in us (codes "markers")) b c) recover_is why_is
 
-  options_are : options_by rows_of_uses ≡ run_by_options us
-  options_are = by_uses by_values ∙ in_any_order (schedule_in us) (turns_in us) (every_in us) (markers_in us)
-      (is_used us (codes "recover")) (is_used us (codes "why"))
-
-  abbrev any_other : Option Text → Option Text → Option Text → Option Text → Bool → Bool → Bool
-  any_other schedule turns every markers recover why = is_some schedule
-      || (is_some turns || (is_some every || (is_some markers || (recover || why))))
-
-  others_are : others_in rows_of_uses ≡ has_others us
-  others_are = by_uses any_other
-
-  threads_are : (threads : Option Text) → with_threads threads rows_of_uses ≡ run_by_threads threads us
-  threads_are None = options_are
-  threads_are (Some text) = ap (λ b. threads_by b text) others_are
+  threads_are : (threads : Option Text) → with_threads most_choices threads rows_of_uses ≡ run_by_threads threads us
+  threads_are None = uses_are (run_by_values most_choices)
+  threads_are (Some text) = ap (λ b. threads_by b text) (uses_are any_used)
 
 -- the rows of uses give the line of the uses
-pub run_is : (us : List Use) → AllByRecursion IsTold us → run_by (fold with_default (map row us) rules) ≡ run_of us
+pub run_is : (us : List Use) → AllByRecursion IsTold us → run_by most_choices (fold with_default (map row us) rules) ≡ run_of us
 run_is us told =
-    ap run_by (defaults_are (map row us))
-    ∙ ap (λ o. with_threads o (with_flags (map row us))) (value us told (codes "threads") refl refl refl)
+    ap (run_by most_choices) (defaults_are (map row us))
+    ∙ ap (λ o. with_threads most_choices o (with_flags (map row us))) (value us told (codes "threads") refl refl refl)
     ∙ threads_are us told (value_in us (codes "threads"))

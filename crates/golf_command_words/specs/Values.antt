@@ -5,11 +5,11 @@ use Rattle.std.specs.Prelude.{codes, bytes_eq}
 use Rattle.std.specs.List.{position_or_len, before_first, after_first}
 use Rattle.golf_run_schedules.specs.declared.schedule.Schedule.{Schedule}
 
--- the bytes of a word or of a part of one
+-- the bytes of a word, or of a part of one
 abbrev pub Text : Type 0
 Text = List ℕ
 
--- what stands before and after the first c of a text that has one
+-- the text before the first byte c, and the text behind it, if the text has c
 abbrev pub cut : ℕ → Text → Option (Text × Text)
 cut c text =
     if nat_lt (position_or_len (λ b. b == c) text) (length text)
@@ -20,7 +20,7 @@ cut c text =
 abbrev pub is_digit : ℕ → Bool
 is_digit b = nat_le 48 b && nat_le b 57
 
--- the number that digits write after those of n; none if a byte is no digit, or past 2^64 - 1
+-- the number that digits write behind those of n; `None` if a byte is no digit, or the number is above 2^64 - 1
 abbrev pub digits_after : ℕ → Text → Option ℕ
 digits_after n [] = Some n
 digits_after n (b ∷ bs) =
@@ -38,33 +38,33 @@ number_within least most text = option_and_then (if_within least most) (number_o
 
 -- ---- schedules
 
--- the most numbers of a schedule that is written out
+-- the most numbers of written choices that `golf run` takes
 abbrev pub most_choices : ℕ
 most_choices = 4096
 
--- what a list comes to whose first number was cut off at a comma, and whose rest is read by `next`
+-- the numbers of a list that is cut at its first comma, and whose rest `next` reads
 abbrev pub after_comma : Option (Text × Text) → Text → (Text → Option (List ℕ)) → Option (List ℕ)
 after_comma None text next = option_map (λ n. n ∷ []) (number_of text)
 after_comma (Some parts) text next = option_and_then (λ n. option_map (λ ns. n ∷ ns) (next parts.1)) (number_of parts.0)
 
--- one number or more, at most so many, with a comma (44) between two of them
+-- one number or more, at most as many as the first argument says, with a comma (44) between two of them
 unfoldable pub numbers_of : ℕ → Text → Option (List ℕ)
 numbers_of zero text = None
 numbers_of (suc more) text = after_comma (cut 44 text) text (numbers_of more)
 
-abbrev pub schedule_with : Option (Text × Text) → Text → Option Schedule
-schedule_with None text = if bytes_eq (codes "rotate") text then Some Schedule.Rotate else None
-schedule_with (Some parts) text =
+abbrev pub schedule_with : ℕ → Option (Text × Text) → Text → Option Schedule
+schedule_with most None text = if bytes_eq (codes "rotate") text then Some Schedule.Rotate else None
+schedule_with most (Some parts) text =
     if bytes_eq (codes "seed") parts.0 then option_map (λ n. Schedule.Seed n) (number_of parts.1)
     else (if bytes_eq (codes "choices") parts.0 then option_map (λ ns. Schedule.Choices ns)
-    (numbers_of most_choices parts.1)
+    (numbers_of most parts.1)
     else None)
 
--- `rotate`, `seed:N` or `choices:N,N,..`
-abbrev pub schedule_of : Text → Option Schedule
-schedule_of text = schedule_with (cut 58 text) text
+-- `rotate`, `seed:N` or `choices:N,N,..`, with at most this many choices
+abbrev pub schedule_of : ℕ → Text → Option Schedule
+schedule_of most text = schedule_with most (cut 58 text) text
 
--- a list that gained the numbers that were read; a text that is no list may leave some
+-- a list that has gained the numbers of a text; a text that is no list may leave some of them
 abbrev pub Gains : Option (List ℕ) → List ℕ → List ℕ → Bool → Type 0
 Gains None old new is_list = is_list ≡ false
 Gains (Some ns) old new is_list = (is_list ≡ true) × (new ≡ old ++ ns)

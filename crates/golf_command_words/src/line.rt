@@ -1,16 +1,16 @@
-//! What a line asks for.
+//! The request of a command line.
 
 use golf_run_schedules::RunOptions;
 
-/// What the program is to do.
+/// The request of a command line.
 #[derive(Debug, Drop)]
 pub enum CommandLine {
-    /// It runs the file on standard input.
+    /// Run the file on standard input.
     Run(RunOptions),
-    /// It makes a file of so many parts, from 1 to `golf_command_sample::MOST_PARTS`, and runs it.
+    /// Make a file of this many parts, from 1 to `golf_command_sample::MOST_PARTS`, and run it.
     Generate(u32),
-    /// It runs the file on standard input by so many threads, from 1 to 16.
+    /// Run the file on standard input by this many threads, from 1 to 16.
     Threads(u32),
-    /// It compares the code of each function of the file on standard input with its source, and runs nothing.
+    /// Compare the code of each function of the file on standard input with its source, and run nothing.
     Meaning,
 }

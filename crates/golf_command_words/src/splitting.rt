@@ -1,19 +1,22 @@
-//! The words, split by `clap`.
+//! Splits the words with `clap`.
+//!
+//! `specs/Splitting.antt` describes the same commands.
 
-ghost use Rattle.std.specs.Prelude.{◌≡◌, IfOk, false, map, option_and_then, string_bytes};
+ghost use Rattle.std.specs.Prelude.{◌≡◌, IfOk, false, true, map, option_and_then, string_bytes};
 ghost use Rattle.clap.specs.declared.builder.Command.TheViews.{out-Command};
 ghost use Rattle.clap.specs.Walk.{rule_of};
 ghost use Rattle.clap.specs.Simple.{app_of, subcommand_rows_of, with_rule};
-ghost use Rattle.golf_command_words.specs.Splitting.{flag as flag_of, generate_app, golf_app, meaning_app};
+ghost use Rattle.clap.specs.Faults.{is_simple_and_free};
+ghost use Rattle.golf_command_words.specs.Splitting.{flag as flag_of, generate_app, golf_app, matched, meaning_app};
 ghost use Rattle.golf_command_words.specs.Splitting.{nameless_app, positional as positional_of, program_app, run_app};
-ghost use Rattle.golf_command_words.specs.Splitting.{split_of, valued};
+ghost use Rattle.golf_command_words.specs.Splitting.{split_of, valued, with_run_options};
 
 use clap::error::ErrorKind;
 use clap::{Arg, ArgAction, ArgMatches, Command};
 use golf_base::Memory;
 use std::alloc::{AllocError, Global};
 
-/// Returns an option with a value, which is told apart by its long name.
+/// Returns an option with a value, which a word names by its long name.
 pub fn option<'a>(alloc: Global, name: &'a str) -> Arg<'a>
     ensures rule { rule_of result ≡ valued name.now }
     ensures local { result.global ≡ false }
@@ -21,7 +24,7 @@ pub fn option<'a>(alloc: Global, name: &'a str) -> Arg<'a>
     Arg::new(alloc, name).long(name).action(ArgAction::Set)
 }
 
-// An option without one.
+// An option without a value.
 fn flag<'a>(alloc: Global, name: &'a str) -> Arg<'a>
     ensures rule { rule_of result ≡ flag_of name.now }
     ensures local { result.global ≡ false }
@@ -36,7 +39,7 @@ fn positional<'a>(alloc: Global, name: &'a str) -> Arg<'a>
     Arg::new(alloc, name).action(ArgAction::Set)
 }
 
-/// Returns the command with one argument more, after those that it has.
+/// Returns the command with one more argument, after those that it has.
 pub fn with<'a>(command: Command<'a>, arg: Arg<'a>) -> Result<Command<'a>, AllocError>
     requires { arg.global ≡ false }
     ensures rule { IfOk result (λ more. app_of more ≡ with_rule (app_of command.entry) (rule_of arg.entry)) }
@@ -45,12 +48,11 @@ pub fn with<'a>(command: Command<'a>, arg: Arg<'a>) -> Result<Command<'a>, Alloc
     command.arg(arg)
 }
 
-// `run`, with its options.
-fn run_command<'a>(alloc: Global) -> Result<Command<'a>, AllocError>
-    ensures app { IfOk result (λ command. app_of command ≡ run_app) }
-    ensures local { IfOk result (λ command. (out-Command command).has_globals ≡ false) }
+/// Returns the command with the options of a run.
+pub fn with_run_options<'a>(alloc: Global, bare: Command<'a>) -> Result<Command<'a>, AllocError>
+    ensures app { IfOk result (λ command. app_of command ≡ with_run_options (app_of bare.entry)) }
+    ensures local { IfOk result (λ command. (out-Command command).has_globals ≡ (out-Command bare.entry).has_globals) }
 {
-    let bare = Command::new(alloc, "run");
     let one = with(bare, option(alloc, "schedule"))?;
     let two = with(one, option(alloc, "turns"))?;
     let three = with(two, option(alloc, "every"))?;
@@ -61,7 +63,15 @@ fn run_command<'a>(alloc: Global) -> Result<Command<'a>, AllocError>
     Ok(seven)
 }
 
-// `generate`, with its number.
+// The subcommand `run`, with its options.
+fn run_command<'a>(alloc: Global) -> Result<Command<'a>, AllocError>
+    ensures app { IfOk result (λ command. app_of command ≡ run_app) }
+    ensures local { IfOk result (λ command. (out-Command command).has_globals ≡ false) }
+{
+    with_run_options(alloc, Command::new(alloc, "run"))
+}
+
+// The subcommand `generate`, with its number.
 fn generate_command<'a>(alloc: Global) -> Result<Command<'a>, AllocError>
     ensures app { IfOk result (λ command. app_of command ≡ generate_app) }
     ensures local { IfOk result (λ command. (out-Command command).has_globals ≡ false) }
@@ -71,7 +81,7 @@ fn generate_command<'a>(alloc: Global) -> Result<Command<'a>, AllocError>
     Ok(one)
 }
 
-// `meaning`, which takes nothing.
+// The subcommand `meaning`, which has no argument.
 fn meaning_command<'a>(alloc: Global) -> Command<'a>
     ensures app { app_of result ≡ meaning_app }
     ensures local { (out-Command result).has_globals ≡ false }
@@ -79,7 +89,7 @@ fn meaning_command<'a>(alloc: Global) -> Command<'a>
     Command::new(alloc, "meaning")
 }
 
-// The program without its subcommands, of words without its name, and without the flag of help.
+// The program without its subcommands. Its words come without its name, and none asks for help.
 fn nameless<'a>(alloc: Global) -> Command<'a>
     ensures app { app_of result ≡ nameless_app }
     ensures local { (out-Command result).has_globals ≡ false }
@@ -89,7 +99,8 @@ fn nameless<'a>(alloc: Global) -> Command<'a>
         .disable_help_flag(true)
 }
 
-/// Returns a program without subcommands: its words come without its name, and no word asks for help or for the version.
+/// Returns a program without subcommands. Its words come without its name, and no word asks for help or for
+/// the version.
 pub fn program<'a>(alloc: Global) -> Command<'a>
     ensures app { app_of result ≡ program_app }
     ensures local { (out-Command result).has_globals ≡ false }
@@ -99,7 +110,7 @@ pub fn program<'a>(alloc: Global) -> Command<'a>
         .disable_version_flag(true)
 }
 
-// The program.
+// The whole program, with its subcommands.
 fn whole<'a>(alloc: Global) -> Result<Command<'a>, AllocError>
     ensures { IfOk result (λ command. app_of command ≡ golf_app) }
 {
@@ -112,7 +123,23 @@ fn whole<'a>(alloc: Global) -> Result<Command<'a>, AllocError>
     Ok(three)
 }
 
-/// What `clap` makes of the words; none if it refuses them.
+/// Returns the matches that `clap` finds in the words for this command, or `None` if it refuses them. The only
+/// error is `Memory`.
+pub fn match_words<'a>(
+    command: Command<'a>,
+    words: &'a [String],
+) -> Result<Option<ArgMatches<'a>>, Memory>
+    requires { is_simple_and_free (app_of command) ≡ true }
+    ensures { IfOk result (λ found. option_and_then subcommand_rows_of found ≡ matched (app_of command.entry) (map string_bytes words.now)) }
+{
+    match command.try_get_matches_from(words) {
+        Ok(matches) => Ok(Some(matches)),
+        Err(error) if error.kind() == ErrorKind::OutOfMemory => Err(Memory),
+        Err(_) => Ok(None),
+    }
+}
+
+/// Returns the matches that `clap` finds in the words, or `None` if it refuses them.
 pub(crate) fn split<'a>(
     alloc: Global,
     words: &'a [String],
@@ -120,9 +147,5 @@ pub(crate) fn split<'a>(
     ensures { IfOk result (λ found. option_and_then subcommand_rows_of found ≡ split_of (map string_bytes words.now)) }
 {
     let command = whole(alloc)?;
-    match command.try_get_matches_from(words) {
-        Ok(matches) => Ok(Some(matches)),
-        Err(error) if error.kind() == ErrorKind::OutOfMemory => Err(Memory),
-        Err(_) => Ok(None),
-    }
+    match_words(command, words)
 }

@@ -1,4 +1,4 @@
--- What an instruction does to the operands of its frame, and whether it goes on.
+-- What an instruction does to the operands of its frame, and whether the next instruction can follow it.
 use Rattle.std.specs.Prelude.{ℕ, ◌+◌, Bool, true, false, cond, List, [], ◌∷◌, unwrap_or, slice_get}
 use Rattle.golf_data.specs.declared.code.Instr.{Instr}
 use Rattle.golf_data.specs.declared.code.SelectCase.{SelectCase}
@@ -40,7 +40,7 @@ taken (Instr.Defer f n) = n
 taken (Instr.Print n) = n
 taken i = 1
 
--- and how many it leaves, if these functions give a value
+-- how many operands an instruction leaves; `gives` says for each function whether it gives a value
 abbrev pub left : List Bool → Instr → ℕ
 left gives (Instr.Int n) = 1
 left gives (Instr.Bool b) = 1
@@ -77,7 +77,7 @@ left gives Instr.CondMutex = 1
 left gives (Instr.Call f n) = cond (unwrap_or (slice_get gives f) false) 1 0
 left gives i = 0
 
--- whether it goes on after itself
+-- whether the next instruction can follow it
 abbrev pub goes_on : Instr → Bool
 goes_on (Instr.Jump t) = false
 goes_on Instr.Return = false

@@ -1,8 +1,8 @@
--- Which faults end the program at once.
+-- The faults that end the program at once.
 use Rattle.std.specs.Prelude.{Bool, true, false}
 use Rattle.golf_data.specs.declared.goroutine.PanicKind.{PanicKind}
 
--- a fatal error ends the program at once and runs no deferred call, and a panic unwinds (profile)
+-- a fatal error ends the program at once and runs no deferred call; a panic unwinds (this runtime's rule)
 abbrev pub is_fatal : PanicKind → Bool
 is_fatal (PanicKind.Custom k) = false
 is_fatal PanicKind.NilPointer = false

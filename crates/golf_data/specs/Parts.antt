@@ -1,4 +1,4 @@
--- What an instruction is made of.
+-- The parts of an instruction: its name, its fields, and the cases of a `select`.
 use Rattle.std.specs.Prelude.{ℕ, List, Option, Some, None}
 use Rattle.golf_data.specs.declared.code.Instr.{Instr}
 use Rattle.golf_data.specs.declared.code.SelectCase.{SelectCase}
@@ -6,7 +6,7 @@ use Rattle.golf_data.specs.declared.value.Value.{Value}
 use Rattle.golf_data.specs.declared.equality.Kind.{Kind}
 use Rattle.golf_data.specs.declared.equality.Payload.{Payload}
 
--- its name
+-- the name of an instruction
 abbrev pub kind_of : Instr → Kind
 kind_of (Instr.Int n) = Kind.Int
 kind_of (Instr.Bool b) = Kind.Bool
@@ -72,7 +72,7 @@ kind_of (Instr.SetFinalizer n) = Kind.SetFinalizer
 kind_of Instr.ClearFinalizer = Kind.ClearFinalizer
 kind_of Instr.Panic = Kind.Panic
 
--- what stands beside the name, but for what a select has
+-- the fields of an instruction, except for those of a `select`
 abbrev pub payload_of : Instr → Payload
 payload_of (Instr.Int n) = Payload.Constant (Value.Int n)
 payload_of (Instr.Bool b) = Payload.Constant (Value.Bool b)
@@ -138,7 +138,7 @@ payload_of (Instr.SetFinalizer n) = Payload.Number n
 payload_of Instr.ClearFinalizer = Payload.None
 payload_of Instr.Panic = Payload.None
 
--- the cases and the default of a select
+-- the cases and the default of a `select`; none for any other instruction
 abbrev pub choice_of : Instr → Option (List SelectCase × Option ℕ)
 choice_of (Instr.Int n) = None
 choice_of (Instr.Bool b) = None

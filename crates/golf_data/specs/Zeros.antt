@@ -12,14 +12,14 @@ AreZeros zeros vs = (i : ℕ) (v : Value) → i < 64 → has_bit zeros i ≡ tru
 abbrev pub AreAllZero : Bool → List Value → Type 0
 AreAllZero known vs = known ≡ true → (i : ℕ) (v : Value) → slice_get vs i ≡ Some v → v ≡ Value.Int (pos 0)
 
--- the slots that stay if those of these bits are cleared
+-- a slot stays if its bit in `dead` is 0 or if it has no bit
 abbrev pub stays_but : ℕ → ℕ → Bool
 stays_but dead i = nat_le 64 i || not (has_bit dead i)
 
--- the slots that stay while those of the bits that are left are to be cleared yet
+-- a slot stays, or it is still to be cleared; `left` has the bits that are still to be cleared
 abbrev pub stays_yet : ℕ → ℕ → ℕ → Bool
 stays_yet dead left i = stays_but dead i || has_bit left i
 
--- if those of the first n alone are looked at
+-- the test for the slots below n; every slot from n on passes
 abbrev pub stays_until : ℕ → (ℕ → Bool) → ℕ → Bool
 stays_until n test i = nat_le n i || test i

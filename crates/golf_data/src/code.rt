@@ -1,10 +1,11 @@
-//! Flat code, which the machine steps.
+//! Flat code, which the machine steps. A function's body is a list of instructions, each with a line.
+//! Jumps name positions of the body.
 
 use crate::value::Value;
 use golf_base::List;
 
-/// An instruction. Operands stand on a stack, the last on top; `a, b -> c` says what is taken and
-/// what is left. A slot, a global, a function, a text or a field is named by its place.
+/// An instruction. Operands lie on a stack, the last one on top. `a, b -> c` says what it takes and what it leaves.
+/// Slots, globals, functions, texts and fields are named by their places.
 #[derive(Debug, Drop)]
 pub enum Instr {
     /// `-> n`
@@ -53,7 +54,7 @@ pub enum Instr {
     AtMost,
     /// Goes on at the target.
     Jump(u32),
-    /// `b ->`; goes on at the target if b is false.
+    /// `b ->`. It goes on at the target if b is false.
     JumpIfNot(u32),
     /// `-> ref`, a struct with the zero values of this row of the code's table
     NewStruct(u32),
@@ -77,7 +78,7 @@ pub enum Instr {
     Index,
     /// `s, i, v ->`
     SetIndex,
-    /// `x -> n`: elements of a slice, buffered values of a channel, 0 for nil
+    /// `x -> n`: the elements of a slice, or the buffered values of a channel. It is 0 for nil.
     Len,
     /// `c, v ->`
     Send,
@@ -87,7 +88,7 @@ pub enum Instr {
     ReceiveOk,
     /// `c ->`
     Close,
-    /// Takes the operands of all cases; the second is the target of `default`, if there is one.
+    /// Takes the operands of all cases. The second field is the target of `default`, if there is one.
     Select(List<SelectCase>, Option<u32>),
     /// `m ->`
     Lock,
@@ -113,29 +114,29 @@ pub enum Instr {
     CondSignal,
     /// `c ->`
     CondBroadcast,
-    /// Calls the function with so many arguments.
+    /// Calls the function of the first field with as many arguments as the second says.
     Call(u32, u32),
-    /// Starts a goroutine on the function with so many arguments.
+    /// Starts a goroutine on the function of the first field. The second says how many arguments it takes.
     Go(u32, u32),
-    /// Defers a call of the function with so many arguments.
+    /// Defers a call of the function of the first field. The second says how many arguments it takes.
     Defer(u32, u32),
     /// `->`
     Return,
     /// `v ->`
     ReturnValue,
-    /// Takes so many operands and prints the line.
+    /// Takes this many operands and prints them as a line.
     Print(u32),
-    /// A collection.
+    /// Runs a collection.
     Collect,
-    /// `p ->`; the function becomes the finaliser of p's object.
+    /// `p ->`. The function becomes the finaliser of p's object.
     SetFinalizer(u32),
     /// `p ->`
     ClearFinalizer,
-    /// `text ->`; panics with it.
+    /// `text ->`. It panics with the text.
     Panic,
 }
 
-/// One case of a `select`. A send has two operands, channel and value; the others have the channel.
+/// One case of a `select`. A send has two operands, channel and value; a receive has the channel only.
 #[derive(Clone, Copy, Debug, PartialEq, Eq)]
 pub struct SelectCase {
     pub kind: CaseKind,
@@ -143,7 +144,7 @@ pub struct SelectCase {
     pub target: u32,
 }
 
-/// What a case of a `select` does, and what it leaves.
+/// What a case of a `select` does, and which operands it leaves.
 #[derive(Clone, Copy, Debug, PartialEq, Eq)]
 pub enum CaseKind {
     /// Sends, and leaves nothing.
@@ -164,17 +165,17 @@ pub struct CodeLine {
 /// A function's code.
 #[derive(Debug)]
 pub struct Function {
-    /// How many arguments it takes; they stand in its first slots.
+    /// How many arguments it takes. They lie in its first slots.
     pub params: u32,
     /// How many slots a frame of it has.
     pub slots: u32,
-    /// The most operands that a frame of it has at a time.
+    /// The most operands that a frame of it has at the same time.
     pub depth: u32,
     /// The line at which the function is declared.
     pub line: u32,
     pub body: List<CodeLine>,
-    /// For each position of the body the mask of its first 64 slots: bit s is 1 if slot s can
-    /// still be read from there on.
+    /// For each position of the body the mask of its first 64 slots. Bit s is 1 if slot s can still be read from there
+    /// on.
     pub live: List<u64>,
 }
 
@@ -192,7 +193,7 @@ pub struct Code {
     pub main_line: u32,
 }
 
-// Both are written out once here, so that no other crate goes through the fields where it lets code go.
+// Both drops are written out once here, so that no other crate has to prove the drop of each field.
 impl Drop for Function {
     fn drop(self) {
         let Function {

@@ -1,4 +1,5 @@
-//! What instructions do to the operands of their frames, and whether they go on: the table.
+//! The table of effects: how many operands each instruction takes and leaves, and whether the next
+//! instruction follows it.
 
 ghost use Rattle.std.specs.Prelude.{◌≡◌, true, false};
 ghost use Rattle.golf_data.specs.Effects.{taken, left, goes_on, case_left as case_left_of, case_taken as case_taken_of};
@@ -12,11 +13,11 @@ pub struct Effect {
     pub taken: u32,
     /// How many it leaves.
     pub left: u32,
-    /// Whether it leads to the next instruction.
+    /// Whether the next instruction can follow it. It is true for a `select`, too, which goes on only at targets.
     pub goes_on: bool,
 }
 
-// Takes and leaves so many operands, and goes on.
+// Returns the effect that takes and leaves this many operands and goes on.
 fn goes(taken: u32, left: u32) -> Effect
     ensures { result ≡ record { taken = taken; left = left; goes_on = true } }
 {
@@ -27,7 +28,7 @@ fn goes(taken: u32, left: u32) -> Effect
     }
 }
 
-// Takes so many operands, and does not go on.
+// Returns the effect that takes this many operands and does not go on.
 fn ends(taken: u32) -> Effect
     ensures { result ≡ record { taken = taken; left = 0; goes_on = false } }
 {
@@ -38,7 +39,8 @@ fn ends(taken: u32) -> Effect
     }
 }
 
-/// What an instruction does to the operands of its frame, if these functions give a value.
+/// Returns what an instruction does to the operands of its frame. `gives` says for each function
+/// whether it gives a value.
 pub fn effect_of(gives: &[bool], instr: &Instr) -> Effect
     ensures taken { result.taken ≡ taken instr.now }
     ensures left { result.left ≡ left gives.now instr.now }
@@ -81,7 +83,7 @@ pub fn effect_of(gives: &[bool], instr: &Instr) -> Effect
     }
 }
 
-/// How many operands a case of a `select` leaves at its target.
+/// Returns how many operands a case of a `select` leaves at its target.
 pub fn case_left(kind: CaseKind) -> u32
     ensures { result ≡ case_left_of kind }
 {
@@ -92,7 +94,7 @@ pub fn case_left(kind: CaseKind) -> u32
     }
 }
 
-/// How many operands a case of a `select` takes.
+/// Returns how many operands a case of a `select` takes.
 pub fn case_taken(kind: CaseKind) -> u32
     ensures { result ≡ case_taken_of kind }
 {

@@ -1,4 +1,6 @@
-//! When two instructions, two lines and two bodies are the same.
+//! Equality of instructions, of code lines and of bodies, as tests.
+//!
+//! An instruction is compared by its name, by its fields, and by the cases of a `select`.
 
 ghost use Rattle.std.specs.Prelude.{◌≡◌, ◌↔◌, IsTrue};
 ghost use Rattle.golf_data.specs.Parts.{kind_of as kind_of_of, payload_of as payload_of_of, choice_of};
@@ -74,7 +76,7 @@ enum Kind {
     Panic,
 }
 
-/// What stands beside the name of an instruction, but for what a `select` has.
+/// The fields of an instruction, except for those of a `select`.
 #[derive(Clone, Copy, Debug, PartialEq, Eq)]
 enum Payload {
     None,
@@ -83,7 +85,7 @@ enum Payload {
     Constant(Value),
 }
 
-// The name of an instruction.
+// Returns the name of an instruction.
 fn kind_of(instr: &Instr) -> Kind
     ensures { result ≡ kind_of_of instr.now }
 {
@@ -154,7 +156,7 @@ fn kind_of(instr: &Instr) -> Kind
     }
 }
 
-// What stands beside the name.
+// Returns the fields of an instruction, except for those of a `select`.
 fn payload_of(instr: &Instr) -> Payload
     ensures { result ≡ payload_of_of instr.now }
 {
@@ -225,7 +227,8 @@ fn payload_of(instr: &Instr) -> Payload
     }
 }
 
-// Whether both have the cases and the default of one `select`, or neither has any.
+// Returns whether both instructions have the cases and the default of one `select`, or neither is a
+// `select`.
 fn have_same_choice(a: &Instr, b: &Instr) -> bool
     ensures { IsTrue result ↔ (choice_of a.now ≡ choice_of b.now) }
 {
@@ -240,7 +243,7 @@ fn have_same_choice(a: &Instr, b: &Instr) -> bool
 }
 
 impl Instr {
-    /// Whether the other is the same instruction.
+    /// Returns whether the other is the same instruction.
     pub fn is(&self, other: &Instr) -> bool
         ensures { IsTrue result ↔ (self.now ≡ other.now) }
     {
@@ -251,7 +254,7 @@ impl Instr {
 }
 
 impl CodeLine {
-    /// Whether the other is the same instruction at the same line.
+    /// Returns whether the other is the same instruction at the same line.
     pub fn is(&self, other: &CodeLine) -> bool
         ensures { IsTrue result ↔ (self.now ≡ other.now) }
     {
@@ -259,7 +262,7 @@ impl CodeLine {
     }
 }
 
-/// Whether two bodies have the same lines.
+/// Returns whether two bodies have the same lines.
 pub fn same_lines(lines: &[CodeLine], others: &[CodeLine]) -> bool
     ensures { IsTrue result ↔ (lines.now ≡ others.now) }
 {

@@ -1,4 +1,7 @@
 //! Goroutines: their frames, how they wait, and how a program ends.
+//!
+//! A goroutine holds its frames, the innermost one last, and its waits. The wait queues of objects
+//! are elsewhere. `Fault` and `Ending` say why a frame unwinds and how a program has ended.
 
 ghost use Rattle.std.specs.Prelude.{◌≡◌};
 ghost use Rattle.golf_data.specs.Fatal.{is_fatal};
@@ -18,7 +21,8 @@ pub struct Frame {
     /// The deferred calls, the last one on top.
     pub deferred: List<Deferred>,
     pub leaving: Leaving,
-    /// Whether its value goes nowhere: true for a deferred or first frame.
+    /// Whether its value is discarded. This is true for the frame of a deferred call and for a
+    /// first frame.
     pub discards: bool,
 }
 
@@ -29,7 +33,7 @@ pub struct Deferred {
     pub arguments: List<Value>,
 }
 
-/// How a frame is leaving.
+/// Whether and how a frame is leaving.
 #[derive(Clone, Copy, Debug, PartialEq, Eq)]
 pub enum Leaving {
     No,
@@ -38,7 +42,7 @@ pub enum Leaving {
     Unwinding(Fault),
 }
 
-/// A panic or a fatal error, and the line where it came.
+/// A panic or a fatal error, and the line of its instruction.
 #[derive(Clone, Copy, Debug, PartialEq, Eq)]
 pub struct Fault {
     pub kind: PanicKind,
@@ -74,7 +78,8 @@ pub enum PanicKind {
 }
 
 impl PanicKind {
-    /// Whether the program ends with it at once: no deferred call runs (profile).
+    /// Returns whether it is a fatal error. A fatal error ends the program at once, and no deferred
+    /// call runs (this runtime's rule).
     pub fn is_fatal(self) -> bool
         ensures { result ≡ is_fatal self }
     {
@@ -124,7 +129,7 @@ pub enum Mode {
     },
 }
 
-/// What a report says of a blocked goroutine.
+/// How a blocked goroutine waits, as a report says it.
 #[derive(Clone, Copy, Debug, PartialEq, Eq)]
 pub enum WaitKind {
     Receive,
@@ -145,9 +150,9 @@ pub enum WaitKind {
 pub struct Wait {
     pub object: ObjectId,
     pub side: Side,
-    /// The value to send, else nil.
+    /// The value to send; nil for any other wait.
     pub value: Value,
-    /// Where the goroutine goes on when this wait is served; none: where it stands.
+    /// Where the goroutine goes on when this wait is served. `None` means where it stands.
     pub target: Option<u32>,
     /// Whether a receive also gives whether the value was sent.
     pub with_ok: bool,
@@ -180,7 +185,7 @@ pub enum Ending {
     Asleep,
 }
 
-/// A finaliser that was queued: its function and the object that it is to be called with.
+/// A queued finaliser: its function, and the object that the function is to be called with.
 #[derive(Clone, Copy, Debug, PartialEq, Eq)]
 pub struct Queued {
     pub object: ObjectId,

@@ -1,4 +1,4 @@
-//! Data of a running program: code, values and objects, goroutines, reports.
+//! The data of a running program: code, values and objects, goroutines, reports.
 #![tactic(auto)]
 
 mod code;

@@ -1,4 +1,4 @@
-//! What a collection reports.
+//! The report of a collection, and the book of all collections so far.
 
 ghost use Rattle.std.specs.Prelude.{◌≡◌, []};
 
@@ -6,14 +6,14 @@ use crate::goroutine::WaitKind;
 use golf_base::{GoroutineId, List};
 use std::alloc::Global;
 
-/// A goroutine that can never run again.
+/// A goroutine that can never run again, as a report lists it.
 #[derive(Clone, Copy, Debug, PartialEq, Eq)]
 pub struct Entry {
     pub goroutine: GoroutineId,
     pub wait: WaitKind,
     /// The line of the instruction that blocked.
     pub line: u32,
-    /// The line where it was started.
+    /// The line where the goroutine was started.
     pub started: u32,
 }
 
@@ -26,11 +26,11 @@ pub struct Report {
     pub marked: u32,
     /// The dead goroutines that no earlier collection reported, in rising number.
     pub reported: List<Entry>,
-    /// How many dead goroutines stay.
+    /// How many dead goroutines the collection did not remove.
     pub kept: u32,
     /// How many goroutines this collection removed.
     pub reclaimed: u32,
-    /// How many objects are left.
+    /// How many objects the collection left.
     pub objects: u32,
 }
 
@@ -46,7 +46,7 @@ pub struct Book {
 }
 
 impl Book {
-    /// No collection yet, nothing reported, nothing reclaimed.
+    /// Returns the book before the first collection: nothing reported, nothing reclaimed.
     pub fn new(alloc: Global) -> Book
         ensures { result ≡ record { collections = 0; reported = []; reclaimed = [] } }
     {

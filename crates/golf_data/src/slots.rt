@@ -1,4 +1,8 @@
 //! The slots of a frame.
+//!
+//! A turn clears the slots that no instruction can read any more, so that they do not keep their
+//! objects. The invariant: a slot whose bit in `zeros` is 1 holds 0, so that a turn does not clear
+//! it again.
 
 ghost use Rattle.std.specs.Prelude.{◌≡◌, ◌<◌, ◌≤◌, ◌++◌, ℕ, true, false, pos, length, replicate, slice_set, Some, IfOk};
 ghost use Rattle.golf_data.specs.declared.value.Value.{Value};
@@ -13,8 +17,8 @@ use std::marker::Model;
 
 /// The slots of a frame. Contracts see them as the list of their values.
 ///
-/// Bit i of `zeros` is 1 only if slot i holds 0 or is not there, so that a turn goes through those
-/// slots alone that have died in it. `is_cleared` is true only if all slots hold 0.
+/// Bit i of `zeros` is 1 only if slot i holds 0 or does not exist. So a turn visits only the slots
+/// that died in it. `is_cleared` is true only if all slots hold 0.
 #[derive(Debug, Drop)]
 pub struct Slots {
     values: List<Value>,
@@ -34,14 +38,14 @@ impl Model for Slots {
     ghost invariant = { λ s. AreZeros s.zeros s.values × AreAllZero s.is_cleared s.values };
 }
 
-// The word whose bits from n on are set.
+// Returns the word whose bits from n on are set.
 fn ones_from(n: usize) -> u64
     ensures { (i : ℕ) → i < 64 → has_bit result i ≡ true → n ≤ i }
 {
     if n < 64 { u64::MAX << n } else { 0 }
 }
 
-// The word without this bit.
+// Returns the word with this bit cleared.
 fn without(word: u64, at: usize) -> u64
     requires { at < 64 }
     ensures others { (i : ℕ) → i < 64 → (i ≡ at → ⊥) → has_bit result i ≡ has_bit word i }
@@ -51,7 +55,7 @@ fn without(word: u64, at: usize) -> u64
     word & !(1 << at)
 }
 
-// The place of the lowest bit that is 1.
+// Returns the place of the lowest set bit.
 fn lowest(word: u64) -> usize
     requires { 0 < word }
     ensures low { result < 64 }
@@ -60,7 +64,7 @@ fn lowest(word: u64) -> usize
     word.trailing_zeros() as usize
 }
 
-// The slot of this place holds 0, if it is there.
+// Stores 0 in the slot of this place, if it exists.
 fn clear_one(values: &mut List<Value>, at: usize)
     ensures { values.new ≡ slice_set values.old at (Value.Int (pos 0)) }
 {
@@ -69,7 +73,7 @@ fn clear_one(values: &mut List<Value>, at: usize)
     }
 }
 
-// The slots of these bits hold 0; it goes from one bit to the next.
+// Stores 0 in the slots whose bits are set, from the lowest bit to the highest.
 fn clear_bits(values: &mut List<Value>, dead: u64)
     ensures { values.new ≡ cleared_slots (stays_but dead) values.old }
 {
@@ -81,7 +85,7 @@ fn clear_bits(values: &mut List<Value>, dead: u64)
     }
 }
 
-// All slots hold 0.
+// Stores 0 in all slots.
 fn clear_values(values: &mut List<Value>)
     ensures { values.new ≡ cleared_slots (λ i. false) values.old }
 {
@@ -91,8 +95,8 @@ fn clear_values(values: &mut List<Value>)
 }
 
 impl Slots {
-    /// The slots of a new frame: its arguments, and so many more, which hold 0; with room for no
-    /// more.
+    /// Returns the slots of a new frame: its arguments, and `rest` more, which hold 0. They have
+    /// room for no more.
     pub fn of(alloc: Global, arguments: &[Value], rest: usize) -> Result<Slots, Memory>
         ensures { IfOk result (λ slots. slots ≡ arguments.now ++ replicate rest (Value.Int (pos 0))) }
     {
@@ -107,13 +111,14 @@ impl Slots {
         })
     }
 
-    /// The values.
+    /// Returns the values of the slots.
     pub fn as_slice(&self) -> &[Value]
         ensures { result.now ≡ self.now }
     {
         self.values.as_slice()
     }
 
+    /// Returns the number of slots.
     pub fn len(&self) -> usize
         ensures { result ≡ length self.now }
     {
@@ -132,7 +137,7 @@ impl Slots {
         }
     }
 
-    /// Clears the slots that do not stay under a mask.
+    /// Stores 0 in each slot whose bit of the mask is 0. Slots from 64 on stay the same.
     pub fn clear_under(&mut self, mask: u64)
         ensures { self.new ≡ cleared_slots (stays_under (Some mask)) self.old }
     {
@@ -143,7 +148,7 @@ impl Slots {
         }
     }
 
-    /// Clears all slots, unless they are known to be cleared.
+    /// Stores 0 in all slots. It does nothing if they are known to hold 0.
     pub fn clear_all(&mut self)
         ensures { self.new ≡ cleared_slots (λ i. false) self.old }
     {

@@ -4,3 +4,4 @@ pub mod Parents
 pub mod DeadFlags
 pub mod Searched
 pub mod Leading
+mod Seekings

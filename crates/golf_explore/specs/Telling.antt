@@ -1,4 +1,4 @@
--- What the answer of a search says.
+-- The meaning of the result of a search.
 use Rattle.std.specs.Prelude.{◌≡◌, ℕ, Bool, true, false, List, [], length, map, Option, Some, None}
 use Rattle.golf_theory.specs.Membership.{any_of}
 use Rattle.golf_data.specs.declared.code.Code.{Code}
@@ -17,7 +17,7 @@ use Rattle.golf_explore.specs.Visiting.{after_all, has_ended_by}
 abbrev pub run_of : Code → List ℕ → State
 run_of code numbers = run code (start code) (map Event.Turn numbers)
 
--- a list of so many states is closed
+-- there is a closed list of `count` states
 abbrev pub HasClosed : Code → ℕ → Type 0
 HasClosed code count = (visited : List State) × IsClosed code visited × (length visited ≡ count)
 
@@ -25,7 +25,7 @@ HasClosed code count = (visited : List State) × IsClosed code visited × (lengt
 abbrev pub CanEnd : (Ending → Bool) → Code → Type 0
 CanEnd is_one code = (numbers : List ℕ) × (has_ended_by is_one (run_of code numbers) ≡ true)
 
--- the flag says whether a run has one of these endings
+-- the flag is true if a run has one of these endings, and false only if no run has
 abbrev pub Decides : (Ending → Bool) → Code → Bool → Type 0
 Decides is_one code true = CanEnd is_one code
 Decides is_one code false = NeverEnds is_one code
@@ -38,15 +38,15 @@ GivesFinaliser code = (numbers : List ℕ) × (not_empty (after_all code (start 
 abbrev pub some_ended : (Ending → Bool) → List Visit → Bool
 some_ended is_one visits = any_of (λ v. has_ended_by is_one v.state) visits
 
--- how many visits there are, and whether some have ended by a panic, and with all goroutines asleep
+-- the count of the visits, and whether some have ended by a panic, and some with all goroutines asleep
 pub record HasTold (visits : List Visit) (count : ℕ) (told : Visited) : Type 0 where
   pub states : told.states ≡ count
   pub panics : told.panics ≡ some_ended is_panic visits
   pub sleeps : told.sleeps ≡ some_ended is_asleep visits
 
--- All schedules: no run leaks, the states are counted, and the flags say whether a run panics, and whether one falls
--- asleep. A leak: the run of these turns has no ending and a dead goroutine. Finalisers: some run gives an object one.
--- Too many states: nothing.
+-- `AllVisited`: no run leaks, the states are counted, and the flags say whether a run panics and whether one falls
+-- asleep. `Leak`: the run of these turns has no ending, and has a dead goroutine. `Finalisers`: some run gives an
+-- object one. `TooMany`: it says nothing.
 abbrev pub Tells : Code → Explored → Type 0
 Tells code (Explored.AllVisited told) =
     NeverLeaks code × NeverReports code × ReportsNobody code × HasClosed code told.states
@@ -55,7 +55,7 @@ Tells code (Explored.Leak numbers) = (ending (run_of code numbers) ≡ None) × 
 Tells code Explored.Finalisers = GivesFinaliser code
 Tells code Explored.TooMany = Unit {0}
 
--- this holds, or the search ends with an answer
+-- this holds, or the search ends with this result
 abbrev pub Unless : Code → Type 0 → Option Explored → Type 0
 Unless code P None = P
 Unless code P (Some explored) = Tells code explored

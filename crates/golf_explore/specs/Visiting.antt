@@ -1,4 +1,4 @@
--- The visits of a search: which states they are of, and which turns lead to them. Output is not compared.
+-- The visits of a search: their states, and the turns that lead to them. Output is not compared.
 use Rattle.std.specs.Prelude.{◌≡◌, ℕ, ◌+◌, ◌*◌, ◌<◌, Bool, false, List, [], ◌∷◌, ◌++◌, length, map, Option, Some, None}
 use Rattle.std.specs.Prelude.{slice_get}
 use Rattle.golf_theory.specs.Membership.{In}
@@ -26,14 +26,14 @@ abbrev pub after_all : Code → State → List ℕ → State
 after_all code s [] = s
 after_all code s (n ∷ ns) = after_all code (after code s n) ns
 
--- each of these turns begins in a state without an ending, and leads to a plain state
+-- each of these turns begins in a state without an ending, and reaches a plain state
 abbrev pub GoesOn : Code → State → List ℕ → Type 0
 GoesOn code s [] = Unit {0}
 GoesOn code s (n ∷ ns) = (ending s ≡ None) × IsPlain (after code s n) × GoesOn code (after code s n) ns
 
 -- ---- visits
 
--- the state is that after a turn of an earlier visit
+-- the state is the one after a turn of an earlier visit
 pub record IsNext (code : Code) (visits : List Visit) (at : ℕ) (s : State) (came : Came) : Type 0 where
   pub earlier : came.parent < at
   pub parent : State
@@ -46,11 +46,11 @@ abbrev pub IsFrom : Code → List Visit → ℕ → State → Option Came → Ty
 IsFrom code visits at s None = s ≡ start code
 IsFrom code visits at s (Some came) = IsNext code visits at s came
 
--- it has an ending, or neither an object with a finaliser nor a dead goroutine
+-- the state has an ending, or it has neither an object with a finaliser nor a dead goroutine
 abbrev pub IsWell : State → Type 0
 IsWell s = ending s ≡ None → (s.finalisers ≡ []) × (dead s ≡ [])
 
--- it is one of these endings
+-- the ending is there, and is one of these
 abbrev pub ends_by : (Ending → Bool) → Option Ending → Bool
 ends_by is_one None = false
 ends_by is_one (Some e) = is_one e
@@ -59,18 +59,18 @@ ends_by is_one (Some e) = is_one e
 abbrev pub has_ended_by : (Ending → Bool) → State → Bool
 has_ended_by is_one s = ends_by is_one (ending s)
 
--- the opening state is visited, turns lead to each visited state, and each is well
+-- the opening state is visited, turns reach each visited state, and each is well
 pub record AreVisits (code : Code) (visits : List Visit) : Type 0 where
   pub opening : In (start code) (states visits)
   pub from : (at : ℕ) (v : Visit) → slice_get visits at ≡ Some v → IsFrom code visits at (silent v.state) v.came
   pub well : (s : State) → In s (states visits) → IsWell s
 
--- each visit has a lower place than those to which its turns led
+-- each visit has a lower place than the visits that its turns reach
 abbrev pub ParentsBelow : List Visit → Type 0
 ParentsBelow visits = (at : ℕ) (v : Visit) (came : Came) → slice_get visits at ≡ Some v → v.came ≡ Some came
     → came.parent < at
 
--- the turns of these numbers lead from the one state to the other
+-- the turns of these numbers lead from the first state to the second
 abbrev pub LeadsTo : Code → State → List ℕ → State → Type 0
 LeadsTo code s ns t = (after_all code s ns ≡ t) × GoesOn code s ns
 
@@ -96,7 +96,7 @@ pub record IsPathFor (code : Code) (visits : List Visit) (at : ℕ) (path : List
 abbrev pub HasPushed : List Visit → List Visit → State → Option Came → Type 0
 HasPushed old new s came = (v : Visit) × (new ≡ old ++ v ∷ []) × (v.state ≡ s) × (v.came ≡ came)
 
--- visits were added at the end alone
+-- visits were added, and only at the end
 abbrev pub Grows : List Visit → List Visit → Type 0
 Grows old new = (more : List Visit) × (new ≡ old ++ more)
 
@@ -106,35 +106,35 @@ pub record HasAdded (code : Code) (old new : List Visit) (s : State) : Type 0 wh
   pub visits : AreVisits code new
   pub has : In s (states new)
 
--- the list has grown, and has the states after the turns of the goroutine at a place by the first so many choices, if
--- so many goroutines can run
+-- The list has grown. It has the states after the turns of the goroutine at this place by the choices below `choices`.
+-- The number of goroutines that can run is `count`.
 pub record HasTurned (code : Code) (old new : List Visit) (s : State) (place count choices : ℕ) : Type 0 where
   pub grows : Grows old new
   pub visits : AreVisits code new
   pub has : (choice : ℕ) → choice < choices → In (after code s (choice * count + place)) (states new)
 
--- each turn of the state leads to a listed state
+-- each turn of the state reaches a listed state
 abbrev pub IsDone : Code → List State → State → Type 0
 IsDone code visited s = ending s ≡ None → (place choice : ℕ) → IsTurn code s place choice
     → In (after_turn code s place choice) visited
 
--- so it is for each of the first so many states of the list
+-- this holds for each of the first `count` states of the list
 abbrev pub AreDone : Code → List State → ℕ → Type 0
 AreDone code visited count = (at : ℕ) (s : State) → at < count → slice_get visited at ≡ Some s → IsDone code visited s
 
--- the list has grown, and each turn of the state leads into it
+-- the list has grown, and has the state after each turn of this state
 pub record HasExpanded (code : Code) (old new : List Visit) (s : State) : Type 0 where
   pub grows : Grows old new
   pub visits : AreVisits code new
   pub done : IsDone code (states new) s
 
--- the list has grown, and each turn of the visit at this place leads into it
+-- the list has grown, and has the state after each turn of the visit at this place
 pub record HasVisited (code : Code) (old new : List Visit) (at : ℕ) : Type 0 where
   pub grows : Grows old new
   pub visits : AreVisits code new
   pub done : (s : State) → slice_get (states old) at ≡ Some s → IsDone code (states new) s
 
--- for each goroutine that can run, more than its last choice
+-- for each goroutine that can run a number above its last choice
 pub record HasChoices (code : Code) (s : State) (choices : List ℕ) : Type 0 where
   pub count : length choices ≡ length (runnable s)
   pub each : (place n : ℕ) → slice_get choices place ≡ Some n

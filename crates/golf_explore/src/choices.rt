@@ -1,16 +1,18 @@
-//! How many choices the turns of a state have.
+//! The number of choices of each turn of a state.
+//!
+//! A `select` has one choice for each case. Any other turn has one choice.
 
-ghost use Rattle.std.specs.Prelude.{◌≡◌, ◌<◌, Some, IfOk, option_map};
-ghost use Rattle.golf_model.specs.Turn.{line_at as line_of};
+ghost use Rattle.std.specs.Prelude.{◌<◌, Some, IfOk};
 ghost use Rattle.golf_explore_laws.specs.Closed.{last_choice, turn_last_choice};
 ghost use Rattle.golf_explore.specs.Visiting.{HasChoices};
 
 use golf_base::{GoroutineId, List, Memory};
-use golf_data::{Code, CodeLine, Instr, Leaving};
+use golf_data::{Code, Instr, Leaving};
+use golf_machine::line_at;
 use golf_state::State;
 use std::alloc::Global;
 
-// How many choices an instruction has at most.
+// More than the last choice of an instruction.
 fn choices_of(instr: &Instr) -> u64
     ensures { last_choice instr.now < result }
 {
@@ -20,15 +22,7 @@ fn choices_of(instr: &Instr) -> u64
     }
 }
 
-// The instruction at a place of a function, with its line.
-fn line_at(code: &Code, function: u32, at: u32) -> Option<&CodeLine>
-    ensures { option_map (λ l. l.now) result ≡ line_of code.now function at }
-{
-    let function = code.functions.as_slice().get(function as usize)?;
-    function.body.as_slice().get(at as usize)
-}
-
-// How many choices a turn of the goroutine has at most.
+// More than the last choice of the goroutine's turn.
 fn choices_at(code: &Code, state: &State, g: GoroutineId) -> u64
     ensures { turn_last_choice code.now state.now (Some g.0) < result }
 {

@@ -1,4 +1,6 @@
 //! Whether a state has a dead goroutine.
+//!
+//! It marks the live graph, as a collection does, and looks for a sleeper that is not awake.
 
 ghost use Rattle.std.specs.Prelude.{◌≡◌, ◌↔◌, true, false, [], IfOk, IsTrue};
 ghost use Rattle.golf_model.specs.Living.{dead};

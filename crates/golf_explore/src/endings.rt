@@ -1,4 +1,6 @@
-//! How visited states have ended.
+//! The endings of the visited states.
+//!
+//! A program ends by a return, by a panic or fatal error, or with all goroutines asleep.
 
 ghost use Rattle.std.specs.Prelude.{◌≡◌};
 ghost use Rattle.golf_explore_laws.specs.Laws.{is_panic, is_asleep};
@@ -9,8 +11,8 @@ use crate::visits::Visit;
 use golf_data::Ending;
 use golf_state::State;
 
-// Whether the state has ended by a panic or a fatal error.
-fn panics(state: &State) -> bool
+/// Returns whether the state has ended by a panic or a fatal error.
+pub(crate) fn panics(state: &State) -> bool
     ensures { result ≡ has_ended_by is_panic state.now }
 {
     match state.ending() {
@@ -21,8 +23,8 @@ fn panics(state: &State) -> bool
     }
 }
 
-// Whether the state has ended with all goroutines asleep.
-fn sleeps(state: &State) -> bool
+/// Returns whether the state has ended with all goroutines asleep.
+pub(crate) fn sleeps(state: &State) -> bool
     ensures { result ≡ has_ended_by is_asleep state.now }
 {
     match state.ending() {

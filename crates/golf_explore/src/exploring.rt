@@ -1,4 +1,7 @@
-//! The search.
+//! The search over all schedules.
+//!
+//! It visits states breadth first. Each visited state has an ending, or has neither a dead goroutine nor an
+//! object with a finaliser.
 
 ghost use Rattle.std.specs.Prelude.{IfOk};
 ghost use Rattle.golf_data.specs.Places.{HasPlaces};
@@ -14,10 +17,10 @@ use golf_data::Code;
 use golf_machine::start;
 use std::alloc::Global;
 
-/// What there is among all states that schedules lead to.
+/// The facts about all states that schedules reach.
 #[derive(Clone, Copy)]
 pub struct Visited {
-    /// How many there are.
+    /// How many states there are.
     pub states: u32,
     /// Whether some run ends by a panic or a fatal error.
     pub panics: bool,
@@ -25,16 +28,16 @@ pub struct Visited {
     pub sleeps: bool,
 }
 
-/// What a search came to.
+/// The result of a search.
 #[derive(Drop)]
 pub enum Explored {
-    /// Each state that a schedule leads to was visited, and none has a dead goroutine.
+    /// Each state that a schedule reaches was visited, and none has a dead goroutine.
     AllVisited(Visited),
-    /// The turns of these numbers lead to a state with a dead goroutine.
+    /// The turns of these numbers reach a state with a dead goroutine.
     Leak(List<u64>),
-    /// A schedule gives an object a finaliser: such codes are not searched.
+    /// A schedule gives an object a finaliser. The search does not go over such codes.
     Finalisers,
-    /// There are more states than were asked for, or a turn has too high a number.
+    /// There are more states than the caller allowed, or a turn has too high a number.
     TooMany,
 }
 
@@ -49,7 +52,7 @@ fn opened(alloc: Global, code: &Code) -> Result<Visits, Memory>
     Ok(visits)
 }
 
-// What is told of all visits, which are so many.
+// The facts about all visits, of which there are `count`.
 fn told(visits: &[Visit], count: u32) -> Visited
     ensures { HasTold visits.now count result }
 {
@@ -60,10 +63,10 @@ fn told(visits: &[Visit], count: u32) -> Visited
     }
 }
 
-/// Visits each state that schedules of the code lead to, up to so many, the nearest first.
+/// Visits each state that schedules of the code reach, up to `most` states, the nearest first.
 ///
-/// It ends at the first leak. The time is linear in the turns of all paths: a state is made anew
-/// for each of its turns. The only error is `Memory`.
+/// It ends at the first leak. The time is linear in the turns of all paths, since a state is made anew for
+/// each of its turns. The only error is `Memory`.
 pub fn explore(alloc: Global, code: &Code, most: u32) -> Result<Explored, Memory>
     requires { HasPlaces code.now }
     ensures { IfOk result (Tells code.now) }

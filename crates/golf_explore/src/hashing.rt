@@ -1,6 +1,6 @@
-//! Hashes of states. Nothing rests on them except the time that a search takes.
+//! Hashes of states. Only the running time of a search depends on them.
 //!
-//! A hash goes over globals, objects and goroutines. Output is left out.
+//! A hash covers globals, objects and goroutines. It does not cover output.
 
 use golf_base::{GoroutineId, Memory};
 use golf_data::{Frame, Goroutine, Mode, Object, Value};
@@ -25,7 +25,7 @@ fn mix_value(hash: u64, value: Value) -> u64 {
     }
 }
 
-// One value after another. Two parts of a list give what the whole list gives.
+// One value after another. Two parts of a list, one after the other, give the same hash as the whole list.
 fn mix_part(hash: u64, values: &[Value]) -> u64 {
     let mut mixed = hash;
     for value in values {
@@ -102,7 +102,7 @@ fn mix_goroutines(hash: u64, state: &State, goroutines: &[GoroutineId]) -> u64 {
     mixed
 }
 
-/// Returns a hash of a state, whatever it has printed.
+/// Returns a hash of a state. It does not depend on the output.
 pub(crate) fn hash_of(alloc: Global, state: &State) -> Result<u64, Memory> {
     let goroutines = state.goroutines(alloc)?;
     let globals = mix_values(0, state.globals());

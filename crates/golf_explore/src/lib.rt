@@ -1,10 +1,14 @@
-//! All schedules of a code, up to a number of states: whether one of them leads to a dead goroutine.
+//! Searches the schedules of a code, up to a number of states.
 //!
-//! Each state that turns lead to is visited once. A visit keeps its state, and the turn that led to it
-//! from an earlier visit. No state is copied: it is made anew by the turns of its path, and then led
-//! on by one more turn. States are compared exactly; hashes only find what to compare.
+//! - `explore`: looks for a dead goroutine in all schedules.
+//! - `search`: looks for a leak, a panic or a sleep by a rising number of preemptions.
+//!
+//! A search visits each state that turns reach once. A visit keeps its state, and the turn that led to
+//! it from an earlier visit. No state is copied: the turns of its path make it anew, and one more turn
+//! leads on from it. States are compared exactly. Hashes only find the states to compare.
 #![tactic(auto)]
 
+mod attempting;
 mod choices;
 mod dying;
 mod endings;
@@ -13,6 +17,11 @@ mod exploring;
 mod hashing;
 mod paths;
 mod replaying;
+mod searching;
+mod seeking;
+mod shortening;
 mod visits;
 
 pub use exploring::{Explored, Visited, explore};
+pub use searching::{Aim, SearchResult, search};
+pub use seeking::Sought;

@@ -1,4 +1,4 @@
-//! The turns that lead to a visit.
+//! The path of a visit: the turns that reach it from the opening state.
 
 ghost use Rattle.std.specs.Prelude.{◌<◌, length, IfOk};
 ghost use Rattle.golf_explore.specs.Visiting.{IsPathTo, ParentsBelow};
@@ -7,7 +7,7 @@ use crate::visits::Visit;
 use golf_base::{List, Memory};
 use std::alloc::Global;
 
-/// Returns the numbers of the turns that lead to a visit from the opening state.
+/// Returns the numbers of the turns that reach a visit from the opening state.
 pub(crate) fn path_to(alloc: Global, visits: &[Visit], at: usize) -> Result<List<u64>, Memory>
     requires at { at < length visits.now }
     requires below { ParentsBelow visits.now }

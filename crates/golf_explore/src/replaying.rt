@@ -1,4 +1,4 @@
-//! States that are made anew by their turns. What a turn prints is dropped.
+//! Makes states anew by their turns, and drops the output of each turn.
 
 ghost use Rattle.std.specs.Prelude.{◌≡◌, None, IfOk, OnOk};
 ghost use Rattle.golf_data.specs.Places.{HasPlaces};

@@ -1,4 +1,6 @@
-//! The visited states, found again by their hashes.
+//! The visited states, found by their hashes.
+//!
+//! A row of the table has the visits with the same upper bits of the hash, the latest one first.
 
 ghost use Rattle.std.specs.Prelude.{◌≡◌, [], ◌<◌, ◌^◌, true, length, IfOk, OnOk};
 ghost use Rattle.golf_theory.specs.Membership.{In};
@@ -12,9 +14,9 @@ use std::alloc::Global;
 /// The turn that led to a visit.
 #[derive(Clone, Copy)]
 pub(crate) struct Came {
-    /// The place of the visit that it began in.
+    /// The place of the visit in which the turn began.
     pub(crate) parent: u32,
-    /// Its number there.
+    /// The number of the turn.
     pub(crate) number: u64,
 }
 
@@ -22,17 +24,17 @@ pub(crate) struct Came {
 #[derive(Drop)]
 pub(crate) struct Visit {
     pub(crate) state: State,
-    /// The turn that led to it; none for the opening state.
+    /// The turn that led to it, or `None` for the opening state.
     pub(crate) came: Option<Came>,
     /// The hash of the state.
     pub(crate) hash: u64,
-    /// The place of the visit before it in its row; past the end if it is the first.
+    /// The place of the visit before it in its row. For the first one of the row it is past the end.
     pub(crate) before: u32,
 }
 
 /// The visits in order, and a table of rows by hash.
 ///
-/// Nothing rests on hashes and rows except the time that a search takes.
+/// Only the running time of a search depends on hashes and rows.
 #[derive(Drop)]
 pub(crate) struct Visits {
     pub(crate) list: List<Visit>,
@@ -40,7 +42,7 @@ pub(crate) struct Visits {
     pub(crate) rows: List<u32>,
 }
 
-/// How many rows the table has: as many as the upper 16 bits of a hash have values.
+/// How many rows the table has: one for each value of the upper 16 bits of a hash.
 const ROWS: usize = 1 << 16;
 
 // The row of a hash.
@@ -49,7 +51,7 @@ fn row_of(hash: u64) -> usize {
 }
 
 impl Visits {
-    /// Makes a table without a visit.
+    /// Returns a table without a visit.
     pub(crate) fn new(alloc: Global) -> Result<Visits, Memory>
         ensures { IfOk result (λ visits. visits.list ≡ []) }
     {
@@ -61,12 +63,12 @@ impl Visits {
         })
     }
 
-    // The place of the last visit of a row; past the end if it has none.
+    // The place of the last visit of a row. For an empty row it is past the end.
     fn last_of(&self, row: usize) -> u32 {
         self.rows.as_slice().get(row).copied().unwrap_or(u32::MAX)
     }
 
-    /// Returns whether the state, whose hash this is, was visited. Output is not compared.
+    /// Returns whether the state was visited. The hash is its own. Output is not compared.
     pub(crate) fn contains(&self, alloc: Global, state: &State, hash: u64) -> Result<bool, Memory>
         ensures { IfOk result (λ found. found ≡ true → In (silent state.now) (states self.now.list)) }
     {

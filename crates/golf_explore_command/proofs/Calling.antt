@@ -1,7 +1,7 @@
 -- What the ends of a call mean, by its words.
--- For: `explorer`, `serve_all`, src/top.rt; `CallTells`, specs/Telling.antt
+-- For: `explorer`, `serve`, src/top.rt; `CallTells`, specs/Telling.antt
 -- By: cases of how the reading ends; no induction
-use Rattle.std.proofs.Common.{◌≡◌, ℕ, ◌≤◌, ◌⊎◌, inl, inr, List, [], ◌∷◌, Some, None, sym, subst, arith}
+use Rattle.std.proofs.Common.{◌≡◌, ℕ, ◌≤◌, ◌⊎◌, inl, inr, Bool, true, false, List, [], ◌∷◌, ◌++◌, Some, None, sym, subst, arith}
 use Rattle.std.specs.Prelude.{Option}
 use Rattle.std.specs.Io.KnownBytes.{Keeps}
 use Rattle.std.proofs.KnownBytes.{Keeps-refl}
@@ -13,17 +13,23 @@ use Rattle.golf_run_texts.specs.declared.status.Status.{Status}
 use Rattle.golf_run_texts.specs.declared.status.Status.TheVariants as s
 use Rattle.golf_run_texts.specs.Fixed.{read_fault_text, no_memory_text}
 use Rattle.golf_run_texts.specs.Writes.{Write}
+use Rattle.golf_data.specs.declared.goroutine.Ending.{Ending}
+use Rattle.golf_model.specs.State.{ending}
+use Rattle.golf_run_schedules.specs.declared.options.RunOptions.{RunOptions}
+use Rattle.golf_run_texts.specs.Output.{last_of, reports_of, anyone_reported, status_by, status_of}
 use Rattle.golf_run.specs.HasRun.{Sinks, sinks}
 use Rattle.golf_command.specs.Ends.{EndsWith}
 use Rattle.golf_command.specs.Means.{seen, SourceCauses}
 use Rattle.golf_command.specs.Loads.{SourceFailed, FileRefused, MemoryRanOut, HasFile}
 use Rattle.golf_explore_words.specs.declared.line.ExploreLine.{ExploreLine}
 use Rattle.golf_explore_words.specs.Words.{line_of}
+use Rattle.golf_explore_words.specs.declared.line.Question.{Question}
 use Rattle.golf_explore.specs.declared.exploring.Explored.{Explored}
+use Rattle.golf_explore.specs.declared.searching.SearchResult.{SearchResult}
 use Rattle.golf_explore_command.specs.Texts.{usage_text}
-use Rattle.golf_explore_command.specs.Answers.{status_for, IsAnswer}
+use Rattle.golf_explore_command.specs.Answers.{status_for, status_found, IsAnswer}
 use Rattle.golf_explore_command.specs.Telling.{CodeComes, Wrote, CodeTells, CallTells}
-use Rattle.golf_explore_command.specs.Telling.Comes.{Misused, Unread, Refused, Searched, NoMemory}
+use Rattle.golf_explore_command.specs.Telling.Comes.{Misused, Unread, Refused, Served, NoMemory}
 use Rattle.golf_explore_command.proofs.Writing.{ends-alone}
 
 -- a status other than that of a source that failed
@@ -110,10 +116,22 @@ module _ (words : List (List ℕ)) (left left' : Option (List ℕ)) (rf rf' : �
 
 -- ---- there is one
 
--- a searched code never ends as a source that failed
-searched-status : (code : Code) (most : ℕ) (r : Status) (old new : Sinks) → CodeTells code most r old new
+-- a run never ends as a source that failed
+by_ending : (reported : Bool) (ending : Option Ending) → IsNoReadFault (status_by reported ending)
+by_ending true (Some Ending.Returned) = tt
+by_ending false (Some Ending.Returned) = tt
+by_ending reported (Some (Ending.Panicked kind g line)) = tt
+by_ending reported (Some Ending.Asleep) = tt
+by_ending reported None = tt
+
+ran : (code : Code) (options : RunOptions) → IsNoReadFault (status_of code options)
+unfolding status_of
+ran code options = by_ending (anyone_reported (reports_of code options)) (ending (last_of code options))
+
+-- a code is never served as a source that failed
+served-status : (code : Code) (line : ExploreLine) (r : Status) (old new : Sinks) → CodeTells code line r old new
     → IsNoReadFault r
-searched-status code most r old new h = wrote h.status h.writes (comes h.status h.writes h.comes) h.wrote
+served-status code line r old new h = wrote h.status h.writes (comes line h.status h.writes h.comes) h.wrote
   where
     by : (explored : Explored) → IsNoReadFault (status_for explored)
     by (Explored.AllVisited told) = tt
@@ -121,32 +139,43 @@ searched-status code most r old new h = wrote h.status h.writes (comes h.status 
     by Explored.Finalisers = tt
     by Explored.TooMany = tt
 
-    answered : (status : Status) (text : List ℕ) → IsAnswer code most status text → IsNoReadFault status
-    answered status text a = subst IsNoReadFault (sym a.status_is) (by a.explored)
+    by_found : (searched : SearchResult) → IsNoReadFault (status_found searched)
+    by_found (SearchResult.Found numbers) = tt
+    by_found (SearchResult.Nothing states) = tt
+    by_found SearchResult.Finalisers = tt
+    by_found SearchResult.TooMany = tt
 
-    comes : (status : Status) (writes : List Write) → CodeComes code most status writes → IsNoReadFault status
-    comes _ _ (CodeComes.Answered status text a) = answered status text a
-    comes _ _ CodeComes.OutOfMemory = tt
-    comes _ _ CodeComes.OutOfMemoryLater = tt
+    answered : (question : Question) (status : Status) (text : List ℕ) → IsAnswer code question status text
+        → IsNoReadFault status
+    answered (Question.All most) status text a = subst IsNoReadFault (sym a.status_is) (by a.explored)
+    answered (Question.Search options) status text a = subst IsNoReadFault (sym a.status_is) (by_found a.searched)
+
+    comes : (line : ExploreLine) (status : Status) (writes : List Write) → CodeComes code line status writes
+        → IsNoReadFault status
+    comes _ _ _ (CodeComes.Answered question status text a) = answered question status text a
+    comes _ _ _ (CodeComes.OutOfMemory question) = tt
+    comes _ _ _ (CodeComes.OutOfMemoryLater question) = tt
+    comes _ _ _ (CodeComes.Traced options) = ran code options
+    comes _ _ _ (CodeComes.OutOfMemoryInTrace options done later order) = tt
 
     wrote : (status : Status) (writes : List Write) → IsNoReadFault status → Wrote status writes r old new
         → IsNoReadFault r
     wrote status writes n (inl e) = subst IsNoReadFault (sym e.0) n
     wrote status writes n (inr e) = subst IsNoReadFault (sym e.0) tt
 
-pub searched : {file : File} {left left' : Option (List ℕ)} {rf rf' : ℕ} {out err mid : Option (List ℕ)} {of ef mf : ℕ}
-    {b : Sinks} {r : Status} (words : List (List ℕ)) (most : ℕ) (code : Code)
-    → line_of words ≡ Some (ExploreLine.All most)
+pub served : {file : File} {left left' : Option (List ℕ)} {rf rf' : ℕ} {out err mid : Option (List ℕ)} {of ef mf : ℕ}
+    {b : Sinks} {r : Status} (words : List (List ℕ)) (line : ExploreLine) (code : Code)
+    → line_of words ≡ Some line
     → (l : HasFile file left left' rf rf') → code ≡ CodeOf file → mid ≡ err → mf ≡ ef
-    → CodeTells code most r (sinks out of mid mf) b
+    → CodeTells code line r (sinks out of mid mf) b
     → CallTells words r (seen left rf (sinks out of err ef)) (seen left' rf' b)
-searched {file} {left} {left'} {rf} {rf'} {out} {err} {mid} {of} {ef} {mf} {b} {r} words most code is l same still quiet
+served {file} {left} {left'} {rf} {rf'} {out} {err} {mid} {of} {ef} {mf} {b} {r} words line code is l same still quiet
     h =
-    let told = subst (λ (y : Option (List ℕ) × ℕ). CodeTells (CodeOf file) most r (sinks out of y.0 y.1) b)
-    (λ i. (still i, quiet i)) (subst (λ c. CodeTells c most r (sinks out of mid mf) b) same h) in record {
+    let told = subst (λ (y : Option (List ℕ) × ℕ). CodeTells (CodeOf file) line r (sinks out of y.0 y.1) b)
+    (λ i. (still i, quiet i)) (subst (λ c. CodeTells c line r (sinks out of mid mf) b) same h) in record {
       status = told.status;
       writes = told.writes;
-      comes = Searched most l.bytes file told.status told.writes is l.told l.at_end l.accepts told.comes;
+      comes = Served line l.bytes file told.status told.writes is l.told l.at_end l.accepts told.comes;
       wrote = told.wrote;
-      source = still-causes r rf rf' (searched-status (CodeOf file) most r (sinks out of err ef) b told) l.quiet;
+      source = still-causes r rf rf' (served-status (CodeOf file) line r (sinks out of err ef) b told) l.quiet;
     }

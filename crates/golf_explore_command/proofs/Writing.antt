@@ -1,5 +1,5 @@
 -- What two sinks got by one write, or by one after another.
--- For: `tell`, src/top.rt; `Wrote`, specs/Telling.antt
+-- For: `tell_answer`, src/top.rt; `Wrote`, specs/Telling.antt
 -- By: cases of whether the write failed; no induction
 use Rattle.std.proofs.Common.{◌≡◌, ℕ, List, [], ◌∷◌, ◌++◌, inl, inr, refl, sym, subst, ◌∙◌, append-nil}
 use Rattle.std.specs.Prelude.{Option}

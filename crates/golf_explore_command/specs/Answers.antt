@@ -1,40 +1,97 @@
--- What is said of a file all of whose schedules are looked at.
-use Rattle.std.specs.Prelude.{◌≡◌, ℕ, true, List, ◌++◌}
+-- The answer on a file whose schedules are searched.
+use Rattle.std.specs.Prelude.{◌≡◌, ℕ, true, List, ◌++◌, codes}
 use Rattle.golf_data.specs.declared.code.Code.{Code}
 use Rattle.golf_explore.specs.declared.exploring.Explored.{Explored}
+use Rattle.golf_explore.specs.declared.searching.SearchResult.{SearchResult}
+use Rattle.golf_explore.specs.declared.seeking.Sought.{Sought}
 use Rattle.golf_explore.specs.Telling.{Tells}
+use Rattle.golf_explore.specs.Visiting.{has_ended_by}
+use Rattle.golf_explore_laws.specs.Laws.{is_panic, is_asleep}
+use Rattle.golf_explore_words.specs.declared.line.Question.{Question}
+use Rattle.golf_explore_words.specs.declared.line.SearchFor.{SearchFor}
+use Rattle.golf_explore_words.specs.declared.line.SearchOptions.{SearchOptions}
 use Rattle.golf_run_texts.specs.declared.status.Status.{Status}
 use Rattle.golf_run_texts.specs.declared.status.Status.TheVariants as s
-use Rattle.golf_run_texts.specs.Output.{reports_of, err_of, anyone_reported}
+use Rattle.golf_run_texts.specs.Output.{last_of, reports_of, err_of, anyone_reported}
 use Rattle.golf_explore_command.specs.Texts.{visited_text, leak_options, leak_line, too_many_line, finalisers_text}
+use Rattle.golf_explore_command.specs.Texts.{end_options, end_line, nothing_line}
 
--- how the program ends with the answer of a search
+-- the status of the program for each result of a search
 abbrev pub status_for : Explored → Status
 status_for (Explored.AllVisited told) = s.Clean
 status_for (Explored.Leak numbers) = s.Found
 status_for Explored.Finalisers = s.Spent
 status_for Explored.TooMany = s.Spent
 
--- what it writes then. After the line of a leak stands all that the run of its words writes to standard error: the
--- lines of its reports, and that it was stopped.
+-- The text of the program for each result. After the line of a leak comes the standard error of the run of its words.
+-- That is the lines of its reports, and the line that says that it was stopped.
 abbrev pub text_for : Code → ℕ → Explored → List ℕ
 text_for code most (Explored.AllVisited told) = visited_text told
 text_for code most (Explored.Leak numbers) = leak_line numbers ++ err_of code (leak_options numbers)
 text_for code most Explored.Finalisers = finalisers_text
 text_for code most Explored.TooMany = too_many_line most
 
--- the run of a leak reports somebody
+-- the run of a leak reports a goroutine
 abbrev pub Shows : Code → Explored → Type 0
 Shows code (Explored.AllVisited told) = Unit {0}
 Shows code (Explored.Leak numbers) = anyone_reported (reports_of code (leak_options numbers)) ≡ true
 Shows code Explored.Finalisers = Unit {0}
 Shows code Explored.TooMany = Unit {0}
 
--- The status and the text are those of an answer that holds of the code: all schedules were looked at and no run leaks;
--- or these turns lead to a leak, and their run reports it; or there is no answer.
-pub record IsAnswer (code : Code) (most : ℕ) (status : Status) (text : List ℕ) : Type 0 where
+-- Status and text are those of a result that holds of the code. All schedules were searched and no run leaks. Or these
+-- turns reach a leak, and their run reports it. Or the search was stopped.
+pub record IsAnswerOnAll (code : Code) (most : ℕ) (status : Status) (text : List ℕ) : Type 0 where
   pub explored : Explored
   pub tells : Tells code explored
   pub shows : Shows code explored
   pub status_is : status ≡ status_for explored
   pub text_is : text ≡ text_for code most explored
+
+-- ---- a search by preemptions
+
+abbrev pub sought_by : SearchFor → Sought
+sought_by SearchFor.Leak = Sought.Leak
+sought_by SearchFor.Panic = Sought.Panic
+sought_by SearchFor.Asleep = Sought.Asleep
+
+abbrev pub status_found : SearchResult → Status
+status_found (SearchResult.Found numbers) = s.Found
+status_found (SearchResult.Nothing states) = s.Clean
+status_found SearchResult.Finalisers = s.Spent
+status_found SearchResult.TooMany = s.Spent
+
+-- the text of a run that was found: its line, and its standard error
+abbrev pub found_text : Code → SearchFor → List ℕ → List ℕ
+found_text code SearchFor.Leak numbers = leak_line numbers ++ err_of code (leak_options numbers)
+found_text code SearchFor.Panic numbers = end_line (codes "panic") numbers ++ err_of code (end_options numbers)
+found_text code SearchFor.Asleep numbers = end_line (codes "asleep") numbers ++ err_of code (end_options numbers)
+
+abbrev pub search_text : Code → SearchOptions → SearchResult → List ℕ
+search_text code options (SearchResult.Found numbers) = found_text code options.aim numbers
+search_text code options (SearchResult.Nothing states) = nothing_line states options.preemptions
+search_text code options SearchResult.Finalisers = finalisers_text
+search_text code options SearchResult.TooMany = too_many_line options.states
+
+-- the run of the words that are told is what was sought: it reports a goroutine, or it ends so
+abbrev pub RunShows : Code → SearchFor → List ℕ → Type 0
+RunShows code SearchFor.Leak numbers = anyone_reported (reports_of code (leak_options numbers)) ≡ true
+RunShows code SearchFor.Panic numbers = has_ended_by is_panic (last_of code (end_options numbers)) ≡ true
+RunShows code SearchFor.Asleep numbers = has_ended_by is_asleep (last_of code (end_options numbers)) ≡ true
+
+abbrev pub SearchShows : Code → SearchFor → SearchResult → Type 0
+SearchShows code aim (SearchResult.Found numbers) = RunShows code aim numbers
+SearchShows code aim (SearchResult.Nothing states) = Unit {0}
+SearchShows code aim SearchResult.Finalisers = Unit {0}
+SearchShows code aim SearchResult.TooMany = Unit {0}
+
+-- Status and text are those of a result. The run of these turns shows what was sought. Or nothing is claimed.
+pub record IsAnswerOnSearch (code : Code) (options : SearchOptions) (status : Status) (text : List ℕ) : Type 0 where
+  pub searched : SearchResult
+  pub shows : SearchShows code options.aim searched
+  pub status_is : status ≡ status_found searched
+  pub text_is : text ≡ search_text code options searched
+
+-- status and text are an answer to the question
+abbrev pub IsAnswer : Code → Question → Status → List ℕ → Type 0
+IsAnswer code (Question.All most) status text = IsAnswerOnAll code most status text
+IsAnswer code (Question.Search options) status text = IsAnswerOnSearch code options status text

@@ -1,4 +1,6 @@
-//! The search of a code, and how its answer is shown.
+//! Answers a question about the schedules of a code.
+//!
+//! A run with the turns of a leak shows the leak. Its lines follow the line of the leak.
 
 ghost use Rattle.std.specs.Prelude.{◌≡◌, ◌≤◌, ◌++◌, length, IfOk};
 ghost use Rattle.golf_data.specs.Places.{HasPlaces};
@@ -8,31 +10,32 @@ ghost use Rattle.golf_explore.specs.Telling.{Tells};
 ghost use Rattle.golf_command_words.specs.Words.{default_turns};
 ghost use Rattle.golf_run_schedules.specs.Options.{IsWithinLimits};
 ghost use Rattle.golf_run_texts.specs.Output.{err_of};
-ghost use Rattle.golf_explore_command.specs.Answers.{IsAnswer};
+ghost use Rattle.golf_explore_command.specs.Answers.{IsAnswer, IsAnswerOnAll};
 ghost use Rattle.golf_explore_command.specs.Texts.{leak_line as leak_line_of, leak_options as leak_options_of};
 
-use crate::keeping::Kept;
+use crate::finding::answer_search;
 use crate::texts::{FINALISERS, leak_line, too_many_line, visited_text};
 use golf_base::{List, Memory, OpenGate};
 use golf_data::Code;
 use golf_explore::{Explored, explore};
-use golf_run::{leaks_are_reported, run};
+use golf_explore_words::Question;
+use golf_run::{Kept, leaks_are_reported, run};
 use golf_run_schedules::{RunOptions, Schedule, choices_then_collect};
 use golf_run_texts::{Status, list_of};
 use std::alloc::Global;
 use std::thread::Threads;
 
-/// How the program ends, and what it writes of a file.
+/// The status of the program, and the text that it writes.
 #[derive(Drop)]
 pub(crate) struct Answer {
     pub(crate) status: Status,
     pub(crate) text: List<u8>,
 }
 
-/// The turns of a run whose words name no number of them.
-const DEFAULT_TURNS: u32 = 1_000_000;
+/// The most turns of the run that shows a leak. It is the default of `golf run`.
+pub(crate) const DEFAULT_TURNS: u32 = 1_000_000;
 
-// By these choices, with a collection after the last one.
+// The options of that run: these choices, and a collection after the last one.
 #[tactic(auto, unfolding(crate::specs::Texts::leak_options))]
 fn leak_options(numbers: List<u64>) -> RunOptions
     requires { length numbers ≤ default_turns }
@@ -50,8 +53,8 @@ fn leak_options(numbers: List<u64>) -> RunOptions
     }
 }
 
-// The line of a leak, and after it what the run that shows it writes to standard error.
-fn leak_text<R: Threads + Sync>(
+/// Returns the line of a leak, and after it the standard error of the run that shows it.
+pub(crate) fn leak_text<R: Threads + Sync>(
     rt: &R,
     alloc: Global,
     code: &Code,
@@ -62,8 +65,8 @@ fn leak_text<R: Threads + Sync>(
     ensures { IfOk result (λ text. text ≡ leak_line_of numbers ++ err_of code.now (leak_options_of numbers)) }
 {
     let mut text = leak_line(alloc, numbers.as_slice())?;
-    let mut out = Kept::new(alloc);
-    let mut err = Kept::new(alloc);
+    let mut out = Kept::new(List::new(alloc));
+    let mut err = Kept::new(List::new(alloc));
     let options = leak_options(numbers);
     // A write to memory fails only if memory has run out.
     match run(rt, alloc, code, options, &mut out, &mut err, &OpenGate) {
@@ -74,9 +77,9 @@ fn leak_text<R: Threads + Sync>(
     Ok(text)
 }
 
-// What is shown of a code with more states than were asked for.
+// The answer for a code with more states than the caller allowed.
 fn too_many(alloc: Global, most: u32) -> Result<Answer, Memory>
-    ensures { IfOk result (λ answer. (code : Code) → IsAnswer code most answer.status answer.text) }
+    ensures { IfOk result (λ answer. (code : Code) → IsAnswerOnAll code most answer.status answer.text) }
 {
     Ok(Answer {
         status: Status::Spent,
@@ -84,8 +87,8 @@ fn too_many(alloc: Global, most: u32) -> Result<Answer, Memory>
     })
 }
 
-// What is shown of a leak that the turns of these numbers lead to. There are more of them than a run may
-// have only if more states were kept than words can ask for.
+// The answer for a leak that the turns of these numbers reach. There can be more turns than a run may have
+// only if the search kept more states than words can ask for.
 fn leak<R: Threads + Sync>(
     rt: &R,
     alloc: Global,
@@ -95,7 +98,7 @@ fn leak<R: Threads + Sync>(
 ) -> Result<Answer, Memory>
     requires places { HasPlaces code.now }
     requires tells { Tells code.now (Explored.Leak numbers) }
-    ensures { IfOk result (λ answer. IsAnswer code.now most answer.status answer.text) }
+    ensures { IfOk result (λ answer. IsAnswerOnAll code.now most answer.status answer.text) }
 {
     choices_then_collect();
     leaks_are_reported();
@@ -108,15 +111,15 @@ fn leak<R: Threads + Sync>(
     })
 }
 
-/// Looks at all schedules of the code, and keeps so many states at most.
-pub(crate) fn search<R: Threads + Sync>(
+// The answer on all schedules of the code, of which at most `most` states are kept.
+fn answer_all<R: Threads + Sync>(
     rt: &R,
     alloc: Global,
     code: &Code,
     most: u32,
 ) -> Result<Answer, Memory>
     requires { HasPlaces code.now }
-    ensures { IfOk result (λ answer. IsAnswer code.now most answer.status answer.text) }
+    ensures { IfOk result (λ answer. IsAnswerOnAll code.now most answer.status answer.text) }
 {
     match explore(alloc, code, most)? {
         Explored::AllVisited(told) => Ok(Answer {
@@ -129,5 +132,21 @@ pub(crate) fn search<R: Threads + Sync>(
             text: list_of(alloc, FINALISERS)?,
         }),
         Explored::TooMany => too_many(alloc, most),
+    }
+}
+
+/// Answers the question. The only error is `Memory`.
+pub(crate) fn answer_to<R: Threads + Sync>(
+    rt: &R,
+    alloc: Global,
+    code: &Code,
+    question: Question,
+) -> Result<Answer, Memory>
+    requires { HasPlaces code.now }
+    ensures { IfOk result (λ answer. IsAnswer code.now question answer.status answer.text) }
+{
+    match question {
+        Question::All(most) => answer_all(rt, alloc, code, most),
+        Question::Search(options) => answer_search(rt, alloc, code, options),
     }
 }

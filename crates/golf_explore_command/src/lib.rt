@@ -1,11 +1,11 @@
-//! What the program that looks at every schedule does with its words and its streams.
+//! The whole program that looks at every schedule, over any source and any two sinks.
 //!
-//! - `explorer`: the whole of it.
-//! - `USAGE`: the text for words that are no line.
+//! - `explorer`: the top call, which does all that the program does.
+//! - `USAGE`: the text for words that are no command line.
 #![tactic(auto)]
 
 mod answering;
-mod keeping;
+mod finding;
 mod texts;
 mod top;
 

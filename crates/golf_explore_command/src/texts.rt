@@ -1,10 +1,12 @@
-//! The lines that the program writes.
+//! The lines that the program writes. The only error is `Memory`.
 
-ghost use Rattle.std.specs.Prelude.{◌≡◌, ◌++◌, cond, [], IfOk, OnOk};
+ghost use Rattle.std.specs.Prelude.{◌≡◌, ◌++◌, IfOk};
 ghost use Rattle.golf_explore_command.specs.Texts.{
-  never_asleep_text,
-  never_panics_text,
+  panics_text,
+  sleeps_text,
+  end_line as end_line_of,
   leak_line as leak_line_of,
+  nothing_line as nothing_line_of,
   note_line as note_line_of,
   too_many_line as too_many_line_of,
   usage_text,
@@ -16,16 +18,17 @@ use golf_explore::Visited;
 use golf_run_texts::{add_numbers, list_of};
 use std::alloc::Global;
 
-/// The usage, for words that are no line.
-pub const USAGE: &[u8; 44] = b"usage: golf-explore all [--states N] < FILE\n";
+/// The usage, for words that are no command line.
+pub const USAGE: &[u8; 241] =
+    b"usage: golf-explore all [--states N] < FILE\n       golf-explore search [--preemptions K] [--states N] [--for leak|panic|asleep] < FILE\n       golf-explore trace [--schedule S] [--turns N] [--every N] [--markers N] [--recover] [--why] < FILE\n";
 
-/// The line for a file that sets finalisers.
+/// The line of a file that sets finalisers.
 pub(crate) const FINALISERS: &[u8; 34] = b"stopped: the file sets finalisers\n";
 
-/// The most numbers that a schedule of choices may have.
+/// The most numbers that `--schedule choices:` may have.
 const MOST_CHOICES: usize = 4_096;
 
-/// Returns the line that says how much memory so many states may take.
+/// Returns the line that says how much memory this many states may take.
 pub(crate) fn note_line(alloc: Global, most: u32) -> Result<List<u8>, Memory>
     ensures { IfOk result (λ line. line ≡ note_line_of most) }
 {
@@ -34,29 +37,41 @@ pub(crate) fn note_line(alloc: Global, most: u32) -> Result<List<u8>, Memory>
     list_of(alloc, text.as_bytes())
 }
 
-// Adds a line unless the flag is true.
-fn add_unless(text: &mut List<u8>, flag: bool, line: &[u8]) -> Result<(), Memory>
-    ensures { OnOk result (text.new ≡ text.old ++ cond flag [] line.now) }
+// The line that says whether some run panics.
+fn panics_line(panics: bool) -> &'static str
+    ensures { result.now ≡ panics_text panics }
 {
-    if !flag {
-        text.extend_from_slice(line)?;
+    if panics {
+        "panics under some schedule\n"
+    } else {
+        "never panics\n"
     }
-    Ok(())
 }
 
-/// Returns the lines of a code all of whose states were visited, none of which has a dead goroutine.
+// The line that says whether some run ends with all goroutines asleep.
+fn sleeps_line(sleeps: bool) -> &'static str
+    ensures { result.now ≡ sleeps_text sleeps }
+{
+    if sleeps {
+        "all asleep under some schedule\n"
+    } else {
+        "never all asleep\n"
+    }
+}
+
+/// Returns the lines of a code whose states were all visited, and none of which has a dead goroutine.
 pub(crate) fn visited_text(alloc: Global, told: Visited) -> Result<List<u8>, Memory>
     ensures { IfOk result (λ text. text ≡ visited_text_of told) }
 {
     let states = told.states;
     let line = format!(in alloc; "every schedule: {states} states, no leak\n")?;
     let mut text = list_of(alloc, line.as_bytes())?;
-    add_unless(&mut text, told.panics, b"never panics\n")?;
-    add_unless(&mut text, told.sleeps, b"never all asleep\n")?;
+    text.extend_from_slice(panics_line(told.panics).as_bytes())?;
+    text.extend_from_slice(sleeps_line(told.sleeps).as_bytes())?;
     Ok(text)
 }
 
-/// Returns the line of a leak that the turns of these numbers lead to. It has the words of a run that
+/// Returns the line of a leak that the turns of these numbers reach. It has the words for a run that
 /// shows the leak, unless there are more numbers than words may have.
 pub(crate) fn leak_line(alloc: Global, numbers: &[u64]) -> Result<List<u8>, Memory>
     ensures { IfOk result (λ line. line ≡ leak_line_of numbers.now) }
@@ -75,7 +90,37 @@ pub(crate) fn leak_line(alloc: Global, numbers: &[u64]) -> Result<List<u8>, Memo
     Ok(line)
 }
 
-/// Returns the line of a code with more states than were asked for.
+/// Returns the line of a run that ends so after the turns of these numbers. It has the words for the run, unless there
+/// are more numbers than words may have.
+pub(crate) fn end_line(alloc: Global, how: &[u8], numbers: &[u64]) -> Result<List<u8>, Memory>
+    ensures { IfOk result (λ line. line ≡ end_line_of how.now numbers.now) }
+{
+    let mut line = list_of(alloc, how)?;
+    let count = numbers.len() as u64;
+    if numbers.len() > MOST_CHOICES {
+        let text = format!(in alloc;
+            ": after {count} turns, more than a schedule of choices may have\n"
+        )?;
+        line.extend_from_slice(text.as_bytes())?;
+        return Ok(line);
+    }
+    line.extend_from_slice(b": --schedule choices:")?;
+    add_numbers(alloc, &mut line, numbers)?;
+    line.extend_from_slice(b"\n")?;
+    Ok(line)
+}
+
+/// Returns the line of a search that found nothing.
+pub(crate) fn nothing_line(alloc: Global, states: u64, preemptions: u32) -> Result<List<u8>, Memory>
+    ensures { IfOk result (λ line. line ≡ nothing_line_of states preemptions) }
+{
+    let text = format!(in alloc;
+        "nothing found: {states} states, at most {preemptions} preemptions\n"
+    )?;
+    list_of(alloc, text.as_bytes())
+}
+
+/// Returns the line of a code with more states than the caller allowed.
 pub(crate) fn too_many_line(alloc: Global, most: u32) -> Result<List<u8>, Memory>
     ensures { IfOk result (λ line. line ≡ too_many_line_of most) }
 {

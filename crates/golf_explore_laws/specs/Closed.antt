@@ -19,7 +19,7 @@ silent s = record s { output = [] }
 
 -- ---- the turns of a state
 
--- the last choice of an instruction; each further choice repeats one of those up to it
+-- the last choice of an instruction; each higher choice repeats a choice up to it
 abbrev pub last_choice : Instr → ℕ
 last_choice (Instr.Select cases otherwise) = length cases - 1
 last_choice _ = 0
@@ -41,7 +41,7 @@ abbrev pub goroutine_last_choice : Code → Option GoroutineView → ℕ
 goroutine_last_choice code None = 0
 goroutine_last_choice code (Some r) = frames_last_choice code r.frames
 
--- the last choice of the goroutine of this number, at the instruction where it stands
+-- the last choice of the goroutine of this number, at its instruction
 abbrev pub turn_last_choice : Code → State → Option ℕ → ℕ
 turn_last_choice code s g = goroutine_last_choice code (option_and_then (λ h. find h s.goroutines) g)
 
@@ -64,8 +64,8 @@ after_turn code s place choice = silent (step code s (number_at s place choice))
 abbrev pub IsPlain : State → Type 0
 IsPlain s = ending s ≡ None → s.finalisers ≡ []
 
--- the opening state is in the list, each listed state is plain, and each turn of a listed state without an ending leads
--- to a listed state
+-- the opening state is in the list, each listed state is plain, and each turn of a listed state without an ending
+-- reaches a listed state
 pub record IsClosed (code : Code) (visited : List State) : Type 0 where
   pub opening : In (start code) visited
   pub plain : (s : State) → In s visited → IsPlain s

@@ -1,4 +1,4 @@
--- What no schedule of a code can bring about, and the laws that lists of states show it.
+-- What no schedule of a code can bring about, and the laws by which lists of states show it.
 use Rattle.std.specs.Prelude.{◌≡◌, ℕ, ◌+◌, ◌*◌, ◌%◌, ◌≤◌, Bool, true, false, List, [], ◌∷◌, length, Some, None}
 use Rattle.golf_theory.specs.Membership.{In}
 use Rattle.golf_data.specs.declared.code.Code.{Code}
@@ -54,7 +54,7 @@ turns_in [] = 0
 turns_in (Event.Turn c ∷ es) = turns_in es + 1
 turns_in (Event.Collect ∷ es) = turns_in es
 
--- each run of at least so many turns has an ending
+-- each run of at least this many turns has an ending
 abbrev pub EndsWithin : ℕ → Code → Type 0
 EndsWithin most code = (events : List Event) → most ≤ turns_in events → has_ended (run code (start code) events) ≡ true
 
@@ -64,7 +64,7 @@ AlwaysEnds code = (most : ℕ) × EndsWithin most code
 
 -- ---- laws
 
--- a turn by any number is the turn of the goroutine at its place by one of the choices of this goroutine
+-- the turn of any number is a turn of the goroutine at its place, by one of this goroutine's choices
 abbrev pub TurnsByChoice : Type 0
 TurnsByChoice = (code : Code) (s : State) (c : ℕ) → ending s ≡ None
     → (choice : ℕ) × (choice ≤ turn_last_choice code s (whose_turn s c))

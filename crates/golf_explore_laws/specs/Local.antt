@@ -1,4 +1,4 @@
--- Frame-local turns: they change the frame of their own goroutine alone, and read nothing else.
+-- Frame-local turns: they change only the frame of their own goroutine, and read nothing else.
 use Rattle.std.specs.Prelude.{◌≡◌, ℕ, Bool, true, false, List, [], ◌∷◌, Option, Some, None, ◌⊎◌}
 use Rattle.golf_theory.specs.Maps.{find, IsRising}
 use Rattle.golf_data.specs.declared.code.Code.{Code}
@@ -44,14 +44,14 @@ is_local _ = false
 abbrev pub StandsAlone : Actor → List Change → Type 0
 StandsAlone a cs = (cs ≡ []) ⊎ ((f : FrameView) × (cs ≡ stands a f))
 
--- a frame-local instruction has the same changes in each state and with each choice, and they are those of its frame
+-- a frame-local instruction has the same changes in each state and with each choice, and they change only its frame
 abbrev pub LocalInstructions : Type 0
 LocalInstructions = (code : Code) (i : Instr) → is_local i ≡ true → (a : Actor) (choice other : ℕ) (s t : State)
     → (changes code i a choice s ≡ changes code i a other t) × StandsAlone a (changes code i a choice s)
 
 -- ---- turns
 
--- the goroutine runs, and stands at a frame-local instruction
+-- the goroutine runs, and its next instruction is frame-local
 pub record IsLocal (code : Code) (r : GoroutineView) : Type 0 where
   pub runs : r.mode ≡ Mode.Running
   pub frame : FrameView
@@ -67,8 +67,8 @@ abbrev pub becomes : ℕ → Option GoroutineView → State → State
 becomes g None s = s
 becomes g (Some r) s = become g r s
 
--- what a goroutine at a frame-local instruction becomes by its turn, whatever the state, and whatever the choice; the
--- same goroutines can run after it
+-- the turn of a goroutine at a frame-local instruction has one outcome, whatever the state and the choice; the same
+-- goroutines can run after it
 pub record HasLocalTurn (code : Code) (g : ℕ) (r : GoroutineView) : Type 0 where
   pub after : Option GoroutineView
   pub steps : (s : State) (c : ℕ) → whose_turn s c ≡ Some g → find g s.goroutines ≡ Some r
@@ -81,15 +81,15 @@ LocalTurns = (code : Code) (g : ℕ) (r : GoroutineView) → IsLocal code r → 
 
 -- ---- changes of other turns
 
--- the change is one of the goroutine of this number
+-- the change is a change of the goroutine of this number
 abbrev pub IsOf : ℕ → Change → Type 0
 IsOf g (Change.Become k r) = k ≡ g
 IsOf g (Change.Block k kind line waits r) = k ≡ g
 IsOf g (Change.PassOn k m) = k ≡ g
 IsOf g _ = ⊥
 
--- what a goroutine that runs has become is not seen by a change of another one, nor by a goroutine that gets another
--- number: the two can be exchanged
+-- the new entry of a goroutine that runs can be exchanged with a change that is not of this goroutine and does not give
+-- its number
 abbrev pub LocalChangesCommute : Type 0
 LocalChangesCommute = (change : Change) (g : ℕ) (r : GoroutineView) (s : State) → r.mode ≡ Mode.Running
     → (IsOf g change → ⊥) → (g ≡ s.next_goroutine → ⊥) → apply change (become g r s) ≡ become g r (apply change s)

@@ -1,12 +1,12 @@
-//! The words after the name of the program that looks at every schedule.
+//! The words of the program that looks at every schedule.
 //!
-//! - `parse`: the line, or none if the words stand for none. `clap` splits the words.
-//! - `ExploreLine`: what a line asks for.
+//! - `parse`: the command line, or `None` if the words stand for none. `clap` splits the words.
+//! - `ExploreLine`: the request of a command line.
 #![tactic(auto)]
 
 mod line;
 mod reading;
 mod splitting;
 
-pub use line::{DEFAULT_STATES, ExploreLine, MOST_STATES};
+pub use line::{DEFAULT_STATES, ExploreLine, MOST_STATES, Question, SearchFor, SearchOptions};
 pub use reading::parse;

@@ -1,14 +1,69 @@
-//! What a line asks for.
+//! The request of a command line, and its limits (this runtime's rule).
 
-/// The states that a search keeps at most, unless a word says otherwise.
+ghost use Rattle.std.specs.Prelude.{◌≡◌};
+ghost use Rattle.golf_explore_words.specs.Words.{states_in};
+
+use golf_run_schedules::RunOptions;
+
+/// The most states that a search keeps without `--states`.
 pub const DEFAULT_STATES: u32 = 100_000;
 
-/// The most states that words may ask for.
+/// The most states that `--states` may ask for.
 pub const MOST_STATES: u32 = 1_000_000;
 
-/// What the program is to do with the file on standard input.
+/// The most numbers of written choices that `trace` takes.
+pub(crate) const MOST_TRACED: u32 = 100_000;
+
+/// How many preemptions the schedules of a search have at most without `--preemptions`.
+pub(crate) const DEFAULT_PREEMPTIONS: u32 = 2;
+
+/// The most preemptions that `--preemptions` may ask for.
+pub(crate) const MOST_PREEMPTIONS: u32 = 16;
+
+/// What a search looks for.
 #[derive(Clone, Copy, Debug, PartialEq, Eq)]
-pub enum ExploreLine {
-    /// It looks at all schedules, and keeps so many states at most, from 1 to `MOST_STATES`.
+pub enum SearchFor {
+    Leak,
+    Panic,
+    Asleep,
+}
+
+/// The options of a search.
+#[derive(Clone, Copy, Debug, PartialEq, Eq)]
+pub struct SearchOptions {
+    pub aim: SearchFor,
+    /// The most preemptions of a schedule, up to 16.
+    pub preemptions: u32,
+    /// The most states that the search keeps, from 1 to `MOST_STATES`.
+    pub states: u32,
+}
+
+/// A question about the schedules of a file.
+#[derive(Clone, Copy, Debug, PartialEq, Eq)]
+pub enum Question {
+    /// What do all schedules come to? The search keeps at most this many states, from 1 to `MOST_STATES`.
     All(u32),
+    /// Which schedule leaks, or ends so, with how few preemptions?
+    Search(SearchOptions),
+}
+
+impl Question {
+    /// Returns the most states that a search for the answer keeps.
+    pub fn states(self) -> u32
+        ensures { result ≡ states_in self }
+    {
+        match self {
+            Question::All(most) => most,
+            Question::Search(options) => options.states,
+        }
+    }
+}
+
+/// The request of a command line, for the file on standard input.
+#[derive(Debug, Drop)]
+pub enum ExploreLine {
+    /// Answer this question.
+    Ask(Question),
+    /// Run by these options, and tell each turn.
+    Trace(RunOptions),
 }

@@ -1,17 +1,18 @@
-//! The words, split by `clap`.
+//! Splits the words with `clap`.
+//!
+//! `specs/Words.antt` describes the same commands.
 
 ghost use Rattle.std.specs.Prelude.{◌≡◌, IfOk, false, map, option_and_then, string_bytes};
 ghost use Rattle.clap.specs.declared.builder.Command.TheViews.{out-Command};
 ghost use Rattle.clap.specs.Simple.{app_of, subcommand_rows_of};
-ghost use Rattle.golf_explore_words.specs.Words.{all_app, explorer_app, split_of};
+ghost use Rattle.golf_explore_words.specs.Words.{all_app, explorer_app, search_app, split_of, trace_app};
 
-use clap::error::ErrorKind;
 use clap::{ArgMatches, Command};
 use golf_base::Memory;
-use golf_command_words::{option, program, with};
+use golf_command_words::{match_words, option, program, with, with_run_options};
 use std::alloc::{AllocError, Global};
 
-// `all`, with its option.
+// The subcommand `all`, with its option.
 fn all_command<'a>(alloc: Global) -> Result<Command<'a>, AllocError>
     ensures app { IfOk result (λ command. app_of command ≡ all_app) }
     ensures local { IfOk result (λ command. (out-Command command).has_globals ≡ false) }
@@ -19,17 +20,41 @@ fn all_command<'a>(alloc: Global) -> Result<Command<'a>, AllocError>
     with(Command::new(alloc, "all"), option(alloc, "states"))
 }
 
-// The program.
+// The subcommand `search`, with its options.
+fn search_command<'a>(alloc: Global) -> Result<Command<'a>, AllocError>
+    ensures app { IfOk result (λ command. app_of command ≡ search_app) }
+    ensures local { IfOk result (λ command. (out-Command command).has_globals ≡ false) }
+{
+    let bare = Command::new(alloc, "search");
+    let one = with(bare, option(alloc, "preemptions"))?;
+    let two = with(one, option(alloc, "states"))?;
+    let three = with(two, option(alloc, "for"))?;
+    Ok(three)
+}
+
+// The subcommand `trace`, with the options of a run.
+fn trace_command<'a>(alloc: Global) -> Result<Command<'a>, AllocError>
+    ensures app { IfOk result (λ command. app_of command ≡ trace_app) }
+    ensures local { IfOk result (λ command. (out-Command command).has_globals ≡ false) }
+{
+    with_run_options(alloc, Command::new(alloc, "trace"))
+}
+
+// The whole program, with its subcommands.
 fn whole<'a>(alloc: Global) -> Result<Command<'a>, AllocError>
     ensures { IfOk result (λ command. app_of command ≡ explorer_app) }
 {
     let bare = program(alloc);
     let all = all_command(alloc)?;
     let one = bare.subcommand(all)?;
-    Ok(one)
+    let search = search_command(alloc)?;
+    let two = one.subcommand(search)?;
+    let trace = trace_command(alloc)?;
+    let three = two.subcommand(trace)?;
+    Ok(three)
 }
 
-/// Returns what `clap` makes of the words, or none if it refuses them.
+/// Returns the matches that `clap` finds in the words, or `None` if it refuses them.
 pub(crate) fn split<'a>(
     alloc: Global,
     words: &'a [String],
@@ -37,9 +62,5 @@ pub(crate) fn split<'a>(
     ensures { IfOk result (λ found. option_and_then subcommand_rows_of found ≡ split_of (map string_bytes words.now)) }
 {
     let command = whole(alloc)?;
-    match command.try_get_matches_from(words) {
-        Ok(matches) => Ok(Some(matches)),
-        Err(error) if error.kind() == ErrorKind::OutOfMemory => Err(Memory),
-        Err(_) => Ok(None),
-    }
+    match_words(command, words)
 }

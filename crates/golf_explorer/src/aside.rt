@@ -1,8 +1,8 @@
-//! The top call on a thread that has its stack beforehand.
+//! The top call, on a thread whose stack is taken beforehand.
 //!
-//! `explorer` goes down into the nesting of a file. The stack of the process grows by pages: if one is
-//! refused, or the limit of the stack is small, the system ends the process. The stack of this
-//! thread is taken whole before anything is read, so that want of memory for it is an answer.
+//! `explorer` recurses into the nesting of a file. The stack of a process grows page by page. If the system
+//! refuses a page, or the limit of the stack is small, it kills the process. The stack of this thread is
+//! taken whole before anything is read. So a lack of memory for the stack is an answer.
 
 ghost use Rattle.std.specs.Prelude.{◌≡◌, IfOk};
 ghost use Rattle.golf_run.specs.HasRun.{sinks};
@@ -15,11 +15,11 @@ use golf_run_texts::Status;
 use std::snapshot::Snapshot;
 use std::thread::{Builder, Promise, Threads};
 
-/// The bytes of its stack: what the stack of a process may have by default. The deepest nesting that a file may
-/// have needs about 2 MB of them.
+/// The bytes of the stack: as many as the stack of a process has by default. The deepest nesting that a
+/// file may have needs about 2 MB of them.
 const STACK: usize = 8 * 1024 * 1024;
 
-/// How a call ended, with its streams.
+/// The status of a call, and its streams after it.
 #[derive(Drop)]
 pub(crate) struct Ended<S, O, E> {
     pub(crate) status: Status,
@@ -28,7 +28,7 @@ pub(crate) struct Ended<S, O, E> {
     pub(crate) err: E,
 }
 
-// The words and the streams with which it began, for clauses alone.
+// The words and the streams before the call. Only clauses use them.
 #[derive(Drop)]
 struct Begun<S, O, E> {
     words: Snapshot<Vec<String>>,
@@ -43,8 +43,8 @@ impl<S: Source, O: Sink, E: Sink> Promise<Ended<S, O, E>> for Begun<S, O, E> {
         (seen (S.left e.source) (S.faults e.source) (sinks (O.written e.out) (O.faults e.out) (E.written e.err) (E.faults e.err))) };
 }
 
-/// Does all that `explorer` does, on a thread of its own. `Memory` if that cannot be made: then nothing
-/// is read or written.
+/// Does all that `explorer` does, on its own thread. The error is `Memory` if the thread cannot be made;
+/// then nothing is read or written.
 pub(crate) fn explorer_aside<
     R: AllocGlobal + Threads + Sync + Send + Copy + 'static,
     S: Source + Send + Drop + 'static,

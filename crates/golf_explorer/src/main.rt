@@ -1,4 +1,6 @@
 //! The program that looks at every schedule of the Go file on standard input.
+//!
+//! It makes the streams, gets the words, and exits with the number of the status.
 #![tactic(auto)]
 
 mod aside;
@@ -12,8 +14,8 @@ use std::env;
 use std::io::ErrorKind;
 use std::process::ExitCode;
 
-/// The words after the program's name, or the status if they cannot be had: out of memory, or a word that is no
-/// UTF-8 and so no word of the grammar.
+/// Returns the words after the program's name, or the status if there are none. Then memory has run out, or
+/// a word is not UTF-8, and so no word that the program knows.
 fn arguments(rt: &HostRuntime) -> Result<Vec<String>, Status> {
     let args = match env::args(rt) {
         Ok(args) => args,

@@ -1,4 +1,4 @@
--- The graph that is gone through backwards.
+-- The reversed graph.
 use Rattle.std.specs.Prelude.{◌≡◌, ◌<◌, ◌↔◌, ℕ, Bool, List, [], length}
 use Rattle.golf_theory.specs.Membership.{In}
 use Rattle.golf_base.specs.declared.ids.ObjectId.{ObjectId}
@@ -6,13 +6,13 @@ use Rattle.golf_model.specs.declared.graph.GraphParts.{GraphParts}
 use Rattle.golf_model.specs.Graph.{node_count, children_of, NumbersRise}
 use Rattle.golf_final.specs.Keeping.{Prevents}
 
--- so many numbers, which rise from the first
+-- `many` numbers, which rise from `first`
 pub record HasNumbers (first many : ℕ) (numbers : List ObjectId) : Type 0 where
   pub count : length numbers ≡ many
   pub rise : NumbersRise first numbers
 
--- it has the same nodes; each leads to those that have it as a child, and the roots are those that keep whoever comes
--- to them
+-- The reversed graph has the same nodes and all edges reversed. Its roots are the nodes that keep each dead goroutine
+-- that reaches them.
 pub record IsBackward (g : GraphParts) (flags : List Bool) (sets_finalisers : Bool) (b : GraphParts) : Type 0 where
   pub nodes : node_count b ≡ node_count g
   pub none : b.sleepers ≡ []

@@ -15,38 +15,38 @@ use Rattle.golf_mark.specs.Marking.{MarksLeast}
 use Rattle.golf_snapshot.specs.Parts.{live_parts}
 use Rattle.golf_snapshot.specs.Stands.{IsSleeper}
 
--- a node has another one as a child
+-- the second node is a child of the first
 abbrev pub HasChild : GraphParts → ℕ → ℕ → Type 0
 HasChild g from to = In to (children_of g from)
 
--- what some nodes come to
+-- the node is reached from one of these nodes
 abbrev pub ComesTo : GraphParts → List ℕ → ℕ → Type 0
 ComesTo g starts = Reached (λ p. In p starts) (HasChild g)
 
--- what keeps a dead goroutine that comes to it: a node with a finaliser, and a marked one if the code sets finalisers
+-- the node keeps each dead goroutine that reaches it: it has a finaliser, or it is marked and the code sets finalisers
 abbrev pub Prevents : GraphParts → List Bool → Bool → ℕ → Type 0
 Prevents g flags sets_finalisers p = IsSet g.finalised p ⊎ ((sets_finalisers ≡ true) × IsSet flags p)
 
--- a sleeper that is not awake is kept if it comes to such a node
+-- a sleeper is kept if it is not awake and reaches such a node
 abbrev pub IsKept : GraphParts → Marked → Bool → ℕ → Type 0
 IsKept g m sets_finalisers s =
     (IsSet m.awake s → ⊥) × ((p : ℕ) × ComesTo g (sleeper_references g s) p × Prevents g m.flags sets_finalisers p)
 
--- one flag a sleeper: whether it is kept
+-- a flag for each sleeper: whether it is kept
 pub record HasKept (g : GraphParts) (m : Marked) (sets_finalisers : Bool) (flags : List Bool) : Type 0 where
   pub count : length flags ≡ sleeper_count g
   pub kept : (s : ℕ) → s < sleeper_count g → IsSet flags s ↔ IsKept g m sets_finalisers s
 
--- a sleeper's flag is set if its goroutine is dead and the keep rule of the definitions keeps it
+-- a sleeper's flag is set exactly when its goroutine is dead and the keep rule of the definitions keeps it
 abbrev pub FlagsKept : State → Bool → List Bool → Type 0
 FlagsKept s sets_finalisers flags = (j g : ℕ) → IsSleeper s j g → IsSet flags j ↔ (Dead s g × Keeps s sets_finalisers g)
 
--- on the marked graph of a state
+-- this holds on the marked live graph of a state
 abbrev pub KeepsAlike : Type 0
 KeepsAlike = (s : State) (m : Marked) (sets_finalisers : Bool) (flags : List Bool) → Numbered s → IsWhole s
     → MarksLeast (live_parts s) m → HasKept (live_parts s) m sets_finalisers flags → FlagsKept s sets_finalisers flags
 
--- if the graph is that of a state, and marked
+-- this holds if the graph is the live graph of a state, and is marked
 abbrev pub KeepsOf : GraphParts → Marked → Bool → List Bool → Type 0
 KeepsOf g m sets_finalisers flags = (s : State) → Numbered s → IsWhole s → g ≡ live_parts s → MarksLeast g m
     → FlagsKept s sets_finalisers flags

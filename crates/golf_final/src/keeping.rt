@@ -1,4 +1,6 @@
-//! The keep rule, once for all sleepers.
+//! The keep rule, for all sleepers in one pass.
+//!
+//! A dead goroutine is kept if it reaches an object that its removal could let a finaliser run on.
 
 ghost use Rattle.std.specs.Prelude.{◌≡◌, ◌<◌, ◌↔◌, ℕ, IfOk, OnOk, IsTrue, length};
 ghost use Rattle.golf_theory.specs.Membership.{In};
@@ -12,14 +14,14 @@ use golf_mark::mark_alone;
 use golf_model::{Graph, GraphParts, Marked, Sleepers};
 use std::alloc::Global;
 
-/// Whether a flag is set; there is none past the last one.
+/// Returns whether a flag is set. A number past the last flag counts as not set.
 pub(crate) fn is_set(flags: &[bool], at: u32) -> bool
     ensures { IsTrue result ↔ IsSet flags.now at }
 {
     flags.get(at as usize) == Some(&true)
 }
 
-// Whether a node keeps whoever comes to it.
+// Whether a node keeps each dead goroutine that reaches it.
 fn prevents(graph: &Graph, flags: &[bool], sets_finalisers: bool, node: u32) -> bool
     requires { node < node_count graph.now }
     ensures { IsTrue result ↔ Prevents graph.now flags.now sets_finalisers node }
@@ -30,7 +32,7 @@ fn prevents(graph: &Graph, flags: &[bool], sets_finalisers: bool, node: u32) -> 
     sets_finalisers && is_set(flags, node)
 }
 
-// The nodes that keep whoever comes to them.
+// The nodes that keep each dead goroutine that reaches them.
 fn preventing(
     alloc: Global,
     graph: &Graph,
@@ -48,7 +50,7 @@ fn preventing(
     Ok(nodes)
 }
 
-// The numbers of the nodes, from 0.
+// The numbers from 0 up to below `count`.
 fn count_up(alloc: Global, count: u32) -> Result<List<ObjectId>, Memory>
     ensures { IfOk result (HasNumbers 0 count) }
 {
@@ -59,8 +61,8 @@ fn count_up(alloc: Global, count: u32) -> Result<List<ObjectId>, Memory>
     Ok(numbers)
 }
 
-// The graph in which each node leads to those that have it as a child, from those that keep whoever
-// comes to them.
+// The graph with all edges reversed. Its roots are the nodes that keep each dead goroutine that reaches
+// them.
 fn backward(
     alloc: Global,
     graph: &Graph,
@@ -85,7 +87,7 @@ fn backward(
     }))
 }
 
-// Whether one of these flags is set.
+// Whether the flag of one of these nodes is set.
 fn any_set(flags: &[bool], nodes: &[u32]) -> bool
     ensures { IsTrue result ↔ ((p : ℕ) × In p nodes.now × IsSet flags.now p) }
 {
@@ -97,7 +99,7 @@ fn any_set(flags: &[bool], nodes: &[u32]) -> bool
     false
 }
 
-// Whether a sleeper is not awake, and one of its references is set.
+// Whether a sleeper is not awake, and the flag of one of its references is set.
 fn is_kept(leading: &[bool], awake: &[bool], sleeper: u32, references: &[u32]) -> bool
     ensures { IsTrue result ↔ ((IsSet awake.now sleeper → ⊥) × ((p : ℕ) × In p references.now × IsSet leading.now p)) }
 {
@@ -107,10 +109,11 @@ fn is_kept(leading: &[bool], awake: &[bool], sleeper: u32, references: &[u32]) -
     any_set(leading, references)
 }
 
-/// For each sleeper of a graph whether it is kept: it is not awake, and it comes to an object that has
-/// a finaliser, or, if the code sets finalisers, to a live one (profile, keep rule).
+/// Returns for each sleeper of a graph whether it is kept (profile, keep rule). It is kept if it is not
+/// awake, and reaches an object that has a finaliser. If the code sets finalisers, it is also kept if it
+/// reaches a live object.
 ///
-/// The graph is gone through once, backwards from those objects, for all sleepers.
+/// One pass over the reversed graph, from those objects, serves all sleepers. The only error is `Memory`.
 pub fn keeps(
     alloc: Global,
     graph: &Graph,

@@ -1,8 +1,8 @@
-//! What the flags of the keep rule are on the graph of a state.
+//! A law on the keep rule on the graph of a state.
 
 ghost use Rattle.golf_final.specs.Keeping.{KeepsAlike};
 
-/// On the graph whose least closed set is the live set, marked, a sleeper is kept exactly if its
+/// States when a sleeper is kept, on the marked live graph of a state. It is kept exactly when its
 /// goroutine is dead and the keep rule of the definitions keeps it.
 pub fn keeps_law()
     ensures { KeepsAlike }

@@ -1,5 +1,7 @@
-//! What a collection does because of finalisers: which dead goroutines it keeps, by the keep rule, and
-//! which finalisers are to be called.
+//! The part of a collection that finalisers need.
+//!
+//! - `keeps`: the dead goroutines that the keep rule keeps.
+//! - `queue_finalisers`: moves the finalisers of unreached objects to the finaliser queue.
 #![tactic(auto)]
 
 mod keeping;

@@ -1,4 +1,6 @@
-//! The finalisers that are to be called.
+//! Moves finalisers to the finaliser queue.
+//!
+//! An object that is not marked loses its finaliser, and joins the queue with its function.
 
 ghost use Rattle.std.specs.Prelude.{◌≡◌, ◌+◌, IfOk, OnOk, OnErr, length, map};
 ghost use Rattle.golf_theory.specs.Maps.{keys};
@@ -13,7 +15,7 @@ use golf_model::Marked;
 use golf_state::State;
 use std::alloc::Global;
 
-// For each finaliser whether its object's flag is set.
+// For each finaliser whether the flag of its object is set.
 fn flagged(alloc: Global, state: &State, flags: &[bool]) -> Result<List<bool>, Memory>
     requires count { length flags.now ≡ length state.now.objects }
     requires whole { IsWhole state.now }
@@ -28,9 +30,9 @@ fn flagged(alloc: Global, state: &State, flags: &[bool]) -> Result<List<bool>, M
     Ok(stays)
 }
 
-/// Each object with a finaliser that is not marked loses it and joins the queue with that function,
-/// in rising order of number (package runtime, `SetFinalizer`). The answer is how many joined. A
-/// call that answers `Memory` leaves the state unchanged.
+/// Moves the finaliser of each object that is not marked to the finaliser queue, in rising order of object
+/// (package runtime, `SetFinalizer`). Returns how many it moved. On `Err`, which is `Memory`, the state is
+/// unchanged.
 pub fn queue_finalisers(
     alloc: Global,
     state: &mut State,

@@ -1,5 +1,5 @@
--- The rule of one deque: what was pushed to it was taken or is in it, each place as often; all are below a number, and
--- they are no more than another.
+-- The rule of one deque. The places that were pushed to it are those taken from it and those in it, each as often. All
+-- are below a bound, and the pushes are at most the capacity.
 use Rattle.std.specs.Prelude.{◌≡◌, ℕ, ◌+◌, ◌-◌, ◌<◌, ◌≤◌, List, [], ◌∷◌, ◌++◌, length, sum_by}
 use mathlib.Core.Option.{some}
 use lib.ListN.{get_elem?}
@@ -10,28 +10,28 @@ abbrev pub grey : ℕ → ℕ → ℕ → ℕ → List ℕ → List ℕ → Grey
 grey parts pushers places capacity pushed taken =
     record { parts = parts; pushers = pushers; places = places; capacity = capacity; pushed = pushed; taken = taken }
 
--- as many parts as there may be hands, and more
+-- more parts than there may be hands
 abbrev pub all_parts : ℕ
 all_parts = 4294967296
 
--- before a deque has its numbers: above every u32
+-- the two numbers before a deque has them: above every u32
 abbrev pub unbound : ℕ
 unbound = 4294967296
 
 abbrev pub first_view : GreyView
 first_view = grey all_parts 1 unbound unbound [] []
 
--- all are below this number of places
+-- all places are below this number
 abbrev pub AllBelow : ℕ → List ℕ → Type 0
 AllBelow places xs = Every (λ x. x < places) xs
 
--- how many they are
+-- the number of places
 abbrev pub count : List ℕ → ℕ
 count xs = sum_by (λ _. 1) xs
 
--- the parts add up, and one view alone may have pushed; for every weight of places, what was pushed weighs as much as
--- what was taken and what is in the deque; a view without a part has done nothing; each other knows the two numbers,
--- and what is in the deque is below the first, and what was pushed is no more than the second
+-- The parts add up, and at most one view may push. For every weight of places, the pushed places weigh as much as those
+-- taken and those in the deque. A view without a part has done nothing. Any other view knows the two numbers. The
+-- places in the deque are below the first number, and the pushes are at most the second.
 pub record BalancedAt (places capacity : ℕ) (items : List ℕ) (views : List GreyView) : Type 0 where
   pub parts : sum_by (λ v. v.parts) views ≡ all_parts
   pub pushers : sum_by (λ v. v.pushers) views ≡ 1
@@ -47,12 +47,12 @@ pub record BalancedAt (places capacity : ℕ) (items : List ℕ) (views : List G
 abbrev pub Balanced : List ℕ → List GreyView → Type 0
 Balanced items views = (places : ℕ) × (capacity : ℕ) × BalancedAt places capacity items views
 
--- a push adds to what was pushed
+-- a push adds its places to those that were pushed
 pub record Pushed (v : GreyView) (xs : List ℕ) (w : GreyView) : Type 0 where
   pub view : w ≡ grey v.parts v.pushers v.places v.capacity (v.pushed ++ xs) v.taken
 
--- a take adds to what was taken, which is below the number of places and no more than may be pushed; who has every part
--- has not taken more than was pushed
+-- A take adds its places to those that were taken. They are below the bound, and all takes are at most the capacity. A
+-- view with all parts has taken at most as many places as were pushed.
 pub record Taken (v : GreyView) (xs : List ℕ) (w : GreyView) : Type 0 where
   pub view : w ≡ grey v.parts v.pushers v.places v.capacity v.pushed (v.taken ++ xs)
   pub low : AllBelow v.places xs
@@ -67,7 +67,7 @@ abbrev pub second_of : List ℕ → ℕ
 second_of [] = 0
 second_of (x ∷ xs) = head_of xs
 
--- the two numbers that were pushed are how often may be pushed and the number of places; they count as no places
+-- the two numbers that were pushed are the capacity and the bound of the places; they do not count as places
 pub record Named (v : GreyView) (w : GreyView) : Type 0 where
   pub view : w ≡ grey v.parts v.pushers (second_of v.pushed) (head_of v.pushed) [] []
 
@@ -75,18 +75,18 @@ pub record Named (v : GreyView) (w : GreyView) : Type 0 where
 abbrev pub WasEmpty : GreyView → Type 0
 WasEmpty v = (port : ℕ) × (views : List GreyView) × Balanced [] views × (get_elem? views port ≡ some v)
 
--- who has every part and found the deque empty has taken what was pushed
+-- a view with all parts that found the deque empty has taken all places that were pushed
 abbrev pub IsEven : GreyView → Type 0
 IsEven v = v.parts ≡ all_parts → (h : ℕ → ℕ) → sum_by h v.pushed ≡ sum_by h v.taken
 
--- a pass is cut off with one part
+-- a split cuts off a pass with one part
 abbrev pub left_view : GreyView → GreyView
 left_view v = grey (v.parts - 1) v.pushers v.places v.capacity v.pushed v.taken
 
 abbrev pub right_view : GreyView → GreyView
 right_view v = grey 1 0 v.places v.capacity [] []
 
--- a pass is taken back with all that it did
+-- a join takes a pass back, with all that it did
 abbrev pub both_views : GreyView → GreyView → GreyView
 both_views v w = grey (v.parts + w.parts) (v.pushers + w.pushers) v.places v.capacity (v.pushed ++ w.pushed)
     (v.taken ++ w.taken)

@@ -1,4 +1,6 @@
 //! The end of a pool: each deque gets back its passes, and is emptied.
+//!
+//! An owner that has all parts back is alone with its deque. So it can take out all that is left.
 
 ghost use Rattle.std.specs.Prelude.{◌≡◌, ◌+◌, ◌-◌, ◌<◌, ◌≤◌, ℕ, sum_by, length, remove, List as SpecList, [], ◌∷◌};
 ghost use Rattle.std.specs.Prelude.{◌++◌};
@@ -16,7 +18,7 @@ use crate::rule::{Deal, GreyView, Owner, Take, Thief};
 use crossbeam_deque::Pass;
 use golf_base::{List, Room};
 
-// Takes the hand of this number out of a list.
+// Removes the hand of this number from a list.
 fn take_hand(rest: &mut List<GreyHand>, number: usize) -> GreyHand
     requires { (k : ℕ) × (h : SpecHand) × (get_elem? rest.old k ≡ some h) × (h.number ≡ number) }
     ensures from { (k : ℕ) × (get_elem? rest.old k ≡ some result) × (rest.new ≡ remove rest.old k) }
@@ -30,7 +32,7 @@ fn take_hand(rest: &mut List<GreyHand>, number: usize) -> GreyHand
     unreachable!()
 }
 
-// The owners by rising number, and all rows of passes.
+// The owners in rising order of number, and all rows of passes.
 pub(crate) fn take_apart(
     thieves: &Vec<Thief>,
     capacity: u32,
@@ -70,7 +72,7 @@ pub(crate) fn take_apart(
     (owners, rows)
 }
 
-// An owner takes in a pass.
+// Merges a pass into its owner.
 fn absorb_one(
     thieves: &Vec<Thief>,
     owners: &mut Vec<Owner>,
@@ -91,7 +93,7 @@ fn absorb_one(
     owner.absorb::<Deal>(pass);
 }
 
-// The owners take in a row of passes.
+// Merges a row of passes into the owners.
 pub(crate) fn absorb_row(
     thieves: &Vec<Thief>,
     owners: &mut Vec<Owner>,
@@ -112,7 +114,7 @@ pub(crate) fn absorb_row(
     }
 }
 
-// All that is left in a deque.
+// Moves all places that are left in a deque to the end of `left`.
 fn drain(owner: Owner, left: &mut Room<u32>)
     requires flavor { worker_flavor owner ≡ 0 }
     requires all { (worker_view owner).parts ≡ all_parts }
@@ -126,7 +128,7 @@ fn drain(owner: Owner, left: &mut Room<u32>)
     }
 }
 
-// All that is left in the deques.
+// All places that are left in the deques.
 pub(crate) fn drain_all(owners: Vec<Owner>, left: Room<u32>) -> List<u32>
     requires owners { (j : ℕ) (w : SpecOwner) → get_elem? owners.items j ≡ some w → (worker_flavor w ≡ 0) × ((worker_view w).parts ≡ all_parts) }
     requires empty { left.items ≡ [] }

@@ -1,4 +1,6 @@
-//! What one marker pushes, takes and steals with.
+//! The hand of one marker, with which it pushes, takes and steals.
+//!
+//! Only one thread at a time uses a hand.
 
 ghost use Rattle.std.specs.Prelude.{◌≡◌, ◌<◌};
 ghost use Rattle.crossbeam_deque.specs.Handles.{worker_flavor, worker_view};
@@ -6,8 +8,7 @@ ghost use Rattle.crossbeam_deque.specs.Handles.{worker_flavor, worker_view};
 use crate::rule::{GreyView, Owner};
 use crossbeam_deque::Pass;
 
-/// A deque of its own, from whose front it takes, and a pass for each deque; and the space that the
-/// end of the pool needs.
+/// One deque of its own, and a pass for each deque. It also has the space that the end of the pool needs.
 #[derive(Drop)]
 pub struct GreyHand {
     pub(crate) own: Owner,

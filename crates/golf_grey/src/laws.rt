@@ -1,9 +1,9 @@
-//! What the rule cannot tell.
+//! A law on the limits of the rule.
 
 ghost use Rattle.golf_grey.specs.Laws.{TellsNothingNew};
 
-/// States that what `GreyPool::take` tells of a deque that it found empty was true of the hand before.
-/// So nothing that a hand knows later depends on it.
+/// States that `GreyPool::take` tells a hand nothing new if it finds a deque empty: the hand knew it
+/// before. So no later knowledge of a hand depends on it.
 pub fn none_law()
     ensures { TellsNothingNew }
 {}

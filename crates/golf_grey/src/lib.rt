@@ -1,8 +1,8 @@
-//! Grey places: marked and not yet scanned. Each hand pushes to a deque of its own, takes from its
-//! front, and steals from the fronts of the others.
+//! The worklist of marking. A grey place is marked and not yet scanned. Each hand pushes to its own deque,
+//! takes from the front of it, and steals from the fronts of the others.
 //!
-//! What all hands took and what is left is what was pushed, each place as often, and so for each
-//! deque. Steps take no memory and never wait.
+//! The invariant: the places that were pushed are those that were taken and those that are left, each as
+//! often. It holds for all hands together and for each deque. Steps take no memory and never wait.
 #![tactic(auto)]
 
 mod drain;

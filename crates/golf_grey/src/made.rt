@@ -1,4 +1,6 @@
-//! The deques with their passes, as they are made.
+//! Makes the deques with their passes.
+//!
+//! Each hand gets its own deque, and a row with one pass for each deque.
 ghost use Rattle.std.specs.Prelude.{◌≡◌, ◌+◌, ◌-◌, ◌<◌, ◌≤◌, ℕ, length, IfOk, OnOk, vec_len};
 ghost use Rattle.golf_grey.specs.Rule.{all_parts};
 ghost use Rattle.golf_grey.specs.Hands.{IsStage, AllFresh, RowFits, IsRow, row_weight, AreNewRows, RowIsNew};
@@ -30,7 +32,7 @@ pub(crate) fn make_owners(
     Ok((owners, thieves))
 }
 
-// A pass of one deque, whose owner has one part less.
+// Cuts a pass of one deque off its owner, which then has one part less.
 fn make_pass(
     thieves: &Vec<Thief>,
     owners: &mut Vec<Owner>,
@@ -58,7 +60,7 @@ fn make_pass(
     Ok(())
 }
 
-// A pass of each deque.
+// Makes a row: a pass of each deque.
 fn make_row(
     alloc: Global,
     thieves: &Vec<Thief>,
@@ -84,7 +86,7 @@ fn make_row(
     Ok(row)
 }
 
-// As many rows.
+// Makes a row for each hand.
 pub(crate) fn make_rows(
     alloc: Global,
     thieves: &Vec<Thief>,

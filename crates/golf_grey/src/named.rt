@@ -1,5 +1,7 @@
-//! A deque that knows its numbers. A rule has none that come at run time, so its owner pushes them
-//! and takes them out again before any place comes.
+//! Makes a deque that knows its two numbers: its capacity, and the bound of its places.
+//!
+//! A rule cannot have numbers that come at run time. So the owner pushes the two numbers, and takes them
+//! out again before it pushes any place.
 
 ghost use Rattle.std.specs.Prelude.{◌≡◌, ◌+◌, ◌≤◌, [], IfOk};
 ghost use Rattle.crossbeam_deque.specs.Handles.{worker_capacity, worker_flavor, worker_index, worker_view};
@@ -9,7 +11,7 @@ use crate::rule::{Name, Owner, Push, Take};
 use golf_base::Memory;
 use std::alloc::Global;
 
-// The deque takes so many pushes, and only places below a number.
+// Tells the deque how many pushes it takes, and that its places are below `places`.
 fn name(owner: &mut Owner, capacity: u32, places: u32)
     requires flavor { worker_flavor owner.old ≡ 0 }
     requires view { worker_view owner.old ≡ first_view }
@@ -37,7 +39,7 @@ fn name(owner: &mut Owner, capacity: u32, places: u32)
     }
 }
 
-// The owner of a new deque, with room for so many pushes.
+// Makes the owner of a new deque, with room for `capacity` pushes.
 pub(crate) fn make_owner(alloc: Global, capacity: u32, places: u32) -> Result<Owner, Memory>
     ensures flavor { IfOk result (λ w. worker_flavor w ≡ 0) }
     ensures view { IfOk result (λ w. worker_view w ≡ grey all_parts 1 places capacity [] []) }

@@ -1,4 +1,6 @@
-//! A pool with its hands, as they are made.
+//! Makes a pool and its hands.
+//!
+//! It takes all memory that the pool needs until its end.
 
 ghost use Rattle.std.specs.Prelude.{◌≡◌, ◌<◌, length, IfOk};
 ghost use Rattle.crossbeam_deque.specs.Handles.{worker_flavor, worker_view};
@@ -14,8 +16,8 @@ use std::alloc::Global;
 impl GreyPool {
     ghost use Rattle.golf_grey.specs.Hands.{AreAllHands, AreNewHands, FallTo0, capacity_of, hand_count, places_of};
 
-    /// A pool, and its hands by falling number. Each hand may push `capacity` times, and only what is
-    /// below `places`.
+    /// Returns a pool, and its hands by falling number. Each hand may push `capacity` times, and only
+    /// places below `places`. The only error is `Memory`.
     pub fn new(
         alloc: Global,
         hands: u32,

@@ -1,4 +1,6 @@
-//! The deques of all hands, as thieves see them.
+//! The pool: the deques of all hands, as thieves see them.
+//!
+//! Threads share it through a `&`, each with its own hand.
 
 ghost use Rattle.std.specs.Prelude.{◌≡◌, ◌+◌, ◌*◌, ℕ, ◌<◌, ◌≤◌, ◌∷◌, [], ◌++◌, length, sum_by, IfSome, IfNone};
 ghost use Rattle.std.specs.Prelude.{List as SpecList};
@@ -21,7 +23,7 @@ pub struct GreyPool {
     ghost left_room: { length thieves.items * capacity ≤ left.spare },
 }
 
-/// What was left in the deques of a pool.
+/// The places that were left in the deques of a pool.
 #[derive(Debug, Drop)]
 pub struct Left {
     pub places: List<u32>,
@@ -30,8 +32,8 @@ pub struct Left {
 impl GreyPool {
     ghost use Rattle.golf_grey.specs.Hands.{AreAllHands, FindsNone, IsHandOf, IsSplit, capacity_of, hand_count, option_weight, places_of, pushed, taken_list, took, took_weight, pushed_by, taken_by};
 
-    /// Adds a place to the hand's own deque. It cannot fail while the hand pushed less often than
-    /// the pool's capacity.
+    /// Adds a place to the hand's own deque. The hand has pushed less often than the pool's capacity, so
+    /// the push cannot fail.
     pub fn push(&self, hand: &mut GreyHand, place: u32)
         requires hand { IsHandOf self.now hand.old }
         requires room { length (pushed hand.old) < capacity_of self.now }
@@ -47,11 +49,14 @@ impl GreyPool {
         }
     }
 
-    /// The first place of the hand's own deque, or else one that is stolen: each other deque is
-    /// tried once. A hand takes no more places than all hands together may push.
+    /// Takes the first place of the hand's own deque, or else steals one. It tries each other deque once. A
+    /// hand takes no more places than all hands together may push.
     ///
-    /// `None` comes only if its own deque was empty at a step of this call, and each other was empty at
-    /// a step of this call or another took a place between the steps of its steal.
+    /// It returns `None` only under two conditions:
+    ///
+    /// - The hand's own deque was empty at a step of this call.
+    /// - Each other deque was empty at a step of this call, or another hand took a place between the steps
+    ///   of the steal.
     pub fn take(&self, hand: &mut GreyHand) -> Option<u32>
         requires { IsHandOf self.now hand.old }
         ensures hand { IsHandOf self.now hand.new }
@@ -70,8 +75,8 @@ impl GreyPool {
         steal_all(&self.thieves, &mut hand.passes, hand.number)
     }
 
-    /// How many places lay in the hand's own deque at one moment of the call. Others may have stolen
-    /// some since, so nothing is promised of the number.
+    /// Returns how many places were in the hand's own deque at one moment of the call. Other hands may have
+    /// stolen some since. So no clause says anything about the number.
     pub fn len(&self, hand: &mut GreyHand) -> usize
         requires { IsHandOf self.now hand.old }
         ensures hand { IsHandOf self.now hand.new }
@@ -82,9 +87,9 @@ impl GreyPool {
         hand.own.len_as::<Count>()
     }
 
-    /// What is left in the deques, from all hands in any order. With what they took it is what they
-    /// pushed, each place as often. The same holds for each deque: as often as its owner pushed a place,
-    /// hands took it from that deque or it is left there. It takes no memory.
+    /// Ends the pool, and returns the places that are left in the deques, in any order. The places that
+    /// hands pushed are those that hands took and those that are left, each as often. The same holds for
+    /// each deque. It takes no memory.
     pub fn close(self, hands: List<GreyHand>) -> Left
         requires { AreAllHands self hands }
         ensures all { (f : ℕ → ℕ) → pushed_by f hands ≡ taken_by f hands + sum_by f result.places }

@@ -1,24 +1,27 @@
-//! The rule of one deque, and the steps under it.
+//! The rule of one deque, and its steps.
+//!
+//! `specs/Rule.antt` states the invariant.
 
 use crossbeam_deque::protocol::{Join, Lesson, Outcome, Protocol, Split};
 use crossbeam_deque::{Stealer, Worker};
 use std::alloc::Global;
 use std::collections::LinkedList;
 
-/// What one hand knows of one deque. No value of it is ever made.
+/// The account of one hand on one deque. It is a ghost type: no value of it is ever made.
 pub struct GreyView {
-    /// How many parts of the deque it stands for: a pass is cut off with one, and taken back.
+    /// How many parts of the deque it stands for. A pass is cut off with one part, and gives it back.
     pub parts: u64,
-    /// 1 for its owner's, and 0 for each other.
+    /// 1 for the owner of the deque, and 0 for each other hand.
     pub pushers: u64,
-    /// All places in it are below this number.
+    /// All places in the deque are below this number.
     pub places: u64,
-    /// No more places are pushed to it.
+    /// No more places than this are pushed to the deque.
     pub capacity: u64,
     pub pushed: LinkedList<u32>,
     pub taken: LinkedList<u32>,
 }
 
+/// The rule of one deque of grey places: what all its handles saw agrees with what lies in it.
 pub struct Grey;
 
 impl Protocol<u32, GreyView> for Grey {
@@ -31,6 +34,7 @@ impl Protocol<u32, GreyView> for Grey {
     ghost guest = { spent_view };
 }
 
+/// A push: how the view of the pusher changes.
 pub struct Push;
 
 impl Outcome<u32, GreyView> for Push {
@@ -39,6 +43,7 @@ impl Outcome<u32, GreyView> for Push {
     ghost then = { λ v xs w. Pushed v xs w };
 }
 
+/// A take, by the owner or by a thief: how the view of the taker changes.
 pub struct Take;
 
 impl Outcome<u32, GreyView> for Take {
@@ -49,7 +54,7 @@ impl Outcome<u32, GreyView> for Take {
     ghost empty = { WasEmpty };
 }
 
-/// The last of two numbers comes out of the deque: its owner's view has both.
+/// The step in which the second of two numbers leaves the deque. Afterwards its owner's view has both.
 pub struct Name;
 
 impl Outcome<u32, GreyView> for Name {
@@ -60,7 +65,7 @@ impl Outcome<u32, GreyView> for Name {
     ghost empty = { WasEmpty };
 }
 
-/// A count of what lies in a deque. It tells nothing that lasts.
+/// A count of the places in a deque. It says nothing that lasts.
 pub struct Count;
 
 impl Lesson<u32, GreyView> for Count {
@@ -69,7 +74,7 @@ impl Lesson<u32, GreyView> for Count {
     ghost fact = { λ v items. ⊤ };
 }
 
-/// Passes that are cut off and taken back.
+/// Splits and joins of passes.
 pub struct Deal;
 
 impl Split<GreyView> for Deal {
@@ -88,6 +93,8 @@ impl Join<GreyView> for Deal {
     ghost spent = { spent_view };
 }
 
+/// The end of a deque where its own hand pushes and takes.
 pub type Owner = Worker<u32, Global, GreyView, Grey>;
 
+/// The end of a deque where other hands take.
 pub type Thief = Stealer<u32, Global, GreyView, Grey>;

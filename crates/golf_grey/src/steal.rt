@@ -1,4 +1,7 @@
 //! Steals from the deques of other hands.
+//!
+//! A steal is one try. It can fail although the deque is not empty, if another hand takes a place at the
+//! same time.
 
 ghost use Rattle.std.specs.Prelude.{◌≡◌, ◌≢◌, ◌+◌, ℕ, ◌<◌, ◌≤◌, length, sum_by, IfSome, IfNone};
 ghost use mathlib.Core.Option.{some};
@@ -9,7 +12,7 @@ ghost use Rattle.golf_grey.specs.Hands.{FoundNone, FoundNoneBut, GreyPass, IsRow
 use crate::rule::{GreyView, Take, Thief};
 use crossbeam_deque::{Pass, Steal};
 
-// Steals once.
+// Tries one steal.
 fn steal_one(thief: &Thief, pass: &mut Pass<u32, GreyView>) -> Option<u32>
     requires table { IsPassOf (stealer_deque thief.now) pass.old }
     requires live { (view pass.old).parts ≡ 1 }
@@ -26,7 +29,7 @@ fn steal_one(thief: &Thief, pass: &mut Pass<u32, GreyView>) -> Option<u32>
     thief.steal_as::<Take>(pass).success()
 }
 
-// Steals once from one deque.
+// Tries one steal from one deque.
 fn steal_at(thieves: &Vec<Thief>, passes: &mut Vec<Pass<u32, GreyView>>, j: usize) -> Option<u32>
     requires low { j < length thieves.now.items }
     requires row { IsRow thieves.now.items passes.old.items }
@@ -40,7 +43,7 @@ fn steal_at(thieves: &Vec<Thief>, passes: &mut Vec<Pass<u32, GreyView>>, j: usiz
     steal_one(&thieves[j], &mut passes[j])
 }
 
-// Steals once from each deque but one, until a place comes.
+// Tries one steal from each deque except for one, until it gets a place.
 pub(crate) fn steal_all(
     thieves: &Vec<Thief>,
     passes: &mut Vec<Pass<u32, GreyView>>,

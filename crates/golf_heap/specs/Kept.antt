@@ -1,11 +1,11 @@
--- How a heap keeps its objects: in a slab, each with its number, and beside it the key of each number.
+-- How a heap keeps its objects: the objects in a slab, each with its number, and a list of the key of each number.
 use Rattle.std.specs.Prelude.{◌≡◌, ℕ, false, List, [], ◌∷◌, length, map, Option, Some, None}
 use Rattle.slab.specs.Slab.{Slab, get, slab_len}
 use Rattle.golf_data.specs.declared.value.Object.{Object}
 use Rattle.golf_heap.specs.declared.places.ObjectKey.{ObjectKey}
 use Rattle.golf_heap.specs.Objects.{IsNumbered}
 
--- the keys by number
+-- the keys of the slots by number
 abbrev pub keyed : List ObjectKey → List (ℕ × ℕ)
 keyed ps = map (λ p. (p.number, p.key)) ps
 

@@ -1,4 +1,7 @@
-//! Objects in rising order of number.
+//! The objects of a program by number.
+//!
+//! The invariant: the numbers of the entries rise, from 1 up to the last number that was given. Each entry
+//! has the key of a slot, and the slot has that number. The slab has no other slots.
 
 ghost use Rattle.std.specs.Prelude.{◌≡◌, ◌+◌, ◌<◌, [], length, is_some, IsSome, option_map, slice_get, Some, IfOk};
 ghost use Rattle.std.specs.Prelude.{OnOk, OnErr};
@@ -14,11 +17,12 @@ use slab::Slab;
 use std::alloc::Global;
 use std::marker::Model;
 
-/// The objects that are there, and the last number that was given. Numbers are given from 1 in
-/// order of making, and none is used again.
+/// The objects that are there, and the last number that was given. Numbers are given from 1 in order of
+/// making, and no number is used again.
 ///
-/// The objects lie in a slab, whose keys are used again and are seen nowhere else. An object is
-/// found at its number, if none before it was freed, and else by a binary search. `make` alone takes memory.
+/// The objects are in a slab. Its keys are used again, and no caller sees them. An object is found at the
+/// index of its number if no object before it was freed, and else by a binary search. Only `make` takes
+/// memory.
 #[derive(Debug, Drop)]
 pub struct Heap {
     slots: Slab<(u32, Object)>,
@@ -38,7 +42,7 @@ impl Model for Heap {
 }
 
 impl Heap {
-    /// The heap without an object. It takes no memory.
+    /// Returns the heap without an object. It takes no memory.
     pub fn new(alloc: Global) -> Heap
         ensures { result ≡ record { objects = []; last = 0 } }
     {
@@ -49,7 +53,8 @@ impl Heap {
         }
     }
 
-    /// Gives the object the next number. `Memory` also comes if the numbers are used up.
+    /// Gives the object the next number, and returns that number. The error is `Memory`, also if all
+    /// numbers are used up. On `Err` the heap is unchanged, and the object is dropped.
     pub fn make(&mut self, object: Object) -> Result<ObjectId, Memory>
         ensures number { IfOk result (λ id. id.0 ≡ self.old.last + 1) }
         ensures ok { OnOk result (self.new ≡ made object self.old) }
@@ -64,14 +69,14 @@ impl Heap {
         Ok(ObjectId(number))
     }
 
-    /// Whether the object is there.
+    /// Returns whether the object is there.
     pub fn holds(&self, id: ObjectId) -> bool
         ensures { result ≡ is_some (find id.0 self.now.objects) }
     {
         self.get(id).is_some()
     }
 
-    /// How many objects there are.
+    /// Returns how many objects there are.
     pub fn count(&self) -> u32
         ensures count { result ≡ length self.now.objects }
         ensures numbers { IsNumbered self.now }
@@ -80,7 +85,7 @@ impl Heap {
         self.places.len() as u32
     }
 
-    /// The last number that was given, 0 if none was.
+    /// Returns the last number that was given, or 0 if none was.
     pub fn last(&self) -> u32
         ensures last { result ≡ self.now.last }
         ensures numbers { IsNumbered self.now }
@@ -88,7 +93,7 @@ impl Heap {
         self.last
     }
 
-    /// The object of this number, if it is there.
+    /// Returns the object of this number, or `None`.
     #[inline(always)]
     pub fn get(&self, id: ObjectId) -> Option<&Object>
         ensures { option_map (λ x. x.now) result ≡ find id.0 self.now.objects }
@@ -98,7 +103,7 @@ impl Heap {
         Some(&slot.1)
     }
 
-    /// Lends the object of this number, to be changed or replaced.
+    /// Lends the object of this number, which the caller may change or replace.
     #[inline(always)]
     pub fn get_mut(&mut self, id: ObjectId) -> &mut Object
         requires { IsSome (find id.0 self.old.objects) }
@@ -112,8 +117,7 @@ impl Heap {
         &mut slot.1
     }
 
-    /// Puts an object in the place of the one of this number. A number that is not there stays
-    /// away.
+    /// Replaces the object of this number. If there is no object of this number, nothing changes.
     #[inline(always)]
     pub fn put(&mut self, id: ObjectId, object: Object)
         ensures { self.new ≡ replaced id.0 object self.old }
@@ -123,7 +127,7 @@ impl Heap {
         }
     }
 
-    /// Keeps the objects whose flag, in rising order of number, is true. It takes no memory.
+    /// Keeps the objects whose flag is true. The flags are in rising order of number. It takes no memory.
     pub fn retain(&mut self, keep: &[bool])
         requires { length keep.now ≡ length self.old.objects }
         ensures { self.new ≡ record self.old { objects = kept keep.now self.old.objects } }
@@ -132,7 +136,7 @@ impl Heap {
         close_up(&mut self.places, keep);
     }
 
-    /// How many objects have a smaller number.
+    /// Returns how many objects have a smaller number.
     pub fn rank(&self, id: ObjectId) -> u32
         ensures { result ≡ rank id.0 self.now.objects }
     {
@@ -140,7 +144,7 @@ impl Heap {
         rank_of(self.places.as_slice(), id.0) as u32
     }
 
-    /// The number of the object of this rank.
+    /// Returns the number of the object of this rank.
     pub fn at(&self, rank: u32) -> ObjectId
         requires { rank < length self.now.objects }
         ensures { slice_get (keys self.now.objects) rank ≡ Some result.0 }

@@ -1,7 +1,7 @@
 //! The heap: objects under numbers that are given in order and never used again.
 //!
 //! - `Heap`: the objects that are there, and the last number that was given.
-//! - `close_up`: keeps the items of a list whose flag is true.
+//! - `close_up`: keeps the items of a vector whose flag is true.
 #![tactic(auto)]
 
 mod heap;

@@ -1,4 +1,6 @@
-//! Where the objects stand in the slab.
+//! Where each object is in the slab.
+//!
+//! The places are in rising order of number. Each has a number and the key of its slot.
 
 ghost use Rattle.std.specs.Prelude.{◌≡◌, ◌+◌, length, None, IfSome};
 ghost use Rattle.slab.specs.Slab.{slab_len, ContainsKey, Updates};
@@ -9,14 +11,14 @@ ghost use Rattle.golf_heap.specs.Kept.{Holds, gathered, keyed};
 use golf_data::Object;
 use slab::Slab;
 
-/// The key of the object of a number.
+/// The number of an object, and the key of its slot.
 #[derive(Clone, Copy, Debug)]
 pub struct ObjectKey {
     pub number: u32,
     pub key: usize,
 }
 
-// The index at which the object of this number stands if none before it was freed, and if it does.
+// The index of the object of this number, if the object is there and no object before it was freed.
 #[inline(always)]
 fn index_of(places: &[ObjectKey], number: u32) -> Option<usize>
     requires { Rises 1 (keyed places.now) }
@@ -31,7 +33,7 @@ fn index_of(places: &[ObjectKey], number: u32) -> Option<usize>
     }
 }
 
-/// How many places have a smaller number.
+/// Returns how many places have a smaller number.
 #[inline(always)]
 pub fn rank_of(places: &[ObjectKey], number: u32) -> usize
     requires { Rises 1 (keyed places.now) }
@@ -43,7 +45,7 @@ pub fn rank_of(places: &[ObjectKey], number: u32) -> usize
     }
 }
 
-/// The key of the object of this number.
+/// Returns the key of the object of this number, or `None`.
 #[inline(always)]
 pub fn key_of(places: &[ObjectKey], number: u32) -> Option<usize>
     requires { Rises 1 (keyed places.now) }
@@ -57,7 +59,7 @@ pub fn key_of(places: &[ObjectKey], number: u32) -> Option<usize>
     }
 }
 
-/// Takes the objects of the places whose flag is false out of the slab.
+/// Removes from the slab the objects of the places whose flag is false.
 pub fn free(slots: &mut Slab<(u32, Object)>, places: &[ObjectKey], keep: &[bool])
     requires flags { length keep.now ≡ length places.now }
     requires rises { Rises 1 (keyed places.now) }
@@ -76,7 +78,7 @@ pub fn free(slots: &mut Slab<(u32, Object)>, places: &[ObjectKey], keep: &[bool]
     }
 }
 
-// Drops what is under a key.
+// Drops the object of a key.
 fn empty(slots: &mut Slab<(u32, Object)>, key: usize)
     requires { ContainsKey slots.old key }
     ensures updates { Updates slots.old slots.new key None }

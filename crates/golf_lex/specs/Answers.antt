@@ -1,11 +1,11 @@
--- What reading the tokens of a file answers.
+-- The answers of the lexer.
 use Rattle.std.specs.Prelude.{◌≡◌, ℕ, List, Result, Ok, Err, ◌⊎◌}
 use Rattle.golf_lex_tokens.specs.declared.token.Token.{Token}
 use Rattle.golf_lex_tokens.specs.Lexes.{Lexes, IsFault, line_at}
 use Rattle.golf_lex.specs.declared.lexer.LexFault.{LexFault}
 use Rattle.golf_lex.specs.declared.lexer.LexFault.TheVariants.{At, Memory}
 
--- the tokens that the bytes lex as, or if they do not; out of memory, nothing is told
+-- the tokens as which the bytes lex, or the place where they are at fault; without memory it says nothing
 abbrev pub Answers : List ℕ → Result (List Token) LexFault → Type 0
 Answers bytes (Ok tokens) = Lexes bytes tokens
 Answers bytes (Err (At line byte)) = IsFault bytes byte × (line ≡ line_at bytes byte)
@@ -15,7 +15,7 @@ Answers bytes (Err Memory) = Unit {0}
 abbrev pub Accepts : List ℕ → Result (List Token) LexFault → Type 0
 Accepts bytes result = (tokens : List Token) → Lexes bytes tokens → (result ≡ Ok tokens) ⊎ (result ≡ Err Memory)
 
--- if they are at fault, the answer is the place, with its line, unless memory runs out
+-- if the bytes are at fault, the answer is the place with its line, unless memory runs out
 abbrev pub Refuses : List ℕ → Result (List Token) LexFault → Type 0
 Refuses bytes result = (place : ℕ) → IsFault bytes place → (result ≡ Err (At (line_at bytes place) place))
     ⊎ (result ≡ Err Memory)

@@ -74,11 +74,11 @@ after_punctuation punctuations.Ampersand b = cond (nat_eq b 38) (to_punctuation 
 after_punctuation punctuations.Colon b = with_equals punctuations.Define b
 after_punctuation _ b = Over
 
--- an escape ends with the byte
+-- whether the byte ends an escape
 abbrev pub is_escape : ℕ → Bool
 is_escape b = nat_eq b 110 || nat_eq b 116 || nat_eq b 92 || nat_eq b 34
 
--- what a byte does to a lexeme
+-- the effect of a byte on a lexeme
 abbrev pub growth : State → ℕ → Growth
 growth states.Blank b = Over
 growth states.Word b = cond (is_word_byte b) (To states.Word) Over
@@ -97,7 +97,7 @@ growth states.Star b = cond (nat_eq b 47) (To states.Closed)
     (cond (nat_eq b 0) Fault (cond (nat_eq b 42) (To states.Star) (To states.GeneralComment)))
 growth states.Closed b = Over
 
--- the bytes so far may be a lexeme
+-- whether the bytes so far can be a whole lexeme
 abbrev pub is_complete : State → Bool
 is_complete states.Quoted = false
 is_complete states.Escaped = false

@@ -12,7 +12,7 @@ use Rattle.golf_lex.specs.Automaton.{growth, begun, is_complete}
 use Rattle.golf_lex.specs.Words.{word_kind}
 use Rattle.golf_lex.specs.Strings.{content_from}
 
--- the token that ends in the state, if one does
+-- the token that ends in the state, if there is one
 abbrev pub kind_at : State → List ℕ → Option TokenKind
 kind_at states.Word bytes = Some (word_kind bytes)
 kind_at states.Zero bytes = Some (Integer bytes)
@@ -34,17 +34,17 @@ ended states.Text bytes = record { class = Of (Text (content_from false bytes));
 ended (states.Punctuation m) bytes = record { class = Of (Punctuation m); bytes = bytes } ∷ []
 ended _ bytes = []
 
--- lexemes before those that follow, if these are there
+-- these lexemes before the others, if there are others
 abbrev pub behind : List Lexeme → Option (List Lexeme) → Option (List Lexeme)
 behind front rest = option_map (λ lexemes. front ++ lexemes) rest
 
--- what is scanned if a byte comes that does this
+-- the lexemes after a byte with this effect
 abbrev pub scan_by : (State → List ℕ → Option (List Lexeme)) → State → List ℕ → ℕ → Growth → Option (List Lexeme)
 scan_by again state bytes b (To next) = again next (bytes ++ b ∷ [])
 scan_by again state bytes b Over = option_and_then (λ next. behind (ended state bytes) (again next (b ∷ []))) (begun b)
 scan_by again state bytes b Fault = None
 
--- the lexemes, if a lexeme in this state has these bytes so far and the rest follows
+-- the lexemes, if the present lexeme is in this state with these bytes, and the rest follows
 abbrev pub scan : State → List ℕ → List ℕ → Option (List Lexeme)
 scan state bytes [] = cond (is_complete state) (Some (ended state bytes)) None
 scan state bytes (b ∷ rest) = scan_by (λ next more. scan next more rest) state bytes b (growth state b)

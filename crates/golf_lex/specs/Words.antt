@@ -1,4 +1,4 @@
--- Keywords, and words that are none.
+-- Keywords, and words that are not keywords.
 use Rattle.std.specs.Prelude.{ℕ, List, Option, Some, None, find}
 use Rattle.std.specs.Str.{bytes_eq}
 use Rattle.golf_lex_tokens.specs.declared.token.TokenKind.{TokenKind}
@@ -7,7 +7,7 @@ use Rattle.golf_lex_tokens.specs.declared.token.Keyword.{Keyword}
 use Rattle.golf_lex_tokens.specs.Spelling.{keyword_text}
 use Rattle.golf_lex.specs.declared.words.TheConstants.{KEYWORDS}
 
--- the keyword that is spelled so
+-- the keyword of this spelling
 abbrev pub keyword_of : List ℕ → Option Keyword
 keyword_of word = find (λ k. bytes_eq (keyword_text k) word) KEYWORDS
 

@@ -1,7 +1,7 @@
 //! The automaton that reads a file byte by byte.
 //!
-//! A state says what the bytes of the lexeme that is being read are so far. A byte makes the lexeme
-//! longer, or begins the next one, or can stand in no text that lexes.
+//! A state describes the bytes of the present lexeme so far. A byte makes the lexeme longer, or
+//! begins the next lexeme, or can come in no text that lexes.
 
 ghost use Rattle.std.specs.Prelude.{◌≡◌, Option};
 ghost use Rattle.golf_lex.specs.Automaton as automaton_spec;
@@ -10,10 +10,10 @@ ghost use Rattle.golf_lex.specs.Automaton.{begun, growth};
 use crate::bytes::{is_blank, is_digit, is_letter, is_ordinary, is_word_byte};
 use golf_lex_tokens::Punctuation;
 
-/// What the bytes of a lexeme are so far.
+/// The bytes of a lexeme so far.
 #[derive(Clone, Copy, Debug)]
 pub(crate) enum State {
-    /// A blank, or none yet.
+    /// A blank, or no byte yet.
     Blank,
     Word,
     /// The integer `0`.
@@ -38,10 +38,10 @@ pub(crate) enum State {
     Closed,
 }
 
-/// What a byte does to a lexeme.
+/// The effect of a byte on a lexeme.
 #[derive(Clone, Copy, Debug)]
 pub(crate) enum Growth {
-    /// The lexeme has the byte too.
+    /// The byte belongs to the lexeme.
     To(State),
     /// The lexeme ends before the byte.
     Over,
@@ -49,7 +49,7 @@ pub(crate) enum Growth {
     Fault,
 }
 
-/// The state after the first byte of a lexeme, if one begins with it.
+/// Returns the state after the first byte of a lexeme, or `None` if no lexeme begins with the byte.
 pub(crate) fn begin(byte: u8) -> Option<State>
     ensures { result ≡ begun byte }
 {
@@ -70,7 +70,7 @@ pub(crate) fn begin(byte: u8) -> Option<State>
     }
 }
 
-// The punctuation mark of one byte.
+// Returns the punctuation mark of one byte.
 fn begun_punctuation(byte: u8) -> Option<Punctuation>
     ensures { result ≡ automaton_spec.begun_punctuation byte }
 {
@@ -99,7 +99,7 @@ fn begun_punctuation(byte: u8) -> Option<Punctuation>
     }
 }
 
-/// What the byte does to a lexeme in this state.
+/// Returns the effect of a byte on a lexeme in this state.
 pub(crate) fn extend(state: State, byte: u8) -> Growth
     ensures { result ≡ growth state byte }
 {
@@ -224,7 +224,7 @@ fn after_star(byte: u8) -> Growth
     }
 }
 
-// What the byte does to a punctuation mark. The longest punctuation mark is read.
+// Returns the effect of a byte on a punctuation mark. The longest punctuation mark is read.
 fn after_punctuation(punctuation: Punctuation, byte: u8) -> Growth
     ensures { result ≡ automaton_spec.after_punctuation punctuation byte }
 {
@@ -264,7 +264,7 @@ fn with_equals(punctuation: Punctuation, byte: u8) -> Growth
     }
 }
 
-// What a byte does to a punctuation mark that a second byte or `=` makes longer.
+// Returns the effect of a byte on a punctuation mark that a second byte or `=` makes longer.
 fn after_doubling(byte: u8, second: u8, doubled: Punctuation, assigning: Punctuation) -> Growth
     ensures { result ≡ automaton_spec.after_doubling byte second doubled assigning }
 {
@@ -297,7 +297,7 @@ fn after_ampersand(byte: u8) -> Growth
     }
 }
 
-/// Whether the bytes so far may be a whole lexeme.
+/// Returns whether the bytes so far can be a whole lexeme.
 pub(crate) fn is_complete(state: State) -> bool
     ensures { result ≡ automaton_spec.is_complete state }
 {

@@ -1,4 +1,6 @@
-//! Kinds of tokens.
+//! Kinds of tokens: which of them end a line, and the token of each lexeme.
+//!
+//! The automaton says in which state a lexeme ended. The state and the bytes of the lexeme give its token.
 
 ghost use Rattle.std.specs.Prelude.{◌≡◌, IfOk};
 ghost use Rattle.golf_lex_tokens.specs.Semicolons as semicolons_spec;
@@ -12,7 +14,7 @@ use golf_base::{List, Memory};
 use golf_lex_tokens::{Keyword, Punctuation, TokenKind};
 use std::alloc::Global;
 
-/// Whether a newline after such a token stands for a semicolon.
+/// Returns whether a newline after such a token stands for a semicolon.
 pub(crate) fn may_end(kind: &TokenKind) -> bool
     ensures { result ≡ semicolons_spec.may_end kind.now }
 {
@@ -23,7 +25,7 @@ pub(crate) fn may_end(kind: &TokenKind) -> bool
     }
 }
 
-/// Whether it is `;` or `,`, which is left out before `)` and `}`.
+/// Returns whether it is `;` or `,`. These are dropped right before `)` and `}`.
 pub(crate) fn is_separator(kind: &TokenKind) -> bool
     ensures { result ≡ semicolons_spec.is_separator kind.now }
 {
@@ -33,7 +35,7 @@ pub(crate) fn is_separator(kind: &TokenKind) -> bool
     )
 }
 
-/// Whether it is `)` or `}`.
+/// Returns whether it is `)` or `}`.
 pub(crate) fn is_closing(kind: &TokenKind) -> bool
     ensures { result ≡ semicolons_spec.is_closing kind.now }
 {
@@ -82,7 +84,8 @@ fn word(alloc: Global, bytes: &[u8]) -> Result<TokenKind, Memory>
     }
 }
 
-/// The token that a lexeme of these bytes is, if the automaton ended it in this state. Blanks and comments are none.
+/// Returns the token of a lexeme of these bytes that the automaton ended in this state. Returns `None` for a blank or a
+/// comment.
 pub(crate) fn kind(alloc: Global, state: State, bytes: &[u8]) -> Result<Option<TokenKind>, Memory>
     ensures { IfOk result (λ kind. kind ≡ kind_at state bytes.now) }
 {

@@ -1,4 +1,7 @@
-//! Reads the tokens of a file.
+//! Reads the tokens of a file in one pass over its bytes.
+//!
+//! The automaton cuts the bytes into lexemes. `Output` keeps the tokens, inserts semicolons, and drops optional
+//! separators. A fault is the first byte that can follow in no text that lexes.
 
 ghost use Rattle.std.specs.Prelude.{◌≡◌, ◌<◌, ◌≤◌, ◌-◌, ◌^◌, length};
 ghost use Rattle.golf_lex_tokens.specs.Lexes.{line_at};
@@ -11,11 +14,11 @@ use golf_base::{List, Memory};
 use golf_lex_tokens::Token;
 use std::alloc::Global;
 
-/// Why a file has no tokens.
+/// Why a file could not be lexed.
 #[derive(Clone, Copy, Debug, PartialEq, Eq)]
 pub enum LexFault {
-    /// No text that lexes begins with the bytes up to and including this one, and `byte` is the
-    /// first such, counted from 0. If there is none, it is the length. `line` is its line, from 1.
+    /// The bytes do not lex. `byte` is the first byte, counted from 0, with which they are no longer a prefix of a text
+    /// that lexes. It is the length if there is no such byte. `line` is its line, from 1.
     At { line: u32, byte: u32 },
     /// Out of memory.
     Memory,
@@ -31,7 +34,7 @@ impl From<Memory> for LexFault {
     }
 }
 
-// The fault at this place.
+// Returns the fault at this place.
 fn fault(bytes: &[u8], place: usize) -> LexFault
     requires within { place ≤ length bytes.now }
     requires small { length bytes.now < 2 ^ 32 - 1 }
@@ -44,18 +47,17 @@ fn fault(bytes: &[u8], place: usize) -> LexFault
     }
 }
 
-/// The tokens of a file, with their lines, with inserted semicolons, and without those `;` and `,`
-/// that stand right before a `)` or a `}`. The time that it takes grows in proportion to the
-/// length.
+/// Returns the tokens of a file with their lines. Semicolons are inserted, and each `;` or `,` right before a `)` or a
+/// `}` is dropped. It takes time in proportion to the length.
 ///
 /// # Errors
 ///
-/// `LexFault::At` if the bytes do not lex, and `LexFault::Memory` if memory runs out, which no clause ties to a cause.
+/// `LexFault::At` if the bytes do not lex. `LexFault::Memory` if memory runs out; no clause ties it to a cause.
 pub fn tokens(alloc: Global, bytes: &[u8]) -> Result<List<Token>, LexFault>
     requires { length bytes.now < 2 ^ 32 - 1 }
     ensures answer { Answers bytes.now result }
 
-    // If the bytes lex, the answer is their tokens, and if they do not, the place of the fault.
+    // If the bytes lex, the answer is their tokens. If they do not, it is the place of the fault.
     ensures accepts { Accepts bytes.now result }
     ensures refuses { Refuses bytes.now result }
 {

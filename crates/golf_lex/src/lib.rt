@@ -1,4 +1,5 @@
-//! Reads the tokens of a file.
+//! Reads the tokens of a file: an automaton cuts the bytes into lexemes, and each lexeme gives a
+//! token or none. The definitions are those of `golf_lex_tokens`.
 #![tactic(auto)]
 
 mod automaton;

@@ -1,4 +1,5 @@
-//! The tokens of the lexemes that are read, with inserted semicolons and without optional separators.
+//! The output of the lexer: the tokens so far, with inserted semicolons and without optional
+//! separators.
 
 ghost use Rattle.std.specs.Prelude.{◌≡◌, ◌+◌, ◌<◌, ◌^◌, IfOk, OnOk, true};
 ghost use Rattle.golf_lex_tokens.specs.Bytes as bytes_spec;
@@ -10,15 +11,15 @@ use golf_base::{List, Memory};
 use golf_lex_tokens::{Punctuation, Token, TokenKind};
 use std::alloc::Global;
 
-/// What is kept of the lexemes that were read.
+/// What the lexer keeps of the lexemes that it has read.
 #[derive(Drop)]
 pub(crate) struct Output {
     pub(crate) tokens: List<Token>,
-    /// A `;` or `,` after the tokens, which is left out if `)` or `}` comes next.
+    /// A `;` or `,` after the tokens. It is dropped if `)` or `}` comes next.
     pub(crate) held: Option<Token>,
-    /// The line reached, from 1.
+    /// The present line, from 1.
     pub(crate) line: u32,
-    /// The line of the semicolon that a newline here stands for, if it does.
+    /// The line of the semicolon for which a newline here stands; `None` if it stands for none.
     pub(crate) semicolon: Option<u32>,
 }
 
@@ -83,7 +84,7 @@ impl Output {
         Ok(())
     }
 
-    /// Adds the lexeme that the automaton ended in this state.
+    /// Adds a lexeme of these bytes that the automaton ended in this state.
     pub(crate) fn add(&mut self, alloc: Global, state: State, bytes: &[u8]) -> Result<(), Memory>
         requires complete { is_complete state ≡ true }
         requires line { self.old.line + bytes_spec.newlines bytes.now < 2 ^ 32 }
@@ -102,7 +103,7 @@ impl Output {
         Ok(())
     }
 
-    /// All tokens, at the end of the file.
+    /// Returns all tokens, at the end of the file.
     pub(crate) fn finish(mut self) -> Result<List<Token>, Memory>
         ensures { IfOk result (λ tokens. tokens ≡ finished self) }
     {

@@ -1,4 +1,6 @@
-//! String literals.
+//! String literals and their escapes (Go specification, "String literals").
+//!
+//! The literal is whole and well formed, since the automaton has accepted it.
 
 ghost use Rattle.std.specs.Prelude.{◌≡◌, IfOk, false};
 ghost use Rattle.golf_lex.specs.Strings as strings_spec;
@@ -17,7 +19,7 @@ fn escaped_byte(byte: u8) -> u8
     }
 }
 
-/// The bytes that a whole string literal, with its quotes, stands for.
+/// Returns the bytes for which a whole string literal stands. The literal has its quotes.
 pub(crate) fn content(alloc: Global, literal: &[u8]) -> Result<List<u8>, Memory>
     ensures { IfOk result (λ bytes. bytes ≡ content_from false literal.now) }
 {

@@ -1,4 +1,6 @@
-//! Keywords.
+//! Keywords and their spelling (Go specification, "Keywords").
+//!
+//! All 25 keywords of Go are known, so that none of them is read as a name.
 
 ghost use Rattle.std.specs.Prelude.{◌≡◌};
 ghost use Rattle.golf_lex_tokens.specs.Spelling.{keyword_text};
@@ -67,7 +69,7 @@ fn text(keyword: Keyword) -> &'static [u8]
     }
 }
 
-/// The keyword that is spelled so, if there is one.
+/// Returns the keyword of this spelling, or `None` if there is none.
 pub(crate) fn keyword(word: &[u8]) -> Option<Keyword>
     ensures { result ≡ keyword_of word.now }
 {

@@ -9,7 +9,7 @@ is_letter b = (nat_le 65 b && nat_le b 90) || (nat_le 97 b && nat_le b 122) || n
 abbrev pub is_digit : ℕ → Bool
 is_digit b = nat_le 48 b && nat_le b 57
 
--- it may stand in a name
+-- whether it can be in a name
 abbrev pub is_word_byte : ℕ → Bool
 is_word_byte b = is_letter b || is_digit b
 
@@ -17,10 +17,10 @@ is_word_byte b = is_letter b || is_digit b
 abbrev pub is_blank : ℕ → Bool
 is_blank b = nat_eq b 32 || nat_eq b 9 || nat_eq b 13 || nat_eq b 10
 
--- it stands for itself between the quotes of a string: all but NUL, newline, quote and backslash
+-- whether it stands for itself between the quotes of a string: all bytes but NUL, newline, quote and backslash
 abbrev pub is_ordinary : ℕ → Bool
 is_ordinary b = not (nat_eq b 0 || nat_eq b 10 || nat_eq b 34 || nat_eq b 92)
 
--- how many newlines there are
+-- the number of newlines
 abbrev pub newlines : List ℕ → ℕ
 newlines bytes = count_by (λ b. nat_eq b 10) bytes

@@ -1,4 +1,4 @@
--- What each token costs: a bound on how deep and how wide the constructs are that are open at it.
+-- The cost of each token: a bound on how deep and how wide the constructs are that are open at it.
 use Rattle.std.specs.Prelude.{ℕ, ◌+◌, List, [], ◌∷◌, sum}
 use Rattle.golf_lex_tokens.specs.declared.token.Token.{Token}
 use Rattle.golf_lex_tokens.specs.declared.token.TokenKind.{TokenKind}
@@ -10,7 +10,7 @@ abbrev pub one_more : List ℕ → List ℕ
 one_more [] = 1 ∷ []
 one_more (count ∷ counts) = (count + 1) ∷ counts
 
--- the count of what a bracket held goes, if there is one outside it
+-- the count of the innermost bracket is dropped, if there is a count outside it
 abbrev pub closed : List ℕ → List ℕ
 closed (inner ∷ outer ∷ counts) = outer ∷ counts
 closed counts = counts
@@ -19,8 +19,8 @@ abbrev pub cleared : List ℕ → List ℕ
 cleared [] = []
 cleared (count ∷ counts) = 0 ∷ counts
 
--- The counts after a token, the innermost first. Each token counts one; an opening bracket begins a count of its own;
--- a closing one ends it, and counts in the one outside; a `;` or `,` begins anew.
+-- The counts after a token, the innermost first. Each token adds one. An opening bracket begins a new count. A closing
+-- bracket ends a count, and adds one to the count outside. A `;` or `,` sets the innermost count to 0.
 abbrev pub counted : TokenKind → List ℕ → List ℕ
 counted (PunctuationToken OpenParen) counts = 0 ∷ one_more counts
 counted (PunctuationToken OpenBracket) counts = 0 ∷ one_more counts

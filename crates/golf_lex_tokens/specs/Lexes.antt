@@ -1,4 +1,4 @@
--- Which bytes lex, as which tokens, and where bytes that do not are at fault.
+-- Which bytes lex and as which tokens, and where bytes that do not lex are at fault.
 use Rattle.std.specs.Prelude.{◌≡◌, ℕ, suc, ◌+◌, ◌<◌, ◌≤◌, List, ◌++◌, length, take, nat_lt, true}
 use Rattle.std.specs.List.{list_all}
 use Rattle.golf_lex_tokens.specs.declared.token.Token.{Token}
@@ -6,14 +6,14 @@ use Rattle.golf_lex_tokens.specs.Bytes.{newlines}
 use Rattle.golf_lex_tokens.specs.Lexemes.{Lexeme, lexemes_text, Cut}
 use Rattle.golf_lex_tokens.specs.Semicolons.{tokens_of}
 
--- the bytes are lexemes, and the tokens are those of the lexemes
+-- the bytes are a list of lexemes, and the tokens are those of the lexemes
 pub record Lexes (bytes : List ℕ) (tokens : List Token) : Type 0 where
   pub lexemes : List Lexeme
   pub cut : Cut lexemes
   pub text : bytes ≡ lexemes_text lexemes
   pub are : tokens ≡ tokens_of lexemes
 
--- some text that lexes begins with the bytes
+-- the bytes are a prefix of some text that lexes
 pub record Begins (bytes : List ℕ) : Type 0 where
   pub more : List ℕ
   pub small : list_all (λ b. nat_lt b 256) more ≡ true
@@ -24,7 +24,8 @@ pub record Begins (bytes : List ℕ) : Type 0 where
 abbrev pub line_at : List ℕ → ℕ → ℕ
 line_at bytes place = 1 + newlines (take place bytes)
 
--- The bytes do not lex. So many of them begin a text that lexes, and with one more they do not, if there is one more.
+-- The bytes do not lex. The bytes before the place are a prefix of a text that lexes; with the byte at the place, if
+-- there is one, they are not.
 pub record IsFault (bytes : List ℕ) (place : ℕ) : Type 0 where
   pub refused : (tokens : List Token) → Lexes bytes tokens → ⊥
   pub within : place ≤ length bytes

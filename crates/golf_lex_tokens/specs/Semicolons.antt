@@ -1,4 +1,4 @@
--- The tokens of lexemes, with the semicolons that newlines stand for (Go specification, "Semicolons").
+-- The tokens of lexemes, with the semicolons for which newlines stand (Go specification, "Semicolons").
 use Rattle.std.specs.Prelude.{ℕ, ◌+◌, Bool, true, false, ◌&&◌, nat_eq, cond, List, [], ◌∷◌, ◌++◌}
 use Rattle.golf_lex_tokens.specs.declared.token.Token.{Token}
 use Rattle.golf_lex_tokens.specs.declared.token.TokenKind.{TokenKind}
@@ -20,17 +20,17 @@ pub data Item : Type 0 where
 abbrev pub newline_in : List ℕ → List Item
 newline_in bytes = cond (nat_eq (newlines bytes) 0) [] (Newline ∷ [])
 
--- a general comment that holds a newline counts as one
+-- the items of a lexeme; a general comment with a newline counts as a newline
 abbrev pub lexeme_items : ℕ → Class → List ℕ → List Item
 lexeme_items line (lexemes.Of kind) bytes = Of (record { kind = kind; line = line }) ∷ []
 lexeme_items line _ bytes = newline_in bytes
 
--- tokens with their lines and newlines, of lexemes that begin on this line
+-- the tokens and newlines of lexemes that begin on this line
 abbrev pub items : ℕ → List Lexeme → List Item
 items line [] = []
 items line (p ∷ ps) = lexeme_items line p.class p.bytes ++ items (line + newlines p.bytes) ps
 
--- a newline after it stands for a semicolon, as after those of Go's tokens that end statements here
+-- whether a newline after the token stands for a semicolon
 abbrev pub may_end : TokenKind → Bool
 may_end (Name name) = true
 may_end (Integer digits) = true
@@ -45,7 +45,7 @@ may_end (PunctuationToken CloseBracket) = true
 may_end (PunctuationToken CloseBrace) = true
 may_end _ = false
 
--- the line ends here, by a newline or with the file
+-- whether the line ends here, by a newline or by the end of the file
 abbrev pub line_ends : List Item → Bool
 line_ends [] = true
 line_ends (Newline ∷ rest) = true
@@ -58,7 +58,7 @@ semicolon line = record { kind = PunctuationToken Semicolon; line = line }
 abbrev pub semicolon_behind : Token → List Item → List Token
 semicolon_behind token rest = cond (may_end token.kind && line_ends rest) (semicolon token.line ∷ []) []
 
--- the tokens with those inserted
+-- the tokens with the inserted semicolons
 abbrev pub inserted : List Item → List Token
 inserted [] = []
 inserted (Newline ∷ rest) = inserted rest
@@ -78,7 +78,7 @@ abbrev pub closes : List Token → Bool
 closes [] = false
 closes (token ∷ rest) = is_closing token.kind
 
--- one pass that leaves out each `;` and `,` that stands right before a `)` or a `}`
+-- one pass that drops each `;` and `,` right before a `)` or a `}`
 abbrev pub without_optional : List Token → List Token
 without_optional [] = []
 without_optional (token ∷ rest) =

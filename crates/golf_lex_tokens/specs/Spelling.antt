@@ -10,7 +10,7 @@ use Rattle.golf_lex_tokens.specs.declared.token.Punctuation.{Punctuation}
 use Rattle.golf_lex_tokens.specs.declared.token.Punctuation.TheVariants as punctuations
 use Rattle.golf_lex_tokens.specs.Bytes.{is_letter, is_digit, is_word_byte, is_ordinary}
 
--- Go specification, "Keywords"
+-- the keywords (Go specification, "Keywords")
 abbrev pub keyword_text : Keyword → List ℕ
 keyword_text keywords.Break = codes "break"
 keyword_text keywords.Case = codes "case"
@@ -38,7 +38,7 @@ keyword_text keywords.Interface = codes "interface"
 keyword_text keywords.Map = codes "map"
 keyword_text keywords.Switch = codes "switch"
 
--- Go specification, "Operators and punctuation", those that the language has
+-- the operators and punctuation marks of the accepted language (Go specification, "Operators and punctuation")
 abbrev pub punctuation_text : Punctuation → List ℕ
 punctuation_text punctuations.Plus = codes "+"
 punctuation_text punctuations.Minus = codes "-"
@@ -76,18 +76,18 @@ punctuation_text punctuations.PercentAssign = codes "%="
 punctuation_text punctuations.Increment = codes "++"
 punctuation_text punctuations.Decrement = codes "--"
 
--- a letter, then letters and digits: an identifier or a keyword
+-- whether it is a letter and then letters and digits: an identifier or a keyword
 abbrev pub is_word : List ℕ → Bool
 is_word [] = false
 is_word (b ∷ bs) = is_letter b && list_all is_word_byte bs
 
--- `0`, or a digit from 1 to 9 and then digits
+-- whether it is `0`, or a digit from 1 to 9 and then digits
 abbrev pub is_integer : List ℕ → Bool
 is_integer [] = false
 is_integer (b ∷ []) = is_digit b
 is_integer (b ∷ bs) = (nat_le 49 b && nat_le b 57) && list_all is_digit bs
 
--- what stands between the quotes of a string: a byte for itself, or an escape
+-- a part of a string between its quotes: a byte for itself, or an escape
 pub data Part : Type 0 where
   Itself : ℕ → Part
   Newline : Part
@@ -102,7 +102,7 @@ part_text Tab = codes "\\t"
 part_text Backslash = codes "\\\\"
 part_text Quote = codes "\\\""
 
--- the byte that it stands for
+-- the byte for which a part stands
 abbrev pub part_byte : Part → ℕ
 part_byte (Itself b) = b
 part_byte Newline = 10
@@ -114,7 +114,7 @@ abbrev pub is_part : Part → Bool
 is_part (Itself b) = is_ordinary b
 is_part _ = true
 
--- parts, one after the other
+-- the parts, one after another
 abbrev pub parts_text : List Part → List ℕ
 parts_text [] = []
 parts_text (p ∷ ps) = part_text p ++ parts_text ps
@@ -123,14 +123,14 @@ abbrev pub parts_bytes : List Part → List ℕ
 parts_bytes [] = []
 parts_bytes (p ∷ ps) = part_byte p ∷ parts_bytes ps
 
--- it is spelled by parts between quotes
+-- the bytes are parts between quotes, and the content is the bytes for which the parts stand
 pub record Quotes (content bytes : List ℕ) : Type 0 where
   pub parts : List Part
   pub valid : list_all is_part parts ≡ true
   pub spelled : bytes ≡ codes "\"" ++ (parts_text parts ++ codes "\"")
   pub stands : content ≡ parts_bytes parts
 
--- the bytes are the name, and the name is a word that is no keyword
+-- the bytes are the name, which is a word and not a keyword
 pub record Names (name bytes : List ℕ) : Type 0 where
   pub spelled : bytes ≡ name
   pub word : is_word name ≡ true

@@ -1,7 +1,7 @@
-//! Tokens of the accepted language, and what lexes.
+//! Tokens of the accepted language, and their definitions (Go specification, "Lexical elements").
 //!
-//! `specs/` says which bytes lex and as which tokens (Go specification, "Lexical elements"), if
-//! bytes that do not are at fault, and what each token costs.
+//! `specs/` says which bytes lex and as which tokens, where bytes that do not lex are at fault, and
+//! what each token costs.
 #![tactic(auto)]
 
 mod token;

@@ -1,4 +1,6 @@
-//! Tokens of the accepted language.
+//! Tokens of the accepted language, each with the line on which it begins.
+//!
+//! Blanks and comments are no tokens. A semicolon that a newline stands for is one.
 
 use golf_base::List;
 
@@ -9,19 +11,19 @@ pub struct Token {
     pub line: u32,
 }
 
-/// What a token is.
+/// The kind of a token, with its content.
 #[derive(Debug, Drop)]
 pub enum TokenKind {
     Name(List<u8>),
-    /// The digits of an integer literal, also of one that is too large.
+    /// The digits of an integer literal. It may be too large for an `int`.
     Integer(List<u8>),
-    /// The bytes that a string literal stands for.
+    /// The bytes for which a string literal stands.
     Text(List<u8>),
     Keyword(Keyword),
     Punctuation(Punctuation),
 }
 
-/// A keyword of Go. The last five are keywords that no rule of the grammar has.
+/// A keyword of Go. No grammar rule of the accepted language has the last five.
 #[derive(Clone, Copy, Debug, PartialEq, Eq)]
 pub enum Keyword {
     Break,

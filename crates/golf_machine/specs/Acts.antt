@@ -1,4 +1,4 @@
--- Goroutines in their turns, and what they do with operands and deferred calls.
+-- The goroutine whose turn it is, its operands, and its deferred calls.
 use Rattle.std.specs.Prelude.{◌≡◌, ℕ, cond, List, [], ◌∷◌, length, take, reverse, Option, Some, None, nat_lt}
 use Rattle.golf_theory.specs.Maps.{find}
 use Rattle.golf_data.specs.declared.value.Value.{Value}
@@ -17,12 +17,12 @@ use Rattle.golf_state.specs.Doing.{Stands}
 abbrev pub Acts : ℕ → State → Type 0
 Acts g s = (after : ℕ) × Stands g after s
 
--- the goroutine runs and has none
+-- the goroutine runs and has no frame
 abbrev pub HasNoFrame : ℕ → State → Type 0
 HasNoFrame g s = (started : ℕ) × (find g s.goroutines ≡ Some
     (record { frames = []; mode = Mode.Running; started = started }))
 
--- the top operands, so many, in source order, if there are so many
+-- the top n operands, in source order, or none if there are fewer
 abbrev pub last_of : ℕ → List Value → Option (List Value)
 last_of n os = cond (nat_lt (length os) n) None (Some (reverse (take n os)))
 

@@ -1,4 +1,4 @@
--- What the outcomes of instructions say.
+-- The meaning of the outcomes of instructions.
 use Rattle.std.specs.Prelude.{◌≡◌, ℕ, Bool, true, false, List}
 use Rattle.golf_theory.specs.Maps.{find}
 use Rattle.golf_data.specs.declared.goroutine.PanicKind.{PanicKind}
@@ -17,15 +17,15 @@ is_fit Outcome.Blocked = true
 is_fit (Outcome.Panic kind) = true
 is_fit Outcome.Stuck = false
 
--- what came of an instruction on the innermost frame
+-- the outcome of an instruction on the innermost frame
 abbrev pub outcome_in : Within → Outcome
 outcome_in Within.Done = Outcome.Done
 outcome_in Within.ZeroDivisor = Outcome.Panic PanicKind.DivideByZero
 outcome_in Within.Stuck = Outcome.Stuck
 outcome_in Within.Beyond = Outcome.Stuck
 
--- the state after this outcome: the changes are made; or the goroutine panics, and the state is as it was; or no rule
--- fits, and it is
+-- The state after this outcome. `Done` and `Blocked`: the changes are made. `Panic`: the state is unchanged, and the
+-- changes are those of the fault. `Stuck`: the state is unchanged, since no rule fits.
 abbrev pub Ends : Outcome → (Actor → List Change) → ℕ → ℕ → State → State → Type 0
 Ends Outcome.Done act g line old new = new ≡ does act g line old
 Ends Outcome.Blocked act g line old new = new ≡ does act g line old
@@ -33,7 +33,7 @@ Ends (Outcome.Panic kind) act g line old new = (new ≡ old)
     × (does act g line old ≡ does (λ a. faults a kind) g line old)
 Ends Outcome.Stuck act g line old new = new ≡ old
 
--- an instruction that makes these changes has come to this outcome: a rule fits exactly if there are changes
+-- an instruction with these changes has this outcome; a rule fits exactly when there are changes
 abbrev pub Fits : Outcome → (Actor → List Change) → ℕ → ℕ → State → State → Type 0
 Fits outcome act g line old new = Ends outcome act g line old new
     × (is_fit outcome ≡ not_empty (does_by act g line (find g old.goroutines)))

@@ -7,27 +7,27 @@ use Rattle.golf_data.specs.declared.value.Object.{Object}
 use Rattle.golf_model.specs.State.{State}
 use Rattle.golf_model.specs.Structures.{length_of}
 
--- the fields of the struct that an object is
+-- the fields of the struct, if the object is one
 abbrev pub struct_of : Option Object → Option (List Value)
 struct_of (Some (Object.Struct fields)) = Some fields
 struct_of _ = None
 
--- the elements of the slice that an object is
+-- the elements of the slice, if the object is one
 abbrev pub slice_of : Option Object → Option (List Value)
 slice_of (Some (Object.Slice elements)) = Some elements
 slice_of _ = None
 
--- whether there is a place
+-- whether the list is there and has this place
 abbrev pub has_place : ℕ → Option (List Value) → Bool
 has_place i None = false
 has_place i (Some xs) = nat_lt i (length xs)
 
--- the field of that place becomes v
+-- the struct with v as the field at that place
 abbrev pub field_changed : ℕ → Value → Object → Object
 field_changed i v (Object.Struct fields) = Object.Struct (slice_set fields i v)
 field_changed i v x = x
 
--- the element of that place becomes v
+-- the slice with v as the element at that place
 abbrev pub element_changed : ℕ → Value → Object → Object
 element_changed i v (Object.Slice elements) = Object.Slice (slice_set elements i v)
 element_changed i v x = x
@@ -42,7 +42,7 @@ is_nil_or_mutex s Value.Nil = true
 is_nil_or_mutex s (Value.Ref o) = is_mutex (find o.0 s.objects)
 is_nil_or_mutex s _ = false
 
--- the length of what a value refers to; 0 for nil
+-- the length of the object that a value refers to; 0 for nil
 abbrev pub measured : State → Value → Option ℕ
 measured s Value.Nil = Some 0
 measured s (Value.Ref o) = option_and_then length_of (find o.0 s.objects)

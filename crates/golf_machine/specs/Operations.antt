@@ -1,4 +1,4 @@
--- Operands that are integers or truth values, and what is done with them.
+-- Operands that are integers or truth values, and the operations on them.
 use Rattle.std.specs.Prelude.{Bool, List, [], ◌∷◌, Option, None, ℤ, int_lt, int_le, option_and_then, option_map}
 use Rattle.golf_data.specs.declared.value.Value.{Value}
 use Rattle.golf_model.specs.Values.{int_of, bool_of}
@@ -12,12 +12,12 @@ abbrev pub int_in : List Value → Option ℤ
 int_in [] = None
 int_in (x ∷ rest) = int_of x
 
--- if it is a truth value
+-- the top operand, if it is a truth value
 abbrev pub bool_in : List Value → Option Bool
 bool_in [] = None
 bool_in (x ∷ rest) = bool_of x
 
--- the top two, if both are integers
+-- the top two operands, if both are integers
 abbrev pub ints_in : List Value → Option (ℤ × ℤ)
 ints_in [] = None
 ints_in (y ∷ []) = None

@@ -1,4 +1,4 @@
--- Turns that touch the innermost frame alone.
+-- Turns that touch only the innermost frame.
 use Rattle.std.specs.Prelude.{◌≡◌, ℕ, ◌+◌, Bool, false, not, ◌||◌, List, [], ◌∷◌, Some, None, slice_get}
 use Rattle.golf_theory.specs.Maps.{find}
 use Rattle.golf_data.specs.declared.value.Value.{Value}
@@ -16,12 +16,12 @@ use Rattle.golf_state.specs.Looked.{frames_of}
 use Rattle.golf_machine.specs.Within.{Becomes}
 use Rattle.golf_machine.specs.declared.passing.Passed.{Passed}
 
--- a frame of this function that is not leaving, cleared
+-- a frame of this function that is not leaving, with its slots cleared
 abbrev pub cleared_in : Function → FrameView → FrameView
 cleared_in fn f = record f { slots = cleared_slots (stays_in Leaving.No (slice_get fn.live f.at)) f.slots }
 
--- the frame is at an instruction, no collection, that makes it another frame, with these globals, and that one is
--- cleared
+-- The frame f is not leaving, and is at an instruction other than a collection. With these globals the instruction
+-- makes it another frame, and h is that frame cleared.
 pub record Passes (code : Code) (globals : List Value) (f h : FrameView) : Type 0 where
   pub line : CodeLine
   pub frame : FrameView
@@ -31,7 +31,7 @@ pub record Passes (code : Code) (globals : List Value) (f h : FrameView) : Type 
   pub does : (choice : ℕ) (s : State) → s.globals ≡ globals → Becomes (λ a. changes code line.instr a choice s) f frame
   pub clears : h ≡ cleared code frame
 
--- the frame is not leaving, and at this instruction, before this place
+-- the frame is not leaving, is at this instruction, and `after` is the next place
 abbrev pub IsAt : Code → FrameView → CodeLine → ℕ → Type 0
 IsAt code f line after = (f.leaving ≡ Leaving.No) × (line_at code f.function f.at ≡ Some line) × (after ≡ f.at + 1)
 
@@ -39,13 +39,13 @@ IsAt code f line after = (f.leaving ≡ Leaving.No) × (line_at code f.function 
 abbrev pub IsNowhere : Code → FrameView → Type 0
 IsNowhere code f = f.leaving ≡ Leaving.No → line_at code f.function f.at ≡ None
 
--- that was so; or the frame is as it was
+-- `Over`: the frame took its turn. Otherwise the frame is unchanged, and is there.
 abbrev pub HasPassed : Passed → Code → List Value → FrameView → FrameView → Type 0
 HasPassed Passed.Over code globals f h = Passes code globals f h
 HasPassed (Passed.At line after) code globals f h = (h ≡ f) × IsAt code f line.now after
 HasPassed Passed.Nowhere code globals f h = (h ≡ f) × IsNowhere code f
 
--- the same of the innermost of these frames
+-- the same for the innermost of these frames
 pub record PassesOnTop (code : Code) (globals : List Value) (fs hs : List FrameView) : Type 0 where
   pub first : FrameView
   pub next : FrameView
@@ -69,17 +69,17 @@ HasPassedOnTop Passed.Over code globals fs hs = PassesOnTop code globals fs hs
 HasPassedOnTop (Passed.At line after) code globals fs hs = (hs ≡ fs) × IsAtTop code fs line.now after
 HasPassedOnTop Passed.Nowhere code globals fs hs = (hs ≡ fs) × IsNowhereOnTop code fs
 
--- so often, once for each of these numbers
+-- the innermost frame takes its turn so once for each of these numbers
 abbrev pub PassEach : Code → List Value → List ℕ → List FrameView → List FrameView → Type 0
 PassEach code globals [] fs hs = hs ≡ fs
 PassEach code globals (c ∷ cs) fs hs = (ks : List FrameView) × PassesOnTop code globals fs ks
     × PassEach code globals cs ks hs
 
--- the state after the turn of a goroutine that runs, and what is cleared after it
+-- the state after the turn of a goroutine that runs, before slots are cleared
 abbrev pub acted : Code → ℕ → ℕ → State → State
 acted code g choice s = apply_all (turn_of code g choice s (find g s.goroutines)) s
 
--- whether nothing is cleared after it: its instruction is a collection, or no rule fits
+-- whether no slots are cleared after the turn: its instruction is a collection, or no rule fits
 abbrev pub keeps_all : Code → ℕ → ℕ → State → Bool
 keeps_all code g choice s = goroutine_collects code (find g s.goroutines)
     || not (not_empty (turn_of code g choice s (find g s.goroutines)))
@@ -88,8 +88,8 @@ abbrev pub taken : Code → ℕ → ℕ → State → State
 taken code g choice s = apply_all (clearing code (keeps_all code g choice s) (Some g) (acted code g choice s))
     (acted code g choice s)
 
--- the turn of the goroutine, which is no collection and ends no program, whatever choice it is given; or the state is
--- as it was
+-- `Over`: the goroutine took its turn, which is no collection and ends no program, and is the same for all choices.
+-- Otherwise the state is unchanged.
 abbrev pub HasTakenTurn : Passed → Code → ℕ → State → State → Type 0
 HasTakenTurn Passed.Over code g s t = (goroutine_collects code (find g s.goroutines) ≡ false)
     × ((choice : ℕ) → t ≡ taken code g choice s) × (ending t ≡ ending s)

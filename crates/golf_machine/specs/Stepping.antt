@@ -1,8 +1,8 @@
--- What came of a turn.
+-- The result of the turn of one goroutine.
 use Rattle.std.specs.Prelude.{Bool, true, false, not, ◌||◌}
 use Rattle.golf_machine.specs.declared.stepping.Acted.{Acted}
 
--- a rule fitted
+-- a rule fits
 abbrev pub has_rule : Acted → Bool
 has_rule Acted.Went = true
 has_rule Acted.Collects = true
@@ -14,6 +14,6 @@ has_collected Acted.Went = false
 has_collected Acted.Collects = true
 has_collected Acted.Stuck = false
 
--- nothing is cleared after it: it was a collection, or no rule fitted
+-- no slots are cleared after the turn: it was a collection, or no rule fits
 abbrev pub keeps_slots : Acted → Bool
 keeps_slots acted = has_collected acted || not (has_rule acted)

@@ -1,4 +1,4 @@
--- Turns that are taken in one go.
+-- Turns that are taken in one batch.
 use Rattle.std.specs.Prelude.{◌≡◌, ℕ, ◌+◌, Bool, true, false, List, [], ◌∷◌, ◌++◌, length, map, Option, Some, None}
 use Rattle.golf_data.specs.declared.value.Value.{Value}
 use Rattle.golf_data.specs.declared.code.Code.{Code}
@@ -19,11 +19,11 @@ is_turn_next (Event.Collect ∷ es) = false
 abbrev pub turn_events : List ℕ → List Event
 turn_events cs = map (λ c. Event.Turn c) cs
 
--- what the turn of this number comes to
+-- the result of the turn of this number
 abbrev pub outcome_of : Code → State → ℕ → Turned
 outcome_of code s c = turned_of (ending (step code s c)) (wants_collection code s c)
 
--- the outside is needed after a turn that ended the program or was a collection, and if something is printed
+-- whether the caller must act after a turn: it ended the program, it was a collection, or something is printed
 abbrev pub needs_outside : Turned → List ℕ → Bool
 needs_outside Turned.Went printed = not_empty printed
 needs_outside Turned.WantsCollection printed = true
@@ -37,12 +37,12 @@ abbrev pub steps : Code → State → List ℕ → State
 steps code s [] = s
 steps code s (c ∷ cs) = steps code (step code s c) cs
 
--- after none of them the outside is needed
+-- after none of these turns the caller must act
 abbrev pub GoOn : Code → State → List ℕ → Type 0
 GoOn code s [] = Unit {0}
 GoOn code s (c ∷ cs) = (stops_after code s c ≡ false) × GoOn code (step code s c) cs
 
--- the turns of exactly the numbers that were given were taken, and after none of them the outside is needed
+-- exactly the turns of the numbers that were given were taken, and after none of them the caller must act
 pub record HasGoneOn (code : Code) (old new : State) (before after : List Event) (given now : ℕ) : Type 0 where
   pub taken : List ℕ
   pub order : before ≡ turn_events taken ++ after
@@ -50,8 +50,8 @@ pub record HasGoneOn (code : Code) (old new : State) (before after : List Event)
   pub silent : GoOn code old taken
   pub state : new ≡ steps code old taken
 
--- with these frames and globals turns of exactly the numbers that were given were taken, and each touched the innermost
--- frame alone
+-- with these frames and globals, exactly the turns of the numbers that were given were taken, and each touched only the
+-- innermost frame
 pub record HasKeptOn (code : Code) (globals : List Value) (fs hs : List FrameView) (before after : List Event)
     (given now : ℕ) : Type 0 where
   pub taken : List ℕ
@@ -59,17 +59,17 @@ pub record HasKeptOn (code : Code) (globals : List Value) (fs hs : List FrameVie
   pub count : now ≡ given + length taken
   pub passes : PassEach code globals taken fs hs
 
--- the goroutine alone can run, and nothing is printed
+-- only this goroutine can run, and the output is empty
 pub record IsLone (g : ℕ) (s : State) : Type 0 where
   pub alone : runnable s ≡ g ∷ []
   pub quiet : s.output ≡ []
 
--- one more number was given, and before it that was so; or no turn comes next
+-- one more number was given, and P held before it; or no turn comes next
 abbrev pub HasAsked : Option ℕ → (List Event → ℕ → Type 0) → List Event → ℕ → Type 0
 HasAsked None P after now = P after now × (is_turn_next after ≡ false)
 HasAsked (Some c) P after now = (earlier : ℕ) × P (Event.Turn c ∷ after) earlier × (now ≡ earlier + 1)
 
--- that was so, and then one more number was given, in this state
+-- turns were taken, and then one more number was given, in this state
 pub record HasCome (code : Code) (old : State) (before after : List Event) (given now : ℕ) : Type 0 where
   pub state : State
   pub number : ℕ
@@ -77,7 +77,7 @@ pub record HasCome (code : Code) (old : State) (before after : List Event) (give
   pub went : HasGoneOn code old state before (Event.Turn number ∷ after) given earlier
   pub one_more : now ≡ earlier + 1
 
--- no turn was left; or the outside is needed after the last turn
+-- no turn was left; or the caller must act after the last turn
 abbrev pub HasTaken : Option Turned → Code → State → State → List Event → List Event → ℕ → ℕ → Type 0
 HasTaken None code old new before after given now = HasGoneOn code old new before after given now
     × (is_turn_next after ≡ false)

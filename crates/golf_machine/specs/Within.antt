@@ -1,4 +1,4 @@
--- Instructions that touch the innermost frame alone; they may look at globals.
+-- Instructions that touch only the innermost frame. They may read globals.
 use Rattle.std.specs.Prelude.{◌≡◌, ℕ, Bool, true, false, List, []}
 use Rattle.golf_data.specs.declared.code.Instr.{Instr}
 use Rattle.golf_data.specs.declared.goroutine.PanicKind.{PanicKind}
@@ -34,21 +34,21 @@ is_on_frame (Instr.Jump target) = true
 is_on_frame (Instr.JumpIfNot target) = true
 is_on_frame _ = false
 
--- whichever goroutine has the frame f, its changes are that it stands with the frame h, of the same function, which
--- leaves as f did
+-- For each goroutine that has the frame f, the only change is that it has the frame h instead. The frame h is of the
+-- same function, and is leaving exactly as f is.
 pub record Becomes (act : Actor → List Change) (f h : FrameView) : Type 0 where
   pub stands : (g : ℕ) (r : GoroutineView) (callers : List FrameView) (line : ℕ)
       → act (acting g r f callers line) ≡ stands (acting g r f callers line) h
   pub function : h.function ≡ f.function
   pub leaving : h.leaving ≡ f.leaving
 
--- whichever goroutine has the frame f, its changes are those of the other act
+-- for each goroutine that has the frame f, the changes under both are the same
 abbrev pub ActsAs : (Actor → List Change) → (Actor → List Change) → FrameView → Type 0
 ActsAs act other f = (g : ℕ) (r : GoroutineView) (callers : List FrameView) (line : ℕ)
     → act (acting g r f callers line) ≡ other (acting g r f callers line)
 
--- what came of an instruction that does this, if it touches the frame alone: it is done; or the frame is as it was, and
--- it panics, or no rule fits, or it touches more than the frame
+-- The result of an instruction with these changes that is tried on the frame alone. `Done`: it is done. Otherwise the
+-- frame is unchanged, and the instruction panics, or no rule fits, or it touches more than the frame.
 abbrev pub HasGone : Bool → Within → (Actor → List Change) → FrameView → FrameView → Type 0
 HasGone on_frame Within.Done act f h = Becomes act f h
 HasGone on_frame Within.ZeroDivisor act f h = (h ≡ f) × ActsAs act (λ a. panics a PanicKind.DivideByZero) f

@@ -1,4 +1,6 @@
-//! Turns of the one goroutine that can run.
+//! Takes turns while only one goroutine can run.
+//!
+//! Such turns need no search for the goroutine, and only touch its innermost frame.
 
 ghost use Rattle.std.specs.Prelude.{◌≡◌, ℕ, Some, None, IfOk, OnErr, IfSome};
 ghost use Rattle.golf_theory.specs.Maps.{IsRising};
@@ -13,9 +15,9 @@ use golf_base::{GoroutineId, List, Memory};
 use golf_data::{Code, Frame, Value};
 use golf_state::State;
 
-// Takes turns with these frames and globals, one for each number, as long as they touch the innermost frame alone. It
-// answers the number of the turn that does not, and is still to come; none if no turn comes next. On `Memory` the
-// frames are those before the turn of the last number.
+// Takes turns with these frames and globals, one for each number, as long as each touches only the
+// innermost frame. Returns the number of the first other turn, which is still to be taken, or `None` if no
+// turn comes next. On `Memory` the frames are those before the turn of the last number.
 fn keep_on<N: Numbers>(
     code: &Code,
     globals: &[Value],
@@ -36,8 +38,8 @@ fn keep_on<N: Numbers>(
     Ok(None)
 }
 
-// The one goroutine that can run, unless there are several, or something printed is still there. Of three
-// that run two can, whatever goroutine 0 has to call.
+// The only goroutine that can run, or `None` if several can, or if the output is not empty. If three run,
+// two of them can, whatever goroutine 0 has to call.
 #[inline(always)]
 fn lone_goroutine(state: &State) -> Option<GoroutineId>
     ensures lone { IfSome result (λ g. IsLone g.0 state.now) }
@@ -54,9 +56,10 @@ fn lone_goroutine(state: &State) -> Option<GoroutineId>
     }
 }
 
-/// Takes the turns of the one goroutine that can run, as long as they touch its innermost frame alone; none if
-/// several can run, or if something printed is still there. It answers the number of the next turn, which is still to
-/// come; none if no turn comes next. On `Memory` the state is the one before the turn of the last number.
+/// Takes the turns of the only goroutine that can run, as long as each touches only its innermost frame. If
+/// several can run, or the output is not empty, it takes no turn. Returns the number of the next turn,
+/// which is still to be taken, or `None` if no turn comes next. On `Memory` the state is the one before the
+/// turn of the last number.
 pub(crate) fn go_on_alone<N: Numbers>(
     code: &Code,
     state: &mut State,

@@ -1,4 +1,6 @@
-//! What is calculated of integers, and which values are equal.
+//! Arithmetic on integers, and equality of values.
+//!
+//! Integers have 64 bits and wrap (Go specification, "Integer overflow").
 
 ghost use Rattle.std.specs.Prelude.{◌≡◌};
 ghost use Rattle.std.specs.Int.{w64, IsNonZero};
@@ -29,7 +31,7 @@ pub enum Comparison {
     AtMost,
 }
 
-/// The result of an operation, wrapped at 64 bits.
+/// Returns the result of an operation, wrapped at 64 bits.
 pub fn result_of(operation: Operation, m: i64, n: i64) -> i64
     ensures { result ≡ operation_of operation m n }
 {
@@ -40,7 +42,7 @@ pub fn result_of(operation: Operation, m: i64, n: i64) -> i64
     }
 }
 
-/// The result of a division, cut off toward zero, or its remainder.
+/// Returns the quotient, cut off toward zero, or the remainder.
 pub fn part_of(division: Division, m: i64, n: i64) -> i64
     requires { IsNonZero w64 n }
     ensures { result ≡ division_of division m n }
@@ -51,7 +53,7 @@ pub fn part_of(division: Division, m: i64, n: i64) -> i64
     }
 }
 
-/// Whether a comparison holds.
+/// Returns whether a comparison holds.
 pub fn holds(comparison: Comparison, m: i64, n: i64) -> bool
     ensures { result ≡ comparison_of comparison m n }
 {
@@ -61,7 +63,7 @@ pub fn holds(comparison: Comparison, m: i64, n: i64) -> bool
     }
 }
 
-/// Whether two values of one kind are equal.
+/// Returns whether two values of one kind are equal. `None` if they are of two kinds.
 pub fn are_equal(x: Value, y: Value) -> Option<bool>
     ensures { result ≡ equality x y }
 {

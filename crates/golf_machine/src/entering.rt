@@ -1,4 +1,7 @@
-//! Frames that calls, goroutines, deferred calls and finalisers begin with.
+//! The first frames of calls, goroutines, deferred calls and finalisers. On `Err` the state is unchanged.
+//!
+//! A frame has room for all operands of its function, and for two more. A goroutine has at most 10,000
+//! frames.
 
 ghost use Rattle.std.specs.Prelude.{◌≡◌, ◌<◌, ◌∷◌, [], ℕ, Some, None, IfOk, OnOk, OnErr, option_map, reverse};
 ghost use Rattle.std.specs.Prelude.{slice_get, option_to_list, true};
@@ -20,11 +23,11 @@ use golf_data::{Code, Deferred, Ending, Frame, Function, Leaving, PanicKind, Slo
 use golf_state::{Acting, Outcome, State, defer, enter, enter_deferred, proceed};
 use std::alloc::Global;
 
-/// The most frames of a goroutine.
+/// The most frames that a goroutine may have (this runtime's rule).
 const MOST_FRAMES: usize = 10_000;
 
-// The slots of a new frame: the arguments, and 0 in the others; an argument that is not needed is
-// cleared.
+// The slots of a new frame: the arguments, and 0 in the others. An argument that no instruction reads
+// becomes 0.
 fn slots_of(alloc: Global, function: &Function, arguments: &[Value]) -> Result<Slots, Memory>
     ensures { IfOk result (λ slots. slots ≡ slots_of function.now arguments.now) }
 {
@@ -39,7 +42,7 @@ fn slots_of(alloc: Global, function: &Function, arguments: &[Value]) -> Result<S
     }
 }
 
-// The first frame of a call of the function of this number, if the code has one.
+// The first frame of a call of the function of this number, or `None` if the code has no such function.
 fn open_frame(
     alloc: Global,
     code: &Code,
@@ -53,7 +56,7 @@ fn open_frame(
         return Ok(None);
     };
     let slots = slots_of(alloc, function, arguments)?;
-    // Whoever is served gets up to two values on top, for which there is room from the start.
+    // A served waiter gets up to two values on top. The frame has room for them from the start.
     let operands = Room::with_room(alloc, (function.depth as usize).saturating_add(2))?;
     Ok(Some(Frame {
         function: number,
@@ -66,7 +69,7 @@ fn open_frame(
     }))
 }
 
-// The last items, so many, in their order, if there are so many.
+// The last `count` items in their order, or `None` if there are fewer.
 fn last_items(items: &[Value], count: usize) -> Option<&[Value]>
     ensures { option_map (λ vs. vs.now) result ≡ last_of count (reverse items.now) }
 {
@@ -77,7 +80,7 @@ fn last_items(items: &[Value], count: usize) -> Option<&[Value]>
     Some(last)
 }
 
-/// The last operands of a goroutine, so many, in source order, if there are so many.
+/// Returns the last `count` operands of a goroutine, in source order, or `None` if there are fewer.
 pub fn last_values(state: &State, g: GoroutineId, count: u32) -> Option<&[Value]>
     ensures { option_map (λ vs. vs.now) result ≡ last_of count (operands_of g.0 state.now) }
 {
@@ -87,7 +90,7 @@ pub fn last_values(state: &State, g: GoroutineId, count: u32) -> Option<&[Value]
     }
 }
 
-// One frame more is too many: the program ends.
+// Ends the program: the goroutine would have one frame too many.
 fn overflow(state: &mut State, g: GoroutineId, line: u32)
     ensures { state.new ≡ finish (Ending.Panicked PanicKind.StackOverflow g line) state.old }
 {
@@ -98,7 +101,7 @@ fn overflow(state: &mut State, g: GoroutineId, line: u32)
     });
 }
 
-/// Calls a function with the last operands, so many.
+/// Calls a function with the last `count` operands. One frame too many is a fatal error.
 pub fn call(
     alloc: Global,
     code: &Code,
@@ -125,14 +128,14 @@ pub fn call(
     Ok(Outcome::Done)
 }
 
-// A list of one frame, with room for no more.
+// A list of one frame, with room for no other.
 fn frames_of(alloc: Global, frame: Frame) -> Result<List<Frame>, Memory>
     ensures { IfOk result (λ frames. frames ≡ frame ∷ []) }
 {
     Ok(List::from_vec(vec![in alloc; frame]?))
 }
 
-/// Starts a goroutine on a function with the last operands, so many.
+/// Starts a goroutine on a function with the last `count` operands.
 pub fn go(
     alloc: Global,
     code: &Code,
@@ -157,7 +160,7 @@ pub fn go(
     Ok(Outcome::Done)
 }
 
-// A deferred call of a function with these arguments.
+// A deferred call of a function with these values as its arguments.
 fn deferred_of(alloc: Global, function: u32, values: &[Value]) -> Result<Deferred, Memory>
     ensures { IfOk result (λ deferred. deferred ≡ record { function = function; arguments = values.now }) }
 {
@@ -169,7 +172,7 @@ fn deferred_of(alloc: Global, function: u32, values: &[Value]) -> Result<Deferre
     })
 }
 
-/// Defers a call of a function with the last operands, so many.
+/// Defers a call of a function with the last `count` operands.
 pub fn defer_call(
     alloc: Global,
     state: &mut State,
@@ -197,7 +200,7 @@ fn last(items: &[Deferred]) -> Option<&Deferred>
     items.last()
 }
 
-/// The latest deferred call of a goroutine's innermost frame, if there is one.
+/// Returns the latest deferred call of a goroutine's innermost frame, or `None`.
 pub fn latest_deferred(state: &State, g: GoroutineId) -> Option<&Deferred>
     ensures { option_map (λ d. d.now) result ≡ slice_get (deferred_of g.0 state.now) 0 }
 {
@@ -205,8 +208,8 @@ pub fn latest_deferred(state: &State, g: GoroutineId) -> Option<&Deferred>
     last(frame.deferred.as_slice())
 }
 
-/// Begins the latest deferred call of a goroutine's innermost frame, if it has one. It answers whether
-/// a rule fits.
+/// Begins the latest deferred call of a goroutine's innermost frame, if it has one. Returns whether a rule
+/// fits.
 pub fn begin_deferred(
     alloc: Global,
     code: &Code,
@@ -234,9 +237,9 @@ pub fn begin_deferred(
     Ok(true)
 }
 
-/// The goroutine without a frame takes the first entry of the finaliser queue, if it is
-/// goroutine 0 and there is one, and begins its function on its object. It answers whether a rule
-/// fits.
+/// Takes the first entry of the finaliser queue and begins its function on its object. The goroutine has no
+/// frame. Returns whether a rule fits: the goroutine is goroutine 0, the queue has an entry, and the code
+/// has the function.
 pub fn begin_queued(
     alloc: Global,
     code: &Code,
@@ -263,7 +266,8 @@ pub fn begin_queued(
     Ok(true)
 }
 
-/// The frames of goroutine 1 before the first turn: that of function 0, if the code has one.
+/// Returns the frames of goroutine 1 before the first turn: the frame of function 0, if the code has that
+/// function.
 pub fn first_frames(alloc: Global, code: &Code) -> Result<List<Frame>, Memory>
     ensures { IfOk result (λ frames. frame_views frames ≡ option_to_list (call_frame code.now 0 [] true)) }
 {

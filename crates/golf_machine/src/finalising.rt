@@ -1,4 +1,6 @@
-//! The instructions on finalisers.
+//! The instructions on finalisers. On `Err` the state is unchanged.
+//!
+//! A struct has at most one finaliser (package runtime, `SetFinalizer`).
 
 ghost use Rattle.std.specs.Prelude.{◌≡◌, ◌∷◌, IfOk, OnErr, drop};
 ghost use Rattle.golf_theory.specs.Maps.{find};
@@ -13,7 +15,7 @@ use golf_base::{Memory, ObjectId};
 use golf_data::PanicKind;
 use golf_state::{Acting, Outcome, Reference, State, last_operand, proceed, reference_in};
 
-// The function becomes the finaliser of a struct.
+// Sets the finaliser of a struct.
 fn finalise_at(
     state: &mut State,
     acting: Acting,
@@ -35,8 +37,8 @@ fn finalise_at(
     Ok(Outcome::Done)
 }
 
-/// The function becomes the finaliser of the struct that the last operand refers to. If that has
-/// one already, it is a fatal error; it panics on nil.
+/// Sets the finaliser of the struct that the last operand refers to. If the struct has one already, that is
+/// a fatal error. It panics on nil.
 pub fn finalise(state: &mut State, acting: Acting, function: u32) -> Result<Outcome, Memory>
     requires { Stands acting.goroutine.0 acting.after state.old }
     ensures ok { IfOk result (λ outcome. Fits outcome (λ a. finalises a function state.old) acting.goroutine.0 acting.line state.old state.new) }
@@ -52,7 +54,7 @@ pub fn finalise(state: &mut State, acting: Acting, function: u32) -> Result<Outc
     }
 }
 
-// A struct has no finaliser from now on.
+// Removes the finaliser of a struct, if it has one.
 fn unfinalise_at(state: &mut State, acting: Acting, object: ObjectId) -> Result<Outcome, Memory>
     requires { Stands acting.goroutine.0 acting.after state.old }
     ensures ok { IfOk result (λ outcome. Fits outcome (λ a. at_struct (λ fields. Change.ClearFinaliser object.0 ∷ goes a (drop 1 a.frame.operands)) (find object.0 state.old.objects)) acting.goroutine.0 acting.line state.old state.new) }
@@ -66,7 +68,7 @@ fn unfinalise_at(state: &mut State, acting: Acting, object: ObjectId) -> Result<
     Ok(Outcome::Done)
 }
 
-/// The struct that the last operand refers to has no finaliser from now on; nothing happens on nil.
+/// Removes the finaliser of the struct that the last operand refers to. On nil it only goes on.
 pub fn unfinalise(state: &mut State, acting: Acting) -> Result<Outcome, Memory>
     requires { Stands acting.goroutine.0 acting.after state.old }
     ensures ok { IfOk result (λ outcome. Fits outcome (λ a. unfinalises a state.old) acting.goroutine.0 acting.line state.old state.new) }

@@ -1,4 +1,7 @@
-//! Frames that return or unwind, and goroutines that end.
+//! Frames that return or unwind, and goroutines that end. On `Err` the state is unchanged.
+//!
+//! A frame with deferred calls becomes a returning or an unwinding frame. Each later turn begins one of its
+//! deferred calls, or leaves the frame.
 
 ghost use Rattle.std.specs.Prelude.{◌≡◌, ℕ, IfOk, OnOk, OnErr};
 ghost use Rattle.golf_model.specs.Calls.{ends, returns, returns_value, returns_to, unwinds_to, leaves_returning};
@@ -15,7 +18,7 @@ use golf_data::{Code, Ending, Fault, Value};
 use golf_state::{Acting, Outcome, State, begin_return, last_operand, return_frame, unwind_caller};
 use std::alloc::Global;
 
-// The goroutine's last frame is gone: it has ended, but goroutine 0 waits for its queue.
+// Removes the goroutine's last frame: the goroutine ends. Goroutine 0 does not end; it waits for its queue.
 fn end(state: &mut State, g: GoroutineId)
     requires { Acts g.0 state.old }
     ensures { (line : ℕ) → state.new ≡ does ends g.0 line state.old }
@@ -27,7 +30,7 @@ fn end(state: &mut State, g: GoroutineId)
     }
 }
 
-// The innermost frame is gone by returning; the program ends when goroutine 1 does.
+// Leaves the innermost frame by a return. The program ends with goroutine 1.
 fn return_to(state: &mut State, g: GoroutineId, value: Option<Value>) -> Result<(), Memory>
     requires { Acts g.0 state.old }
     ensures ok { OnOk result ((line : ℕ) → state.new ≡ does (λ a. returns_to a value a.callers) g.0 line state.old) }
@@ -43,8 +46,7 @@ fn return_to(state: &mut State, g: GoroutineId, value: Option<Value>) -> Result<
     Ok(())
 }
 
-// The innermost frame is gone by unwinding: its caller unwinds, and the program ends with the last
-// frame.
+// Leaves the innermost frame by unwinding: its caller unwinds. Without a caller the program ends.
 fn unwind_to(state: &mut State, g: GoroutineId, fault: Fault)
     requires { Acts g.0 state.old }
     ensures { (line : ℕ) → state.new ≡ does (λ a. unwinds_to a fault a.callers) g.0 line state.old }
@@ -71,8 +73,8 @@ fn has_deferred(state: &State, g: GoroutineId) -> bool
     }
 }
 
-/// The goroutine returns without a value: with deferred calls its innermost frame is returning,
-/// else the frame is gone.
+/// Returns without a value. If the innermost frame has deferred calls, it becomes a returning frame, and
+/// else it is left.
 pub fn return_without_value(state: &mut State, acting: Acting) -> Result<Outcome, Memory>
     requires { Stands acting.goroutine.0 acting.after state.old }
     ensures ok { IfOk result (λ outcome. Fits outcome returns acting.goroutine.0 acting.line state.old state.new) }
@@ -86,8 +88,8 @@ pub fn return_without_value(state: &mut State, acting: Acting) -> Result<Outcome
     Ok(Outcome::Done)
 }
 
-/// The goroutine returns with its last operand: with deferred calls its innermost frame is returning,
-/// else the frame is gone.
+/// Returns with the last operand. If the innermost frame has deferred calls, it becomes a returning frame,
+/// and else it is left.
 pub fn return_with_value(state: &mut State, acting: Acting) -> Result<Outcome, Memory>
     requires { Stands acting.goroutine.0 acting.after state.old }
     ensures ok { IfOk result (λ outcome. Fits outcome returns_value acting.goroutine.0 acting.line state.old state.new) }
@@ -105,7 +107,7 @@ pub fn return_with_value(state: &mut State, acting: Acting) -> Result<Outcome, M
     Ok(Outcome::Done)
 }
 
-/// The turn of a goroutine whose innermost frame is returning, from a return of this line. It answers
+/// Takes the turn of a goroutine whose innermost frame is returning, from a return on this line. Returns
 /// whether a rule fits.
 pub fn leave_returning(
     alloc: Global,
@@ -127,7 +129,7 @@ pub fn leave_returning(
     Ok(true)
 }
 
-/// The turn of a goroutine whose innermost frame is unwinding. It answers whether a rule fits.
+/// Takes the turn of a goroutine whose innermost frame is unwinding. Returns whether a rule fits.
 pub fn leave_unwinding(
     alloc: Global,
     code: &Code,

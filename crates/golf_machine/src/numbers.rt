@@ -1,10 +1,12 @@
-//! The numbers of turns that are taken in one go.
+//! The numbers of turns that are taken in one batch.
+//!
+//! `take_turns` asks for one number before each turn.
 
 ghost use Rattle.std.specs.Prelude.{◌≡◌, ◌+◌, ◌∷◌, ℕ, List, false, MatchOption};
 ghost use Rattle.golf_model.specs.Running.{Event};
 ghost use Rattle.golf_machine.specs.Taking.{is_turn_next};
 
-/// Where the numbers of turns come from.
+/// The source of the numbers of turns.
 pub trait Numbers {
     /// The events that are still to come.
     ghost left: { Self → List Event };
@@ -12,7 +14,7 @@ pub trait Numbers {
     /// How many numbers were given.
     ghost given: { Self → ℕ };
 
-    /// The number of the next turn; none if the next event is no turn.
+    /// Returns the number of the next turn, or `None` if the next event is not a turn.
     fn next(&mut self) -> Option<u64>
         ensures { MatchOption result
             ((is_turn_next (left self.old) ≡ false) × (left self.new ≡ left self.old) × (given self.new ≡ given self.old))

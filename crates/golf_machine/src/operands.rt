@@ -1,4 +1,6 @@
-//! An operand that is an integer, and what a zero value is.
+//! An operand that is an integer, and the zero value of a value in the code.
+//!
+//! Nothing here removes an operand.
 
 ghost use Rattle.std.specs.Prelude.{◌≡◌};
 ghost use Rattle.golf_model.specs.Values.{zero_of};
@@ -9,14 +11,14 @@ use golf_base::GoroutineId;
 use golf_data::Value;
 use golf_state::{State, int_in, last_operand};
 
-/// The last operand of a goroutine's innermost frame, if it is an integer.
+/// Returns the last operand of a goroutine's innermost frame if it is an integer, or `None`.
 pub fn last_int(state: &State, g: GoroutineId) -> Option<i64>
     ensures { result ≡ int_in (operands_of g.0 state.now) }
 {
     int_in(last_operand(state, g)?)
 }
 
-/// The zero value that a value of the code is: no reference is one.
+/// Returns the zero value for a value in the code: nil for a reference, and else the value itself.
 pub fn zero_of(value: Value) -> Value
     ensures { result ≡ zero_of value }
 {

@@ -1,4 +1,6 @@
-//! Turns that touch the innermost frame alone.
+//! Turns that touch only the innermost frame.
+//!
+//! Such a turn needs neither the other goroutines nor the wait queues.
 
 ghost use Rattle.std.specs.Prelude.{◌≡◌, IfOk, OnErr, option_map, slice_get};
 ghost use Rattle.golf_data.specs.Places.{HasPlaces};
@@ -11,18 +13,18 @@ use golf_base::{GoroutineId, List, Memory};
 use golf_data::{Code, CodeLine, Frame, Function, Leaving, Value};
 use golf_state::State;
 
-/// How far a turn came on the innermost frame alone.
+/// The result of a try to take a turn on the innermost frame alone.
 #[derive(Clone, Copy, Debug, Drop)]
 pub(crate) enum Passed<'c> {
-    /// It is over, with what is cleared after it.
+    /// The turn is taken, and the slots are cleared after it.
     Over,
-    /// Nothing has changed: this instruction is still to be done, and the number is the place after it.
+    /// Nothing has changed. This instruction is still to be done, and the number is the place after it.
     At(&'c CodeLine, u32),
-    /// Nothing has changed: there is no frame, or it is leaving, or it is at no instruction.
+    /// Nothing has changed: there is no frame, the frame is leaving, or it is at no instruction.
     Nowhere,
 }
 
-/// The function of this number.
+/// Returns the function of this number, or `None`.
 #[inline(always)]
 pub(crate) fn function_at(code: &Code, number: u32) -> Option<&Function>
     ensures function { option_map (λ f. f.now) result ≡ slice_get code.now.functions number }
@@ -30,7 +32,7 @@ pub(crate) fn function_at(code: &Code, number: u32) -> Option<&Function>
     code.functions.as_slice().get(number as usize)
 }
 
-/// The instruction at a place of a function, with its line.
+/// Returns the instruction at a place of a function, with its line, or `None`.
 #[inline(always)]
 pub(crate) fn line_in(function: &Function, at: u32) -> Option<&CodeLine>
     ensures line { option_map (λ l. l.now) result ≡ slice_get function.now.body at }
@@ -38,7 +40,7 @@ pub(crate) fn line_in(function: &Function, at: u32) -> Option<&CodeLine>
     function.body.as_slice().get(at as usize)
 }
 
-// The mask of a place of a function, if there is one.
+// The mask of a place of a function, or `None`.
 #[inline(always)]
 fn mask_in(function: &Function, at: u32) -> Option<u64>
     ensures { result ≡ slice_get function.now.live at }
@@ -46,7 +48,7 @@ fn mask_in(function: &Function, at: u32) -> Option<u64>
     function.live.as_slice().get(at as usize).copied()
 }
 
-// The slots of a frame of this function which no instruction from its next one on can read hold 0.
+// Sets to 0 the slots of a frame of this function that no instruction from its next one on can read.
 #[inline(always)]
 fn clear_in(function: &Function, frame: &mut Frame)
     ensures { frame_view frame.new ≡ cleared_in function.now (frame_view frame.old) }
@@ -56,7 +58,8 @@ fn clear_in(function: &Function, frame: &mut Frame)
     }
 }
 
-// The turn of a frame, with these globals, if its instruction touches the frame alone, and fits and does not panic.
+// Takes the turn of a frame, with these globals, if its instruction touches only the frame, a rule fits,
+// and it does not panic.
 #[inline(always)]
 fn pass_in<'c>(code: &'c Code, globals: &[Value], frame: &mut Frame) -> Result<Passed<'c>, Memory>
     requires places { HasPlaces code.now }
@@ -83,7 +86,7 @@ fn pass_in<'c>(code: &'c Code, globals: &[Value], frame: &mut Frame) -> Result<P
     Ok(Passed::Over)
 }
 
-/// The same of the innermost frame, if there is one.
+/// Takes the turn of the innermost frame, if there is one, as `pass_in` does.
 #[inline(always)]
 pub(crate) fn pass_on_top<'c>(
     code: &'c Code,
@@ -102,8 +105,9 @@ pub(crate) fn pass_on_top<'c>(
     Ok(passed)
 }
 
-/// The turn of a goroutine that runs, with what is cleared after it, if its instruction touches its innermost frame
-/// alone, and fits and does not panic. Else nothing has changed, and it answers where the goroutine is.
+/// Takes the turn of a running goroutine, and clears slots after it, if its instruction touches only its
+/// innermost frame, a rule fits, and it does not panic. Else nothing changes, and the result says where the
+/// goroutine is.
 #[inline(always)]
 pub(crate) fn pass<'c>(
     code: &'c Code,

@@ -1,4 +1,7 @@
-//! Instructions.
+//! One instruction of a frame that is not leaving. On `Err` the state is unchanged.
+//!
+//! `within` has the instructions on the frame alone. `golf_chan` and `golf_sync` have those on channels and
+//! on package sync.
 
 ghost use Rattle.std.specs.Prelude.{◌≡◌, ℕ, true, IfOk, OnOk, OnErr};
 ghost use Rattle.golf_theory.specs.Maps.{find};
@@ -32,7 +35,7 @@ use golf_sync::{
 };
 use std::alloc::Global;
 
-// What an instruction that touches the innermost frame alone has come to.
+// The outcome of an instruction that touches only the innermost frame.
 fn outcome_in(came: Within) -> Outcome
     ensures { result ≡ outcome_in came }
 {
@@ -44,7 +47,7 @@ fn outcome_in(came: Within) -> Outcome
     }
 }
 
-// Does an instruction that touches the innermost frame alone.
+// Does an instruction that touches only the innermost frame.
 fn perform_on_frame(state: &mut State, acting: Acting, instr: &Instr) -> Result<Outcome, Memory>
     requires stands { Stands acting.goroutine.0 acting.after state.old }
     requires on_frame { is_on_frame instr.now ≡ true }
@@ -60,7 +63,8 @@ fn perform_on_frame(state: &mut State, acting: Acting, instr: &Instr) -> Result<
     Ok(outcome_in(came))
 }
 
-// Signals a condition. Who is passed on gets a ticket: if tickets run out, the answer is `Memory`.
+// Signals a condition. A waiter that is passed on gets a ticket: if tickets run out, the answer is
+// `Memory`.
 fn signal(state: &mut State, acting: Acting) -> Result<Outcome, Memory>
     requires { Stands acting.goroutine.0 acting.after state.old }
     ensures ok { IfOk result (λ outcome. Comes outcome (λ a. signals a state.old) acting.goroutine.0 acting.line state.old state.new) }
@@ -72,7 +76,8 @@ fn signal(state: &mut State, acting: Acting) -> Result<Outcome, Memory>
     Ok(cond_signal(state, acting))
 }
 
-// Broadcasts to a condition. Who is passed on gets a ticket: if tickets run out, the answer is `Memory`.
+// Broadcasts to a condition. Waiters that are passed on get tickets: if tickets run out, the answer is
+// `Memory`.
 fn broadcast(state: &mut State, acting: Acting) -> Result<Outcome, Memory>
     requires { Stands acting.goroutine.0 acting.after state.old }
     ensures ok { IfOk result (λ outcome. Comes outcome (λ a. broadcasts a state.old) acting.goroutine.0 acting.line state.old state.new) }
@@ -84,8 +89,9 @@ fn broadcast(state: &mut State, acting: Acting) -> Result<Outcome, Memory>
     Ok(cond_broadcast(state, acting))
 }
 
-// Does an instruction, but for what is left to do once it has come to its outcome. It is the second part of one match:
-// the instructions of its first arm are the arms of `perform_within`, and come here only if they panic or no rule fits.
+// Does an instruction, except for the rest of its outcome, which `carry_out` does. This is the second part
+// of one match. The instructions of its first arm are the arms of `perform_within`. They come here only if
+// they panic or no rule fits.
 #[inline(always)]
 fn operate(
     alloc: Global,
@@ -183,8 +189,9 @@ fn is_fit(outcome: Outcome) -> bool
     }
 }
 
-/// Does an instruction of a frame that is not leaving; a `select` takes the ready case at the place `choice`, counted
-/// round. It answers whether a rule fits. It takes all its memory first: on `Memory` the state is unchanged.
+/// Does an instruction of a frame that is not leaving. A `select` takes the ready case at the place
+/// `choice`, counted round. Returns whether a rule fits. It takes all its memory first: on `Memory` the
+/// state is unchanged.
 #[inline(always)]
 pub fn perform(
     alloc: Global,

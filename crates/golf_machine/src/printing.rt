@@ -1,4 +1,6 @@
-//! What `fmt.Println` prints.
+//! The output of `fmt.Println`. On `Err` the state is unchanged.
+//!
+//! Strings, integers and truth values have a printed form. For any other value no rule fits.
 
 ghost use Rattle.std.specs.Prelude.{◌≡◌, ◌++◌, true, false, IfOk, OnErr, MatchOption};
 ghost use Rattle.golf_model.specs.Values.{bytes_of, line_bytes};
@@ -12,7 +14,7 @@ use golf_data::{Code, Value};
 use golf_state::{Acting, Outcome, State, proceed};
 use std::alloc::Global;
 
-// Adds a value as it is printed, if it has a form.
+// Adds the printed form of a value. Returns whether the value has one.
 fn add_value(
     alloc: Global,
     text: &mut List<u8>,
@@ -46,7 +48,8 @@ fn add_value(
     }
 }
 
-/// The line of these values, one space between and a newline after, if each has a form.
+/// Returns the line of these values, with one space between and a newline at the end, or `None` if a value
+/// has no printed form.
 pub fn line_of(
     alloc: Global,
     texts: &[List<u8>],
@@ -67,7 +70,7 @@ pub fn line_of(
     Ok(Some(text))
 }
 
-/// Prints the line of the last operands, so many.
+/// Prints the line of the last `count` operands.
 pub fn print(
     alloc: Global,
     code: &Code,

@@ -1,4 +1,7 @@
-//! The turn of one goroutine.
+//! The turn of one goroutine. On `Err` the state is unchanged.
+//!
+//! A turn does one instruction, or one step of a frame that is leaving. Or goroutine 0 begins a queued
+//! finaliser.
 
 ghost use Rattle.std.specs.Prelude.{◌≡◌, ℕ, false, IfOk, OnOk, OnErr, option_map};
 ghost use Rattle.golf_theory.specs.Maps.{find};
@@ -20,27 +23,27 @@ use golf_data::{Code, CodeLine, Frame, Instr, Leaving};
 use golf_state::{Acting, State};
 use std::alloc::Global;
 
-/// What came of the turn of one goroutine.
+/// The result of the turn of one goroutine.
 #[derive(Clone, Copy, Debug, PartialEq, Eq)]
 pub enum Acted {
     /// It goes on.
     Went,
-    /// Its instruction is a collection, which is to follow.
+    /// Its instruction is a collection, which the caller must do.
     Collects,
-    /// No rule fits: nothing has changed.
+    /// No rule fits. The state is unchanged.
     Stuck,
 }
 
-// The instruction at a place of a function, with its line.
+/// Returns the instruction at a place of a function, with its line, or `None` if there is none.
 #[inline(always)]
-fn line_at(code: &Code, function: u32, at: u32) -> Option<&CodeLine>
+pub fn line_at(code: &Code, function: u32, at: u32) -> Option<&CodeLine>
     ensures line { option_map (λ l. l.now) result ≡ line_at code.now function at }
 {
     line_in(function_at(code, function)?, at)
 }
 
-// The line of the return of a returning frame, which stands after it.
-fn return_line(code: &Code, frame: &Frame) -> u32
+/// Returns the line of the return of a returning frame, whose place is behind that instruction.
+pub fn return_line(code: &Code, frame: &Frame) -> u32
     ensures { result ≡ return_line code.now (frame_view frame.now) }
 {
     match line_at(code, frame.function, frame.at.saturating_sub(1)) {
@@ -57,8 +60,8 @@ fn is_collection(instr: &Instr) -> bool
     matches!(instr, Instr::Collect)
 }
 
-/// The turn of a goroutine that runs and is at this instruction, before the place `after`; a `select` takes the ready
-/// case at the place `choice`, counted round.
+/// Takes the turn of a goroutine that runs and is at this instruction, before the place `after`. A `select`
+/// takes the ready case at the place `choice`, counted round.
 pub fn act(
     alloc: Global,
     code: &Code,
@@ -87,7 +90,7 @@ pub fn act(
     Ok(went_if(fits))
 }
 
-// A turn that is no collection.
+// The result of a turn that is no collection.
 #[inline(always)]
 fn went_if(fits: bool) -> Acted
     ensures fits { has_rule result ≡ fits }
@@ -96,8 +99,8 @@ fn went_if(fits: bool) -> Acted
     if fits { Acted::Went } else { Acted::Stuck }
 }
 
-/// The turn of a goroutine that runs and is at no instruction: it has no frame, or its innermost frame is leaving or at
-/// its end.
+/// Takes the turn of a running goroutine that is at no instruction. It has no frame, or its innermost frame
+/// is leaving or at its end.
 pub fn act_nowhere(
     alloc: Global,
     code: &Code,

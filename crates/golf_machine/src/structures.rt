@@ -1,4 +1,5 @@
-//! The instructions on structs, slices and channels, and those that make objects.
+//! The instructions on structs, slices and channels, and those that make objects. On `Err` the state is
+//! unchanged.
 
 ghost use Rattle.std.specs.Prelude.{◌≡◌, ◌∷◌, IfOk, OnErr, is_some, length, drop, slice_get, option_map, pos, false};
 ghost use Rattle.golf_theory.specs.Maps.{find};
@@ -27,10 +28,10 @@ use golf_state::{
 use golf_sync::condition_at;
 use std::alloc::Global;
 
-/// The most elements of a slice, and the greatest capacity of a channel.
+/// The most elements of a slice, and the largest capacity of a channel (this runtime's rule).
 const MOST_ELEMENTS: i64 = 65_536;
 
-// The fields of the struct of this number, if there is one.
+// The fields of the struct of this number, or `None`.
 fn struct_at(state: &State, object: ObjectId) -> Option<&List<Value>>
     ensures { option_map (λ fields. fields.now) result ≡ struct_of (find object.0 state.now.objects) }
 {
@@ -40,14 +41,14 @@ fn struct_at(state: &State, object: ObjectId) -> Option<&List<Value>>
     }
 }
 
-/// Whether the object of this number is a struct.
+/// Returns whether the object of this number is a struct.
 pub fn is_struct(state: &State, object: ObjectId) -> bool
     ensures { result ≡ is_some (struct_of (find object.0 state.now.objects)) }
 {
     struct_at(state, object).is_some()
 }
 
-// The elements of the slice of this number, if there is one.
+// The elements of the slice of this number, or `None`.
 fn slice_at(state: &State, object: ObjectId) -> Option<&List<Value>>
     ensures { option_map (λ elements. elements.now) result ≡ slice_of (find object.0 state.now.objects) }
 {
@@ -57,7 +58,7 @@ fn slice_at(state: &State, object: ObjectId) -> Option<&List<Value>>
     }
 }
 
-/// The zero values of globals or fields.
+/// Returns the zero values of globals or fields.
 pub fn zeros_of(alloc: Global, values: &[Value]) -> Result<List<Value>, Memory>
     ensures { IfOk result (λ zeros. zeros ≡ zeros_of values.now) }
 {
@@ -78,7 +79,7 @@ pub fn new_object(state: &mut State, acting: Acting, object: Object) -> Result<O
     Ok(Outcome::Done)
 }
 
-/// Makes a struct with the zero values of a row of the code's table, if that is there.
+/// Makes a struct with the zero values of a row of the code's table. If there is no such row, no rule fits.
 pub fn new_struct(
     alloc: Global,
     code: &Code,
@@ -100,7 +101,7 @@ pub fn new_struct(
     }
 }
 
-// The field at a place of the struct that a value refers to.
+// Pushes the field at a place of the struct that a value refers to.
 fn get_field_of(
     state: &mut State,
     acting: Acting,
@@ -129,7 +130,7 @@ fn get_field_of(
     }
 }
 
-/// Leaves a field of the struct that the last operand refers to; it panics on nil.
+/// Replaces the last operand, which refers to a struct, by one of its fields. It panics on nil.
 pub fn get_field(state: &mut State, acting: Acting, field: u32) -> Result<Outcome, Memory>
     requires { Stands acting.goroutine.0 acting.after state.old }
     ensures ok { IfOk result (λ outcome. Fits outcome (λ a. gets_field a field state.old) acting.goroutine.0 acting.line state.old state.new) }
@@ -141,7 +142,7 @@ pub fn get_field(state: &mut State, acting: Acting, field: u32) -> Result<Outcom
     }
 }
 
-// The field at a place becomes this value, if the object is a struct that has it.
+// Sets the field at a place, if the object is a struct that has it.
 fn change_field(object: &mut Object, field: usize, value: Value)
     ensures { object.new ≡ field_changed field value object.old }
 {
@@ -162,7 +163,7 @@ fn has_field(state: &State, object: ObjectId, field: u32) -> bool
     }
 }
 
-// The field at a place of the struct that a value refers to becomes this value.
+// Sets the field at a place of the struct that a value refers to.
 fn set_field_of(
     state: &mut State,
     acting: Acting,
@@ -188,8 +189,7 @@ fn set_field_of(
     }
 }
 
-/// Stores the last operand in a field of the struct that the operand before it refers to; it panics
-/// on nil.
+/// Stores the last operand in a field of the struct that the operand before it refers to. It panics on nil.
 pub fn set_field(state: &mut State, acting: Acting, field: u32) -> Result<Outcome, Memory>
     requires { Stands acting.goroutine.0 acting.after state.old }
     ensures ok { IfOk result (λ outcome. Fits outcome (λ a. sets_field a field state.old) acting.goroutine.0 acting.line state.old state.new) }
@@ -201,8 +201,8 @@ pub fn set_field(state: &mut State, acting: Acting, field: u32) -> Result<Outcom
     }
 }
 
-/// Makes a slice with as many elements as the last operand says, which have this zero value; it
-/// panics if those are too many or fewer than none.
+/// Makes a slice with as many elements as the last operand says. Each has the zero value. It panics if the
+/// count is below 0 or above 65,536.
 pub fn new_slice(
     alloc: Global,
     state: &mut State,
@@ -225,8 +225,8 @@ pub fn new_slice(
     Ok(Outcome::Done)
 }
 
-/// Makes a channel whose capacity is the last operand; it panics if that is too great or
-/// negative.
+/// Makes a channel whose capacity is the last operand. It panics if the capacity is below 0 or above
+/// 65,536.
 pub fn new_channel(
     alloc: Global,
     state: &mut State,
@@ -264,7 +264,7 @@ fn is_nil_or_mutex(state: &State, value: Value) -> bool
     }
 }
 
-/// Makes a condition with the mutex that is the last operand, or nil.
+/// Makes a condition with the last operand, which is a mutex or nil.
 pub fn new_condition(state: &mut State, acting: Acting) -> Result<Outcome, Memory>
     requires { Stands acting.goroutine.0 acting.after state.old }
     ensures ok { IfOk result (λ outcome. Fits outcome (λ a. makes_condition a state.old) acting.goroutine.0 acting.line state.old state.new) }
@@ -290,7 +290,7 @@ fn element_at(elements: &[Value], index: i64) -> Option<Value>
     }
 }
 
-// The element at an index of the slice that a value refers to.
+// Pushes the element at an index of the slice that a value refers to.
 fn get_element_of(
     state: &mut State,
     acting: Acting,
@@ -323,8 +323,8 @@ fn get_element_of(
     }
 }
 
-/// Leaves the element of the slice that the operand before the last refers to, at the index that is
-/// the last; it panics if the index is out of range. Nil has no elements.
+/// Replaces the last two operands, a slice and an index, by the element there. It panics if the index is
+/// out of range. Nil has no elements.
 pub fn get_element(state: &mut State, acting: Acting) -> Result<Outcome, Memory>
     requires { Stands acting.goroutine.0 acting.after state.old }
     ensures ok { IfOk result (λ outcome. Fits outcome (λ a. gets_element a state.old) acting.goroutine.0 acting.line state.old state.new) }
@@ -339,7 +339,7 @@ pub fn get_element(state: &mut State, acting: Acting) -> Result<Outcome, Memory>
     }
 }
 
-// The element at a place becomes this value, if the object is a slice that has it.
+// Sets the element at a place, if the object is a slice that has it.
 fn change_element(object: &mut Object, at: usize, value: Value)
     ensures { object.new ≡ element_changed at value object.old }
 {
@@ -350,7 +350,7 @@ fn change_element(object: &mut Object, at: usize, value: Value)
     }
 }
 
-// The element at an index of a slice becomes this value.
+// Sets the element at an index of a slice.
 fn set_element_at(
     state: &mut State,
     acting: Acting,
@@ -375,7 +375,7 @@ fn set_element_at(
     Ok(Outcome::Done)
 }
 
-// The element at an index of the slice that a value refers to becomes this value.
+// Sets the element at an index of the slice that a value refers to.
 fn set_element_of(
     state: &mut State,
     acting: Acting,
@@ -397,8 +397,8 @@ fn set_element_of(
     }
 }
 
-/// Stores the last operand in the slice that the first of the last three refers to, at the index
-/// between; it panics if the index is out of range. Nil has no elements.
+/// Stores the last operand in a slice. The slice and the index are the two operands before it. It panics if
+/// the index is out of range. Nil has no elements.
 pub fn set_element(state: &mut State, acting: Acting) -> Result<Outcome, Memory>
     requires { Stands acting.goroutine.0 acting.after state.old }
     ensures ok { IfOk result (λ outcome. Fits outcome (λ a. sets_element a state.old) acting.goroutine.0 acting.line state.old state.new) }
@@ -413,7 +413,7 @@ pub fn set_element(state: &mut State, acting: Acting) -> Result<Outcome, Memory>
     }
 }
 
-// How many elements a slice has, or values the buffer of a channel.
+// How many elements a slice has, or how many values the buffer of a channel has.
 fn length_of(object: &Object) -> Option<usize>
     ensures { result ≡ length_of object.now }
 {
@@ -424,7 +424,7 @@ fn length_of(object: &Object) -> Option<usize>
     }
 }
 
-// The length of what a value refers to; 0 for nil.
+// The length of the object that a value refers to, or 0 for nil.
 fn length_at(state: &State, value: Value) -> Option<usize>
     ensures { result ≡ measured state.now value }
 {
@@ -435,8 +435,8 @@ fn length_at(state: &State, value: Value) -> Option<usize>
     }
 }
 
-/// Leaves how many elements the slice has that the last operand refers to, or values the buffer of
-/// the channel; 0 for nil.
+/// Replaces the last operand by its length: the elements of a slice, or the buffered values of a channel.
+/// Nil has the length 0.
 pub fn measure(state: &mut State, acting: Acting) -> Result<Outcome, Memory>
     requires { Stands acting.goroutine.0 acting.after state.old }
     ensures ok { IfOk result (λ outcome. Fits outcome (λ a. measures a state.old) acting.goroutine.0 acting.line state.old state.new) }
@@ -454,7 +454,7 @@ pub fn measure(state: &mut State, acting: Acting) -> Result<Outcome, Memory>
     Ok(Outcome::Done)
 }
 
-// The mutex of the condition that a value refers to.
+// Pushes the mutex of the condition that a value refers to.
 fn get_mutex_of(state: &mut State, acting: Acting, condition: Value) -> Result<Outcome, Memory>
     requires { Stands acting.goroutine.0 acting.after state.old }
     ensures ok { IfOk result (λ outcome. Fits outcome (λ a. at_reference a (λ o. at_condition (λ m. goes a (m ∷ drop 1 a.frame.operands)) (find o state.old.objects)) condition) acting.goroutine.0 acting.line state.old state.new) }
@@ -473,7 +473,7 @@ fn get_mutex_of(state: &mut State, acting: Acting, condition: Value) -> Result<O
     }
 }
 
-/// Leaves the mutex of the condition that the last operand refers to; it panics on nil.
+/// Replaces the last operand, which refers to a condition, by its mutex. It panics on nil.
 pub fn get_mutex(state: &mut State, acting: Acting) -> Result<Outcome, Memory>
     requires { Stands acting.goroutine.0 acting.after state.old }
     ensures ok { IfOk result (λ outcome. Fits outcome (λ a. gets_mutex a state.old) acting.goroutine.0 acting.line state.old state.new) }

@@ -1,4 +1,6 @@
-//! Turns in one go, until the outside is needed.
+//! Turns in one batch, until the caller must act outside the machine.
+//!
+//! The caller must act after output, after a collection, and after the end of the program.
 
 ghost use Rattle.std.specs.Prelude.{◌≡◌, None, IfOk, OnErr};
 ghost use Rattle.golf_data.specs.Places.{HasPlaces};
@@ -13,7 +15,7 @@ use golf_data::Code;
 use golf_state::State;
 use std::alloc::Global;
 
-// Whether the outside is needed after a turn.
+// Whether the caller must act after a turn.
 #[inline(always)]
 fn needs_outside(turned: Turned, printed: &[u8]) -> bool
     ensures { result ≡ needs_outside turned printed.now }
@@ -25,9 +27,9 @@ fn needs_outside(turned: Turned, printed: &[u8]) -> bool
     }
 }
 
-/// Takes turns until the outside is needed: something was printed, the last turn was a collection, it
-/// ended the program, or no turn comes next. It answers what the last turn came to, if it needs the
-/// outside. On `Memory` the number of the last turn was given, and the state is the one before it.
+/// Takes turns until something was printed, the last turn was a collection, it ended the program, or no
+/// turn comes next. Returns the result of the last turn if one of the first three stopped it, and else
+/// `None`. On `Memory` the number of the last turn was given, and the state is the one before that turn.
 pub fn take_turns<N: Numbers>(
     alloc: Global,
     code: &Code,

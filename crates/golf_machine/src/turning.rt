@@ -1,4 +1,6 @@
-//! The state before the first turn, and one turn.
+//! The state before the first turn, and one turn. On `Err` the state is unchanged.
+//!
+//! The number of a turn picks the goroutine, and the case of its `select`.
 
 ghost use Rattle.std.specs.Prelude.{◌≡◌, ◌<◌, ◌%◌, ◌/◌, Some, None, IfOk, OnOk, OnErr};
 ghost use Rattle.golf_theory.specs.Maps.{find};
@@ -6,7 +8,7 @@ ghost use Rattle.golf_data.specs.Places.{HasPlaces};
 ghost use Rattle.golf_model.specs.Changes.{apply_all};
 ghost use Rattle.golf_model.specs.Clearing.{clearing};
 ghost use Rattle.golf_model.specs.State.{ending, start as start_of};
-ghost use Rattle.golf_model.specs.Turn.{step, wants_collection, goroutine_collects};
+ghost use Rattle.golf_model.specs.Turn.{step, wants_collection, goroutine_collects, whose_turn as whose_turn_of};
 ghost use Rattle.golf_state.specs.Doing.{Runs};
 ghost use Rattle.golf_machine.specs.Passing.{taken};
 ghost use Rattle.golf_machine.specs.Stepping.{has_collected, keeps_slots};
@@ -21,19 +23,19 @@ use golf_data::{Code, Ending};
 use golf_state::State;
 use std::alloc::Global;
 
-/// What a turn came to.
+/// The result of a turn.
 #[derive(Clone, Copy, Debug, PartialEq, Eq)]
 pub enum Turned {
     /// The program goes on.
     Went,
-    /// The instruction was a collection, which is to follow; the goroutine stands after it.
+    /// The instruction was a collection, which the caller must do. The goroutine is already behind it.
     WantsCollection,
     /// The program has ended.
     Ended(Ending),
 }
 
-/// The state before the first turn: goroutine 1 is at the first instruction of function 0, where
-/// the code has one.
+/// Returns the state before the first turn: goroutine 1 is at the first instruction of function 0, if the
+/// code has that function.
 pub fn start(alloc: Global, code: &Code) -> Result<State, Memory>
     ensures { IfOk result (λ state. state ≡ start_of code.now) }
 {
@@ -42,8 +44,8 @@ pub fn start(alloc: Global, code: &Code) -> Result<State, Memory>
     State::new(alloc, globals, frames, code.main_line)
 }
 
-// What no instruction can read any more is cleared after the turn of a goroutine, unless it keeps its
-// slots.
+// After the turn of a goroutine, clears the slots that no instruction can read any more, unless it keeps
+// its slots.
 fn clear_after(code: &Code, state: &mut State, g: GoroutineId, keeps: bool)
     ensures { state.new ≡ apply_all (clearing code.now keeps (Some g.0) state.old) state.old }
 {
@@ -52,8 +54,8 @@ fn clear_after(code: &Code, state: &mut State, g: GoroutineId, keeps: bool)
     }
 }
 
-// A number divided by how many goroutines can run: the place of the one whose turn it is, and the choice
-// of its `select`. It divides no more bits than it has to.
+// Splits a number by how many goroutines can run: the place of the goroutine whose turn it is, and the
+// choice of its `select`. It divides no more bits than it has to.
 #[inline(always)]
 fn shared_out(number: u64, count: u64) -> (u64, u64)
     requires { 0 < count }
@@ -73,7 +75,7 @@ fn shared_out(number: u64, count: u64) -> (u64, u64)
     (number % count, number / count)
 }
 
-// What a turn came to, by how the program has ended and by whether the instruction is a collection.
+// The result of a turn, by how the program has ended and by whether the instruction is a collection.
 #[inline(always)]
 fn turned_of(ending: Option<Ending>, collects: bool) -> Turned
     ensures { result ≡ turned_of ending collects }
@@ -109,7 +111,7 @@ fn keeps_slots(acted: Acted) -> bool
     }
 }
 
-// The turn of a goroutine that runs, and what is cleared after it.
+// Takes the turn of a goroutine that runs, and clears slots after it.
 #[inline(always)]
 fn take(
     alloc: Global,
@@ -134,8 +136,19 @@ fn take(
     Ok(turned_of(state.ending(), has_collected(acted)))
 }
 
-/// One turn: of the goroutines that can run, in rising order, the one at the place of the number,
-/// counted round. It takes all its memory first: on `Memory` the state is unchanged.
+/// Returns the goroutine that takes the turn of this number. Of those that can run, in rising order, it is
+/// the one at the place of the number, counted round.
+pub fn whose_turn(state: &State, number: u64) -> GoroutineId
+    requires { ending state.now ≡ None }
+    ensures { whose_turn_of state.now number ≡ Some result.0 }
+{
+    let count = state.runnable_count() as u64;
+    let (place, _) = shared_out(number, count);
+    state.runnable_at(place as usize)
+}
+
+/// Takes one turn. Of the goroutines that can run, in rising order, it is the turn of the one at the place
+/// of the number, counted round. It takes all its memory first: on `Memory` the state is unchanged.
 #[inline(always)]
 pub fn turn(alloc: Global, code: &Code, state: &mut State, number: u64) -> Result<Turned, Memory>
     requires places { HasPlaces code.now }

@@ -1,4 +1,6 @@
 //! The instructions that store a global, panic with a text, or do nothing.
+//!
+//! None of these takes memory.
 
 ghost use Rattle.std.specs.Prelude.{◌≡◌, IfOk, OnErr};
 ghost use Rattle.golf_model.specs.Acting.{goes};
@@ -11,7 +13,7 @@ use golf_base::Memory;
 use golf_data::PanicKind;
 use golf_state::{Acting, Outcome, State, last_operand, proceed, text_in};
 
-/// Stores the last operand in a global, if both are there.
+/// Stores the last operand in a global. If one of them is not there, no rule fits.
 pub fn store_global(state: &mut State, acting: Acting, global: u32) -> Result<Outcome, Memory>
     requires { Stands acting.goroutine.0 acting.after state.old }
     ensures ok { IfOk result (λ outcome. Fits outcome (λ a. stores_global a global state.old) acting.goroutine.0 acting.line state.old state.new) }
@@ -28,7 +30,7 @@ pub fn store_global(state: &mut State, acting: Acting, global: u32) -> Result<Ou
     Ok(Outcome::Done)
 }
 
-/// Goes on after the instruction.
+/// Lets the goroutine go on after the instruction.
 #[inline(always)]
 pub fn skip(state: &mut State, acting: Acting) -> Outcome
     requires { Stands acting.goroutine.0 acting.after state.old }
@@ -38,7 +40,7 @@ pub fn skip(state: &mut State, acting: Acting) -> Outcome
     Outcome::Done
 }
 
-/// Panics with the text that is the last operand.
+/// Panics with the text that is the last operand. It changes nothing: the outcome is the panic.
 pub fn panic_with(state: &State, acting: Acting) -> Result<Outcome, Memory>
     requires { Stands acting.goroutine.0 acting.after state.now }
     ensures { IfOk result (λ outcome. Fits outcome panics_with acting.goroutine.0 acting.line state.now state.now) }

@@ -1,4 +1,5 @@
-//! Instructions that touch the innermost frame alone; they may look at globals.
+//! Instructions that touch only the innermost frame. They may read globals. On `Err` the frame is
+//! unchanged.
 
 ghost use Rattle.std.specs.Prelude.{◌≡◌, ◌<◌, ◌≤◌, ◌+◌, ◌^◌, ◌∷◌, [], ℕ, length, drop, IfOk, OnErr, slice_get, true};
 ghost use Rattle.std.specs.Prelude.{false};
@@ -20,20 +21,20 @@ use golf_base::{List, Memory};
 use golf_data::{Frame, Instr, Value};
 use golf_state::{bool_in, int_in};
 
-/// What an instruction came to that may touch the innermost frame alone.
+/// The result of an instruction that is tried on the innermost frame alone.
 #[derive(Clone, Copy, Debug, PartialEq, Eq)]
 pub(crate) enum Within {
     /// It is done.
     Done,
-    /// It panics, since the divisor is 0: nothing has changed yet.
+    /// It panics, since the divisor is 0. The frame is unchanged so far.
     ZeroDivisor,
-    /// No rule fits: nothing has changed.
+    /// No rule fits. The frame is unchanged.
     Stuck,
-    /// It touches more than the frame: nothing has changed.
+    /// It touches more than the frame. The frame is unchanged.
     Beyond,
 }
 
-// The last operand, if there is one.
+// The last operand, or `None`.
 #[inline(always)]
 fn last(frame: &Frame) -> Option<Value>
     ensures { result ≡ slice_get (frame_view frame.now).operands 0 }
@@ -41,7 +42,7 @@ fn last(frame: &Frame) -> Option<Value>
     frame.operands.as_slice().last().copied()
 }
 
-// The last two operands, the last one second, if there are two.
+// The last two operands, the last one second, or `None` if there are fewer.
 #[inline(always)]
 fn last_two(frame: &Frame) -> Option<(Value, Value)>
     ensures { result ≡ two_of (frame_view frame.now).operands }
@@ -54,7 +55,7 @@ fn last_two(frame: &Frame) -> Option<(Value, Value)>
     Some((items[count - 2], items[count - 1]))
 }
 
-// The last operand, if it is an integer.
+// The last operand if it is an integer, or `None`.
 #[inline(always)]
 fn last_int(frame: &Frame) -> Option<i64>
     ensures { result ≡ int_in (frame_view frame.now).operands }
@@ -62,7 +63,7 @@ fn last_int(frame: &Frame) -> Option<i64>
     int_in(last(frame)?)
 }
 
-// The last operand, if it is a truth value.
+// The last operand if it is a truth value, or `None`.
 #[inline(always)]
 fn last_bool(frame: &Frame) -> Option<bool>
     ensures { result ≡ bool_in (frame_view frame.now).operands }
@@ -70,7 +71,7 @@ fn last_bool(frame: &Frame) -> Option<bool>
     bool_in(last(frame)?)
 }
 
-// The last two operands, if both are integers.
+// The last two operands if both are integers, or `None`.
 #[inline(always)]
 fn last_ints(frame: &Frame) -> Option<(i64, i64)>
     ensures { result ≡ ints_in (frame_view frame.now).operands }
@@ -81,7 +82,7 @@ fn last_ints(frame: &Frame) -> Option<(i64, i64)>
     Some((first, second))
 }
 
-// Goes on at a place, without so many of the operands.
+// Goes on at `target`, without the last `taken` operands.
 #[inline(always)]
 fn go_to(frame: &mut Frame, target: u32, taken: usize)
     ensures { frame_view frame.new ≡ went target taken [] (frame_view frame.old) }
@@ -91,7 +92,7 @@ fn go_to(frame: &mut Frame, target: u32, taken: usize)
     frame.at = target;
 }
 
-// Goes on after the instruction, with a value in place of so many operands.
+// Goes on after the instruction, with a value in place of the last `taken` operands.
 #[inline(always)]
 fn put(frame: &mut Frame, taken: usize, value: Value)
     requires place { frame.old.at + 1 < 2 ^ 32 }
@@ -117,7 +118,7 @@ fn push(frame: &mut Frame, value: Value) -> Result<Within, Memory>
     Ok(Within::Done)
 }
 
-// The value of a slot, if it is there.
+// The value of a slot, or `None`.
 #[inline(always)]
 fn slot_of(frame: &Frame, slot: u32) -> Option<Value>
     ensures { result ≡ slice_get frame.now.slots slot }
@@ -155,7 +156,7 @@ fn store(frame: &mut Frame, slot: u32) -> Within
     Within::Done
 }
 
-// The value of a global, if it is there.
+// The value of a global, or `None`.
 #[inline(always)]
 fn global_of(globals: &[Value], global: u32) -> Option<Value>
     ensures { result ≡ slice_get globals.now global }
@@ -189,7 +190,7 @@ fn drop_last(frame: &mut Frame) -> Within
     Within::Done
 }
 
-// Doubles the last operand, if there is one.
+// Pushes the last operand once more, if there is one.
 fn double(frame: &mut Frame) -> Result<Within, Memory>
     requires place { frame.old.at + 1 < 2 ^ 32 }
     ensures ok { IfOk result (λ came. HasGone true came doubles (frame_view frame.old) (frame_view frame.new)) }
@@ -201,7 +202,7 @@ fn double(frame: &mut Frame) -> Result<Within, Memory>
     }
 }
 
-// Doubles the last two operands, if there are two.
+// Pushes the last two operands once more, if there are two.
 fn double_two(frame: &mut Frame) -> Result<Within, Memory>
     requires place { frame.old.at + 1 < 2 ^ 32 }
     ensures ok { IfOk result (λ came. HasGone true came doubles_two (frame_view frame.old) (frame_view frame.new)) }
@@ -241,7 +242,7 @@ fn invert(frame: &mut Frame) -> Within
     Within::Done
 }
 
-// An integer from two.
+// Computes an integer from the last two operands.
 #[inline(always)]
 fn compute(frame: &mut Frame, operation: Operation) -> Within
     requires place { frame.old.at + 1 < 2 ^ 32 }
@@ -254,7 +255,7 @@ fn compute(frame: &mut Frame, operation: Operation) -> Within
     Within::Done
 }
 
-// An integer from two, of which the second divides the first; it panics if that is 0.
+// Divides the operand before the last one by the last one. It panics if the divisor is 0.
 fn divide(frame: &mut Frame, division: Division) -> Within
     requires place { frame.old.at + 1 < 2 ^ 32 }
     ensures { HasGone true result (divides (division_of division)) (frame_view frame.old) (frame_view frame.new) }
@@ -269,7 +270,7 @@ fn divide(frame: &mut Frame, division: Division) -> Within
     Within::Done
 }
 
-// A truth value from two integers.
+// Compares the last two operands, which are integers.
 #[inline(always)]
 fn compare(frame: &mut Frame, comparison: Comparison) -> Within
     requires place { frame.old.at + 1 < 2 ^ 32 }
@@ -320,7 +321,7 @@ fn jump_unless(frame: &mut Frame, target: u32) -> Within
     Within::Done
 }
 
-/// Does an instruction of a frame, with these globals, if it touches that frame alone.
+/// Does an instruction of a frame, with these globals, if it touches only that frame.
 #[inline(always)]
 pub(crate) fn perform_within(
     frame: &mut Frame,

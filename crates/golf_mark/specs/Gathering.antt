@@ -1,4 +1,4 @@
--- The markers after their run, taken together.
+-- The markers after their run, merged.
 use Rattle.std.specs.Prelude.{◌≡◌, ◌+◌, ◌<◌, ◌≤◌, ◌⊎◌, ℕ, List, Bool, length, sum_by}
 use mathlib.Core.Option.{some}
 use lib.ListN.{get_elem?}
@@ -12,27 +12,27 @@ use Rattle.golf_grey.specs.declared.hand.GreyHand.{GreyHand}
 use Rattle.golf_grey.specs.declared.pool.GreyPool.{GreyPool}
 use Rattle.golf_grey.specs.Hands.{pushed, took}
 use Rattle.golf_mark.specs.declared.marker.Marker.{Marker}
-use Rattle.golf_mark.specs.Turning.{IsMarkerOf, IsAtattended}
+use Rattle.golf_mark.specs.Turning.{IsMarkerOf, IsAttended}
 
 -- the marker k has run
 pub record HasRun (marks : Marks) (pool : GreyPool) (k : ℕ) (m : Marker) : Type 0 where
   pub fits : IsMarkerOf marks pool m
-  pub attended : IsAtattended (graph_in marks) m
+  pub attended : IsAttended (graph_in marks) m
   pub number : m.hand.number ≡ k
 
 abbrev pub AllRun : Marks → GreyPool → List Marker → Type 0
 AllRun marks pool ms = (k : ℕ) (m : Marker) → get_elem? ms k ≡ some m → HasRun marks pool k m
 
--- each of the first roots is known to a marker
+-- each root is known to a marker
 abbrev pub IsRooted : List ℕ → List Marker → Type 0
 IsRooted roots ms = (p : ℕ) → In p roots → (k : ℕ) × (m : Marker) × (get_elem? ms k ≡ some m)
     × In p (known m.scanner.seat)
 
--- how many seats the markers stand for
+-- the parts of the markers' seats together
 abbrev pub marker_parts : List Marker → ℕ
 marker_parts ms = sum_by (λ m. parts m.scanner.seat) ms
 
--- one seat that has taken others in, and the places that were deferred
+-- one seat, merged from others, and the places that were deferred
 pub record Finisher : Type 0 where
   pub seat : MarkSeat
   pub todo : List Bool
@@ -41,11 +41,11 @@ pub record IsFinisherOf (marks : Marks) (f : Finisher) : Type 0 where
   pub seat : IsSeatOf marks f.seat
   pub todo : length f.todo ≡ place_count (graph_in marks)
 
--- a marker has left the place
+-- the marker has left the place
 abbrev pub IsNoted : Marker → ℕ → Type 0
 IsNoted m p = IsSet m.deferred p ⊎ In p m.scanner.won.items
 
--- the markers but for the rest are taken in
+-- the markers except for the rest are merged
 pub record IsGathered (marks : Marks) (ms rest : List Marker) (f : Finisher) : Type 0 where
   pub fits : IsFinisherOf marks f
   pub begins : (k : ℕ) (m : Marker) → get_elem? rest k ≡ some m → get_elem? ms k ≡ some m
@@ -58,7 +58,7 @@ pub record IsGathered (marks : Marks) (ms rest : List Marker) (f : Finisher) : T
   pub noted : (k : ℕ) (m : Marker) → get_elem? ms k ≡ some m → length rest ≤ k → (p : ℕ)
       → p < place_count (graph_in marks) → IsNoted m p → IsSet f.todo p
 
--- the hands of the markers but for the rest, the last first
+-- the hands of the markers except for the rest, the last one first
 pub record IsHandedOver (ms rest : List Marker) (hands : List GreyHand) : Type 0 where
   pub count : length hands + length rest ≡ length ms
   pub from : (k : ℕ) (h : GreyHand) → get_elem? hands k ≡ some h → (j : ℕ) × (m : Marker) × (get_elem? ms j ≡ some m)
@@ -68,7 +68,7 @@ pub record IsHandedOver (ms rest : List Marker) (hands : List GreyHand) : Type 0
   pub sums_taken : (f : ℕ → ℕ) → sum_by (λ (h : GreyHand). took f h) hands + sum_by (λ (m : Marker). took f m.hand) rest
       ≡ sum_by (λ (m : Marker). took f m.hand) ms
 
--- what was shared was taken or is left
+-- the places that were shared are those that were taken and those that are left
 abbrev pub IsEvenWith : List Marker → List ℕ → Type 0
 IsEvenWith ms left = (f : ℕ → ℕ) → sum_by (λ m. sum_by f (pushed m.hand)) ms ≡ sum_by (λ m. took f m.hand) ms
     + sum_by f left

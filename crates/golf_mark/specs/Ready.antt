@@ -30,7 +30,7 @@ pub record Seeds (marks : Marks) (pool : GreyPool) (root : ℕ) (old new : Marke
   pub took : (f : ℕ → ℕ) → took f new.hand ≡ took f old.hand
   pub there : In root (known new.scanner.seat)
 
--- all that several markers need is there
+-- several markers have all that they need
 pub record IsReady (marks : Marks) (pool : GreyPool) (ms : List Marker) (hands : Roomy GreyHand)
     (seats : Roomy MarkSeat) : Type 0 where
   pub some_marker : 0 < length ms

@@ -1,4 +1,4 @@
--- What a marking is written on.
+-- The memory of a marking.
 use Rattle.std.specs.Prelude.{◌≡◌, ◌≤◌, ℕ, [], length}
 use Rattle.golf_mark.specs.declared.work.Sheet.{Sheet}
 

@@ -12,7 +12,7 @@ use Rattle.golf_mark.specs.declared.marker.Marker.{Marker}
 use Rattle.golf_mark.specs.Scanning.{IsScannerOf, IsCovered, KnowsWon}
 use Rattle.golf_mark.specs.Working.{IsScanned}
 
--- between turns each place that a marker claimed is scanned, in its own list or shared
+-- between turns each place that a marker claimed is scanned, in its own list, or shared
 pub record IsMarkerOf (marks : Marks) (pool : GreyPool) (m : Marker) : Type 0 where
   pub scanner : IsScannerOf marks m.scanner
   pub own : KnowsWon marks m.scanner
@@ -22,22 +22,22 @@ pub record IsMarkerOf (marks : Marks) (pool : GreyPool) (m : Marker) : Type 0 wh
   pub deferred : length m.deferred ≡ place_count (graph_in marks)
   pub places : places_of pool ≡ place_count (graph_in marks)
 
--- the weight by which a place counts itself
+-- the weight by which a place counts only itself
 abbrev pub is_one : ℕ → ℕ → ℕ
 is_one p q = (if q == p then 1 else 0)
 
--- each place that it took is scanned, or noted as deferred
-abbrev pub IsAtattended : GraphParts → Marker → Type 0
-IsAtattended g m = (p : ℕ) → p < place_count g → 0 < took (is_one p) m.hand → IsScanned g (known m.scanner.seat) p
+-- each place that the marker took is scanned, or noted as deferred
+abbrev pub IsAttended : GraphParts → Marker → Type 0
+IsAttended g m = (p : ℕ) → p < place_count g → 0 < took (is_one p) m.hand → IsScanned g (known m.scanner.seat) p
     ⊎ IsSet m.deferred p
 
--- it knows what it knew, and stands for the same seats and the same hand
+-- the marker knows all that it knew, and has the same parts and the same hand
 pub record Keeps (old new : Marker) : Type 0 where
   pub known : (p : ℕ) → In p (known old.scanner.seat) → In p (known new.scanner.seat)
   pub parts : parts new.scanner.seat ≡ parts old.scanner.seat
   pub number : new.hand.number ≡ old.hand.number
 
--- a place that was taken is attended
+-- a place that was taken is scanned or deferred
 pub record Attends (marks : Marks) (pool : GreyPool) (place : ℕ) (old new : Marker) : Type 0 where
   pub fits : IsMarkerOf marks pool new
   pub keeps : Keeps old new
@@ -46,13 +46,13 @@ pub record Attends (marks : Marks) (pool : GreyPool) (place : ℕ) (old new : Ma
   pub here : place < place_count (graph_in marks) → IsScanned (graph_in marks) (known new.scanner.seat) place
       ⊎ IsSet new.deferred place
 
--- a marker goes through some turns
+-- a marker takes some turns
 pub record Runs (marks : Marks) (pool : GreyPool) (old new : Marker) : Type 0 where
   pub fits : IsMarkerOf marks pool new
   pub keeps : Keeps old new
-  pub attended : IsAtattended (graph_in marks) old → IsAtattended (graph_in marks) new
+  pub attended : IsAttended (graph_in marks) old → IsAttended (graph_in marks) new
 
--- each marker of a list goes through some turns
+-- each marker of a list takes some turns
 abbrev pub EachRuns : Marks → GreyPool → List Marker → List Marker → Type 0
 EachRuns marks pool [] [] = Unit {0}
 EachRuns marks pool [] (b ∷ bs) = ⊥

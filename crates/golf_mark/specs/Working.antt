@@ -6,23 +6,23 @@ use Rattle.golf_model.specs.declared.graph.GraphParts.{GraphParts}
 use Rattle.golf_model.specs.Graph.{node_count, sleeper_count, Justifies, Least}
 use Rattle.golf_marks.specs.Flags.{IsSet}
 
--- how many places there are, and the marked ones in the order of marking
+-- the number of places, and the marked places in the order of marking
 pub record Working : Type 0 where
   pub places : ℕ
   pub order : List ℕ
 
--- the marked places are listed, and there is room for those that are not marked
+-- the list has exactly the marked places, and room for all others
 pub record IsWorking (bits : List Bool) (order : Roomy ℕ) : Type 0 where
   pub room : count_by not bits ≤ order.spare
   pub counted : count_by not bits + length order.items ≡ length bits
   pub listed : (p : ℕ) → In p order.items ↔ IsSet bits p
 
--- the marked places are those before, then some of the kind
+-- the marked places are the old ones, and then some of this kind
 pub record Gains (Kind : ℕ → Type 0) (old new : Working) : Type 0 where
   pub places : new.places ≡ old.places
   pub added : (more : List ℕ) × (new.order ≡ old.order ++ more) × ((p : ℕ) → In p more → Kind p)
 
--- all that a place justifies is in the list
+-- all places that a place justifies are in the list
 abbrev pub IsScanned : GraphParts → List ℕ → ℕ → Type 0
 IsScanned g marked p = (q : ℕ) → Justifies g p q → In q marked
 

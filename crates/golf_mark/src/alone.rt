@@ -1,4 +1,6 @@
-//! The marking in one thread.
+//! Marking in one thread.
+//!
+//! The list of marked places, in the order of marking, is also the worklist.
 
 ghost use Rattle.std.specs.Prelude.{IfOk};
 ghost use Rattle.golf_mark.specs.Marking.{MarksLeast};
@@ -9,12 +11,11 @@ use golf_base::{Gate, Memory};
 use golf_model::{Graph, Marked};
 use std::alloc::Global;
 
-/// Marks the least closed set of a graph, in one thread.
+/// Marks the least closed set of a graph, in one thread. The only error is `Memory`.
 ///
-/// The roots are marked first. Then each turn takes one marked place and marks all that it
-/// justifies, sleepers that wait on it among them, so that nothing is gone through twice. The gate
-/// is passed as marker 0 before each turn, the last one, which finds nothing, included; turns count
-/// from 0.
+/// It first marks the roots. Then each turn takes one marked place and marks all places that it justifies,
+/// also the sleepers that wait on it. So it scans each place once. It passes the gate as marker 0 before
+/// each turn, also before the last one, which finds no place. Turns count from 0.
 pub fn mark_alone<G: Gate>(alloc: Global, graph: &Graph, gate: &G) -> Result<Marked, Memory>
     ensures { IfOk result (MarksLeast graph.now) }
 {

@@ -1,4 +1,5 @@
-//! What several markers have marked, taken together.
+//! The end of a marking by several markers: their seats, hands and notes are merged, and the rest is
+//! scanned.
 
 ghost use Rattle.std.specs.Prelude.{◌≡◌, ◌<◌, ◌≤◌, [], length};
 ghost use mathlib.Core.Option.{some};
@@ -19,7 +20,7 @@ use golf_grey::{GreyHand, GreyPool};
 use golf_marks::{MarkSeat, Marks};
 use golf_model::{Graph, Marked};
 
-/// What the markers have marked, after the finishing scan.
+/// Merges the results of all markers, and scans the places that they left. Returns the marking.
 pub(crate) fn conclude(
     marks: Marks,
     pool: GreyPool,

@@ -1,4 +1,6 @@
-//! The markers before their run: what each works with, and the roots that each claims.
+//! The markers before their run: their equipment, and the roots that each claims.
+//!
+//! No marker has pushed or taken a place yet.
 
 ghost use Rattle.std.specs.Prelude.{◌≡◌, ◌<◌, ◌≤◌, length, IfOk};
 ghost use Rattle.golf_theory.specs.Membership.{In, Every};
@@ -20,7 +22,7 @@ use golf_marks::{MarkSeat, Marks};
 use golf_model::Graph;
 use std::alloc::Global;
 
-/// A marker for each seat and hand, by rising number.
+/// Makes a marker of each seat and hand, in rising order of number.
 pub(crate) fn equip(
     alloc: Global,
     marks: &Marks,
@@ -63,7 +65,7 @@ pub(crate) fn equip(
     Ok(markers)
 }
 
-// A marker claims a root.
+// Lets a marker claim a root.
 fn seed(marks: &Marks, _pool: &GreyPool, marker: &mut Marker, root: u32)
     requires fits { IsMarkerOf marks.now _pool.now marker.old }
     requires place { root < place_count (graph_in marks.now) }
@@ -73,7 +75,7 @@ fn seed(marks: &Marks, _pool: &GreyPool, marker: &mut Marker, root: u32)
     claim(marks, &mut marker.scanner, root);
 }
 
-/// Deals the roots out: of n markers the marker k claims the roots at the places k, k + n, and so on.
+/// Deals the roots out. Of n markers the marker k claims the roots at the places k, k + n, and so on.
 pub(crate) fn deal(
     marks: &Marks,
     pool: &GreyPool,

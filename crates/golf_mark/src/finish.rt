@@ -1,4 +1,6 @@
-//! The finishing scan, of what the markers have left.
+//! The finishing scan of the places that the markers left.
+//!
+//! A marker leaves a place that it shared, or that it took but did not know as marked.
 
 ghost use Rattle.std.specs.Prelude.{◌^◌, ◌≡◌, ◌+◌, ◌<◌, ℕ, Bool, List, length};
 ghost use Rattle.golf_marks.specs.Places.{place_count};
@@ -13,7 +15,7 @@ use crate::waiters::Waiters;
 use golf_marks::Marks;
 use golf_model::Graph;
 
-// Scans what was won, until nothing is.
+// Scans the places of the scanner's own list, until the list is empty.
 fn settle_won(marks: &Marks, graph: &Graph, waiters: &Waiters, scanner: &mut Scanner)
     requires fits { IsScannerOf marks.now scanner.old }
     requires graph { graph_in marks.now ≡ graph.now }
@@ -28,7 +30,7 @@ fn settle_won(marks: &Marks, graph: &Graph, waiters: &Waiters, scanner: &mut Sca
     }
 }
 
-// Scans a place if it is noted and marked, and what is won from there.
+// Scans a place if it is noted and marked, and then all places that the scanner wins.
 fn settle_at(
     marks: &Marks,
     graph: &Graph,
@@ -58,7 +60,7 @@ fn settle_at(
     settle_won(marks, graph, waiters, scanner);
 }
 
-/// Scans all places that are noted, and what is won from there.
+/// Scans all noted places that are marked, and all places that the scanner wins.
 pub(crate) fn settle(
     marks: &Marks,
     graph: &Graph,

@@ -1,5 +1,8 @@
-//! Marks the least closed set of a graph: its roots, what they refer to, each sleeper that waits on
-//! a marked node, and what such a sleeper refers to.
+//! Marks the least closed set of a graph. It has the roots, all nodes that a marked place refers to, and
+//! each sleeper that waits on a marked node.
+//!
+//! - `mark_alone`: marks in one thread.
+//! - `Markers`: marks in several threads, with the same result.
 #![tactic(auto)]
 
 mod alone;

@@ -1,4 +1,7 @@
-//! A marker, and how it runs.
+//! A marker, and its run.
+//!
+//! The invariant: each place that a marker claimed is scanned, in its own list, or shared. A marker mostly
+//! works on its own list. It shares a place if its deque is short, and steals if its list is empty.
 
 ghost use Rattle.std.specs.Prelude.{◌^◌, ◌≡◌, ◌+◌, ◌<◌, ℕ, length, All, IfSome};
 ghost use Rattle.std.specs.Thread.{IsSync};
@@ -19,21 +22,21 @@ use std::hint::spin_loop;
 use std::sync::atomic::{AtomicU64, Ordering};
 use std::thread::{Threads, join_mut, yield_now};
 
-/// How many places lie in a deque before its marker shares more.
+/// A marker shares a place only if its deque has fewer places than this.
 const SHARED: usize = 4;
 
-/// In every turn whose number this divides a marker looks whether its deque is short.
+/// A marker looks at its deque in each turn whose number is a multiple of this.
 const LOOK_EVERY: u64 = 4;
 
-/// How often a marker that finds nothing looks again before it ends.
+/// How often a marker that finds no place looks again before it ends.
 const LOOKS: u32 = 16_384;
 
-/// How many of these looks come right after one another. After each of the others another thread may
-/// run.
+/// How many of these looks follow at once. After each later look the thread yields.
 const AT_ONCE: u32 = 64;
 
-/// What all markers of a run share: the mark words, the deques, the graph, who waits on its nodes,
-/// and how many markers have begun and how many of them find nothing.
+/// The data that all markers of a run share: the mark words, the deques, the graph, the waiters of its
+/// nodes, and two counts. `begun` is how many markers have begun, and `idle` how many of these find no
+/// place.
 #[derive(Clone, Copy)]
 pub(crate) struct Shared<'a> {
     pub(crate) marks: &'a Marks,
@@ -44,20 +47,20 @@ pub(crate) struct Shared<'a> {
     pub(crate) idle: &'a AtomicU64,
 }
 
-/// What one marker works with.
+/// The equipment of one marker.
 #[derive(Drop)]
 pub(crate) struct Marker {
     pub(crate) scanner: Scanner,
     pub(crate) hand: GreyHand,
-    /// The places that were taken and could not be scanned.
+    /// The places that the marker took and did not know as marked.
     pub(crate) deferred: Notes,
-    /// How often it may still share a place.
+    /// How many more places it may share.
     pub(crate) budget: u32,
-    /// Nothing. It keeps what this marker writes off the line of memory that its neighbour writes.
+    /// Padding. It keeps the fields of this marker off the cache line that its neighbour writes.
     pub(crate) apart: [u64; 16],
 }
 
-// Scans the last place of its own list. False if that is empty.
+// Scans the last place of the marker's own list. Returns false if the list is empty.
 fn scan_own(shared: &Shared, marker: &mut Marker) -> bool
     requires fits { IsMarkerOf shared.now.marks.now shared.now.pool.now marker.old }
     requires graph { graph_in shared.now.marks.now ≡ shared.now.graph.now }
@@ -77,7 +80,7 @@ fn scan_own(shared: &Shared, marker: &mut Marker) -> bool
     true
 }
 
-// Scans a place that was taken. If it is not known as marked it is deferred to the finishing scan.
+// Scans a taken place. If the marker does not know it as marked, it defers the place to the finishing scan.
 fn scan_or_defer(shared: &Shared, marker: &mut Marker, place: u32)
     requires fits { IsMarkerOf shared.now.marks.now shared.now.pool.now marker.old }
     requires graph { graph_in shared.now.marks.now ≡ shared.now.graph.now }
@@ -98,8 +101,8 @@ fn scan_or_defer(shared: &Shared, marker: &mut Marker, place: u32)
     marker.deferred.add(place);
 }
 
-// Shares the first place of its own list, if it has more and its deque is short. In most turns it
-// does not look.
+// Shares the first place of the marker's own list, if the list has more places and the deque is short. In
+// most turns it does not look.
 fn share(shared: &Shared, marker: &mut Marker, turn: u64)
     requires { IsMarkerOf shared.now.marks.now shared.now.pool.now marker.old }
     ensures { Runs shared.now.marks.now shared.now.pool.now marker.old marker.new }
@@ -117,7 +120,7 @@ fn share(shared: &Shared, marker: &mut Marker, turn: u64)
     marker.budget -= 1;
 }
 
-// Waits between two looks.
+// Pauses between two looks.
 fn pause(look: u32) {
     if look < AT_ONCE {
         spin_loop();
@@ -126,8 +129,8 @@ fn pause(look: u32) {
     }
 }
 
-// Looks again for a place in the deques, until all markers that have begun do. No marker waits for
-// one that has not begun: its thread may be one that cannot be made.
+// Looks again for a place in the deques, until all markers that have begun are idle. It does not wait for a
+// marker that has not begun, since that marker's thread may never start.
 fn look_again(shared: &Shared, hand: &mut GreyHand) -> Option<u32>
     requires { IsHandOf shared.now.pool.now hand.old }
     ensures hand { IsHandOf shared.now.pool.now hand.new }
@@ -148,7 +151,7 @@ fn look_again(shared: &Shared, hand: &mut GreyHand) -> Option<u32>
     None
 }
 
-// Takes a place from the deques.
+// Takes a place from the deques, and counts the marker as idle while it looks.
 fn seek(shared: &Shared, hand: &mut GreyHand) -> Option<u32>
     requires { IsHandOf shared.now.pool.now hand.old }
     ensures hand { IsHandOf shared.now.pool.now hand.new }
@@ -166,7 +169,8 @@ fn seek(shared: &Shared, hand: &mut GreyHand) -> Option<u32>
     Some(place)
 }
 
-// Scans a place, its own or one that it takes, and shares one. False if there is none.
+// Scans one place, from its own list or from the deques, and perhaps shares one. Returns false if it finds
+// no place.
 fn step(shared: &Shared, marker: &mut Marker, turn: u64) -> bool
     requires fits { IsMarkerOf shared.now.marks.now shared.now.pool.now marker.old }
     requires graph { graph_in shared.now.marks.now ≡ shared.now.graph.now }
@@ -185,7 +189,7 @@ fn step(shared: &Shared, marker: &mut Marker, turn: u64) -> bool
     true
 }
 
-// Scans places until there is none.
+// Scans places until there is none. It passes the gate before each turn.
 fn run<G: Gate>(gate: &G, number: u32, shared: &Shared, marker: &mut Marker)
     requires fits { IsMarkerOf shared.now.marks.now shared.now.pool.now marker.old }
     requires graph { graph_in shared.now.marks.now ≡ shared.now.graph.now }
@@ -201,8 +205,8 @@ fn run<G: Gate>(gate: &G, number: u32, shared: &Shared, marker: &mut Marker)
     }
 }
 
-/// Runs the markers, each in a thread of its own; the first one has the number `first`, and runs in
-/// the thread of the caller. So it begins before the others.
+/// Runs the markers, each in its own thread. The first one has the number `first` and runs in the thread of
+/// the caller, so it begins before the others.
 pub(crate) fn run_all<G: Gate + Sync, R: Threads + Sync>(
     rt: &R,
     gate: &G,

@@ -1,4 +1,6 @@
-//! The marking by several markers.
+//! Marking by several markers.
+//!
+//! All memory is taken before the marking. So the marking itself cannot fail.
 
 ghost use Rattle.std.specs.Prelude.{◌≡◌, ◌<◌, ◌≤◌, length, IfOk};
 ghost use Rattle.golf_marks.specs.Seats.{graph_in};
@@ -21,8 +23,8 @@ use std::snapshot::Snapshot;
 use std::sync::atomic::AtomicU64;
 use std::thread::Threads;
 
-/// How often one of several markers shares a place at most. Then it keeps what it finds to itself. With
-/// the two slots that its numbers take a deque has 16,384.
+/// How many places each of several markers shares at most. After that it keeps its places to itself. With
+/// two slots for its numbers a deque has 16,384 slots.
 const SHARES: u32 = 16_382;
 
 // Runs the markers.
@@ -43,7 +45,7 @@ fn run_markers<G: Gate + Sync, R: Threads + Sync>(
     markers
 }
 
-/// Markers before their run: the words and the pool that they share, and what each has of its own.
+/// The markers before their run: the shared mark words and the pool, and the equipment of each marker.
 #[derive(Drop)]
 pub(crate) struct Team {
     pub(crate) marks: Marks,
@@ -54,7 +56,7 @@ pub(crate) struct Team {
 }
 
 impl Team {
-    /// So many markers for a graph, with all memory that they need. One marker shares nothing.
+    /// Returns `count` markers for a graph, with all memory that they need. One marker shares nothing.
     fn new(alloc: Global, graph: &Graph, count: u32) -> Result<Team, Memory>
         requires some { 0 < count }
         requires few { count ≤ 16 }
@@ -115,7 +117,7 @@ impl Team {
     }
 }
 
-/// All that some markers need to mark one graph, which is what contracts see.
+/// All that the markers need to mark one graph. Contracts see only the graph.
 pub struct Markers {
     graph: Snapshot<Graph>,
     waiters: Waiters,
@@ -133,7 +135,7 @@ impl Model for Markers {
     ghost invariant = { λ m. IsReadyFor m.graph.value m.waiters m.team };
 }
 
-// Written out once here, so that no other crate goes through the fields where it lets markers go.
+// Written out once here. So no other crate walks over the fields when it drops markers.
 impl Drop for Markers {
     fn drop(self) {
         let Markers {
@@ -145,7 +147,8 @@ impl Drop for Markers {
 }
 
 impl Markers {
-    /// So many markers for a graph: 1 to 16. It takes all memory that marking needs.
+    /// Returns `count` markers for a graph, 1 to 16. It takes all memory that marking needs. The only error
+    /// is `Memory`.
     pub fn new(alloc: Global, graph: &Graph, count: u32) -> Result<Markers, Memory>
         requires some { 0 < count }
         requires few { count ≤ 16 }
@@ -162,11 +165,13 @@ impl Markers {
 
     /// Marks the least closed set of the graph that `new` saw. It takes no memory.
     ///
-    /// Marker 0 runs in the thread of the caller, and each other marker in a thread of its own. If a
-    /// thread cannot be started, its caller does that work itself. In each turn a marker takes a place
-    /// and marks all that it justifies; it ends if none comes. The gate is passed before each turn, the
-    /// last one included; markers and turns count from 0. What a marker took and could not yet know as
-    /// marked, and what is left, is scanned at the end, without the gate.
+    /// Marker 0 runs in the thread of the caller, and each other marker in its own thread. If a thread
+    /// cannot be started, its caller does that work itself. In each turn a marker takes a place and marks
+    /// all places that it justifies. A marker ends if it finds no place.
+    ///
+    /// The gate is passed before each turn, also before the last one. Markers and turns count from 0. At
+    /// the end one scan, without the gate, does the places that are left. It also does those that a marker
+    /// took but did not know as marked.
     pub fn mark<R: Threads + Sync, G: Gate + Sync>(self, rt: &R, graph: &Graph, gate: &G) -> Marked
         requires { self ≡ graph.now }
         ensures { MarksLeast graph.now result }

@@ -1,4 +1,6 @@
-//! Places that are noted for the finishing scan.
+//! The places that are noted for the finishing scan.
+//!
+//! They are scanned at the end, in one thread.
 
 ghost use Rattle.std.specs.Prelude.{◌≡◌, ◌<◌, ◌↔◌, ℕ, IfOk, IsTrue, length};
 ghost use Rattle.golf_theory.specs.Membership.{In};
@@ -8,7 +10,7 @@ use golf_base::Memory;
 use std::alloc::Global;
 use std::marker::Model;
 
-/// A flag for each place, and whether one is set.
+/// A flag for each place, and whether any flag may be set.
 #[derive(Drop)]
 pub(crate) struct Notes {
     flags: Vec<bool>,
@@ -27,7 +29,7 @@ impl Model for Notes {
 }
 
 impl Notes {
-    /// Flags for so many places, none of them set.
+    /// Returns flags for `places` places, none of them set.
     pub(crate) fn new(alloc: Global, places: u32) -> Result<Notes, Memory>
         ensures { IfOk result (λ n. length n ≡ places) }
     {
@@ -35,14 +37,14 @@ impl Notes {
         Ok(Notes { flags, some: false })
     }
 
-    /// Whether no place is noted.
+    /// Returns whether no place is noted. It is true only if no flag is set.
     pub(crate) fn is_empty(&self) -> bool
         ensures { IsTrue result → (p : ℕ) → IsSet self.now p → ⊥ }
     {
         !self.some
     }
 
-    /// Whether a place is noted.
+    /// Returns whether a place is noted.
     pub(crate) fn has(&self, place: u32) -> bool
         requires { place < length self.now }
         ensures { IsTrue result ↔ IsSet self.now place }
@@ -61,7 +63,7 @@ impl Notes {
         self.some = true;
     }
 
-    /// Notes these places, but for numbers past the last one.
+    /// Notes these places. It leaves out numbers past the last place.
     pub(crate) fn add_all(&mut self, places: &[u32])
         ensures length { length self.new ≡ length self.old }
         ensures kept { (p : ℕ) → IsSet self.old p → IsSet self.new p }
@@ -74,7 +76,7 @@ impl Notes {
         }
     }
 
-    /// Notes what the other flags note.
+    /// Notes all places that the other flags note.
     pub(crate) fn merge(&mut self, other: Notes)
         requires { length other ≡ length self.old }
         ensures length { length self.new ≡ length self.old }
@@ -90,7 +92,7 @@ impl Notes {
     }
 }
 
-// Sets the flags that are set among the others.
+// Sets each flag that is set in the other list.
 fn set_all(flags: &mut Vec<bool>, others: &Vec<bool>)
     requires { length others.now.items ≡ length flags.old.items }
     ensures length { length flags.new.items ≡ length flags.old.items }

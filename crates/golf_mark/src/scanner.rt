@@ -1,4 +1,6 @@
-//! Scans a marked place: claims all that it justifies.
+//! The scan of a marked place: it claims all places that the place justifies.
+//!
+//! A claim that sets the bit wins the place. Only its winner scans the place, or shares it.
 
 ghost use Rattle.std.specs.Prelude.{◌^◌, ◌≡◌, ◌+◌, ◌<◌, ℕ};
 ghost use Rattle.golf_theory.specs.Membership.{In, Every};
@@ -20,8 +22,7 @@ pub(crate) struct Scanner {
     pub(crate) won: Worklist,
 }
 
-/// Claims a place. It glances first, since a glance costs less than a claim if others have marked
-/// the place.
+/// Claims a place. It glances first, since a glance costs less if another marker has marked the place.
 pub(crate) fn claim(marks: &Marks, scanner: &mut Scanner, place: u32)
     requires fits { IsScannerOf marks.now scanner.old }
     requires place { place < place_count (graph_in marks.now) }
@@ -50,7 +51,7 @@ pub(crate) fn claim_all(marks: &Marks, scanner: &mut Scanner, places: &[u32])
     }
 }
 
-// Claims these sleepers of a graph with so many nodes.
+// Claims these sleepers of a graph with `nodes` nodes.
 fn awaken(marks: &Marks, scanner: &mut Scanner, nodes: u32, sleepers: &[u32])
     requires fits { IsScannerOf marks.now scanner.old }
     requires places { Every (λ s. nodes + s < place_count (graph_in marks.now)) sleepers.now }
@@ -64,7 +65,7 @@ fn awaken(marks: &Marks, scanner: &mut Scanner, nodes: u32, sleepers: &[u32])
     }
 }
 
-/// Claims all that a known place justifies.
+/// Claims all places that a known place justifies.
 pub(crate) fn scan(
     marks: &Marks,
     graph: &Graph,

@@ -1,4 +1,7 @@
-//! For each node the sleepers that wait on it.
+//! The sleepers that wait on each node.
+//!
+//! A sleeper is in the list of each node that it waits on. So a marked node wakes its sleepers without a
+//! search.
 
 ghost use Rattle.std.specs.Prelude.{◌≡◌, IfOk};
 
@@ -8,8 +11,7 @@ use golf_rows::FlatRows;
 use std::alloc::Global;
 use std::marker::Model;
 
-/// A list of sleepers for each node of a graph, and none at all if there is no sleeper. A sleeper
-/// stands in the lists of all nodes that it waits on.
+/// For each node of a graph the list of the sleepers that wait on it. Without a sleeper there are no lists.
 #[derive(Drop)]
 pub(crate) struct Waiters {
     rows: FlatRows,
@@ -40,7 +42,7 @@ impl Waiters {
         })
     }
 
-    /// The sleepers that wait on a node.
+    /// Returns the sleepers that wait on a node.
     pub(crate) fn of(&self, node: u32) -> &[u32]
         ensures { result.now ≡ row_of self.now node }
     {

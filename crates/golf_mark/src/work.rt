@@ -1,4 +1,6 @@
-//! The places that are marked so far, and the scan of one of them.
+//! The places that one thread has marked so far, and the scan of one of them.
+//!
+//! The list of marked places is also the worklist: a place is scanned in the turn of its index.
 
 ghost use Rattle.std.specs.Prelude.{◌≡◌, ◌+◌, ◌^◌, ◌<◌, ◌≤◌, ℕ, [], IfOk, length, slice_get};
 ghost use Rattle.golf_theory.specs.Membership.{In, Every};
@@ -35,7 +37,7 @@ impl Model for Work {
 impl Work {
     ghost use Rattle.golf_mark.specs.Working.{Gains};
 
-    /// Nothing is marked, and there is room for all places.
+    /// Returns the work before the first claim, with room for all places.
     pub(crate) fn new(alloc: Global, places: u32) -> Result<Work, Memory>
         ensures places { IfOk result (λ w. w.places ≡ places) }
         ensures order { IfOk result (λ w. w.order ≡ []) }
@@ -46,7 +48,7 @@ impl Work {
         Ok(Work { bits, order })
     }
 
-    /// The place that was marked as number `turn`, from 0.
+    /// Returns the place at the index `turn` in the order of marking, or `None`.
     pub(crate) fn get(&self, turn: usize) -> Option<u32>
         ensures value { result ≡ slice_get self.now.order turn }
         ensures within { length self.now.order ≤ self.now.places }
@@ -77,7 +79,7 @@ impl Work {
         }
     }
 
-    /// Marks these sleepers of a graph with so many nodes.
+    /// Marks these sleepers of a graph with `nodes` nodes.
     fn awaken(&mut self, nodes: u32, sleepers: &[u32])
         requires room { Every (λ s. nodes + s < self.old.places) sleepers.now }
         requires small { self.old.places < 2 ^ 32 }
@@ -89,7 +91,7 @@ impl Work {
         }
     }
 
-    /// What is marked, on this sheet.
+    /// Writes the marked places on this sheet, and returns the marking.
     pub(crate) fn into_marked(self, sheet: Sheet) -> Marked
         requires places { length sheet.flags + length sheet.awake ≡ self.places }
         requires empty { sheet.numbers.items ≡ [] }
@@ -113,8 +115,8 @@ impl Work {
     }
 }
 
-/// What a marking is written on: a flag for each node and for each sleeper, and room for the numbers of
-/// the marked nodes.
+/// The memory of a marking: a flag for each node and for each sleeper, and room for the numbers of the
+/// marked nodes.
 #[derive(Drop)]
 pub(crate) struct Sheet {
     pub(crate) flags: List<bool>,
@@ -125,7 +127,7 @@ pub(crate) struct Sheet {
 impl Sheet {
     ghost use Rattle.golf_mark.specs.Sheets.{IsBlank};
 
-    /// A sheet for a graph of so many nodes and sleepers.
+    /// Returns a sheet for a graph with this many nodes and sleepers.
     pub(crate) fn new(alloc: Global, nodes: u32, sleepers: u32) -> Result<Sheet, Memory>
         ensures { IfOk result (IsBlank nodes sleepers) }
     {
@@ -143,7 +145,7 @@ impl Sheet {
     }
 }
 
-// The list with these flags in place of its own.
+// The list, with these flags instead of its own.
 fn copied(mut list: List<bool>, flags: &[bool]) -> List<bool>
     requires { length list ≡ length flags.now }
     ensures { result ≡ flags.now }
@@ -152,7 +154,7 @@ fn copied(mut list: List<bool>, flags: &[bool]) -> List<bool>
     list
 }
 
-/// Marks all that a place justifies.
+/// Marks all places that a place justifies.
 pub(crate) fn scan(graph: &Graph, waiters: &Waiters, work: &mut Work, place: u32)
     requires waiters { IsWaiters graph.now waiters.now }
     requires places { work.old.places ≡ node_count graph.now + sleeper_count graph.now }

@@ -1,4 +1,6 @@
-//! The places that a marker has to itself.
+//! The marker's own worklist.
+//!
+//! No other marker sees it. The marker scans places from its end, and shares places from its front.
 
 ghost use Rattle.std.specs.Prelude.{◌≡◌, ◌+◌, ◌<◌, ◌≤◌, ◌∷◌, ◌++◌, [], IfOk, MatchOption, length};
 
@@ -6,9 +8,9 @@ use golf_base::Memory;
 use std::alloc::Global;
 use std::marker::Model;
 
-/// A list of places that gains and loses places at its end and loses them at its front.
+/// A list of places that grows at its end, and shrinks at its end and at its front.
 ///
-/// What was at the front is skipped: its room comes back when the list is cleared.
+/// Places taken from the front are only skipped. Their room comes back when the list is cleared.
 #[derive(Drop)]
 pub(crate) struct Worklist {
     places: Vec<u32>,
@@ -30,7 +32,7 @@ impl Model for Worklist {
 }
 
 impl Worklist {
-    /// No place, and room for so many.
+    /// Returns the empty list, with room for `room` places.
     pub(crate) fn new(alloc: Global, room: usize) -> Result<Worklist, Memory>
         ensures items { IfOk result (λ s. s.items ≡ []) }
         ensures room { IfOk result (λ s. room ≤ s.spare) }
@@ -53,7 +55,7 @@ impl Worklist {
         &self.places.as_slice()[self.skipped..]
     }
 
-    /// Adds a place at the end, for which there is room.
+    /// Adds a place at the end. The list has room for it.
     pub(crate) fn push(&mut self, place: u32)
         requires { 0 < self.old.spare }
         ensures items { self.new.items ≡ self.old.items ++ place ∷ [] }
@@ -62,7 +64,7 @@ impl Worklist {
         self.places.push_reserved(place);
     }
 
-    /// Takes the last place.
+    /// Takes the last place, or returns `None`.
     pub(crate) fn pop(&mut self) -> Option<u32>
         ensures items { MatchOption result ((self.old.items ≡ []) × (self.new ≡ self.old)) (λ last. self.old.items ≡ self.new.items ++ last ∷ []) }
         ensures spare { self.old.spare ≤ self.new.spare }
@@ -73,7 +75,7 @@ impl Worklist {
         self.places.pop()
     }
 
-    /// Takes the first place.
+    /// Takes the first place, or returns `None`.
     pub(crate) fn shift(&mut self) -> Option<u32>
         ensures items { MatchOption result ((self.old.items ≡ []) × (self.new ≡ self.old)) (λ first. self.old.items ≡ first ∷ self.new.items) }
         ensures spare { self.new.spare ≡ self.old.spare }
@@ -83,7 +85,7 @@ impl Worklist {
         Some(first)
     }
 
-    /// Lets all places go.
+    /// Drops all places.
     pub(crate) fn clear(&mut self)
         ensures items { self.new.items ≡ [] }
         ensures spare { self.old.spare ≤ self.new.spare }

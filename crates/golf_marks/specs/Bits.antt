@@ -6,7 +6,7 @@ use Rattle.std.specs.Prelude.{if◌then◌else◌}
 abbrev pub word_of : ℕ → ℕ
 word_of p = p / 64
 
--- the word in which the place's bit alone is set
+-- the word in which only the bit of the place is set
 abbrev pub mask_of : ℕ → ℕ
 mask_of p = 2 ^ (p % 64)
 
@@ -18,12 +18,12 @@ bit_in p word = bit_and (word / 2 ^ (p % 64)) 1
 abbrev pub bit_at : List ℕ → ℕ → ℕ
 bit_at words p = bit_in p (slice_index words (word_of p))
 
--- the places among the first k of a word whose bits are set in it
+-- the places among the first k of a word whose bits are set in n
 abbrev pub marked_below : ℕ → ℕ → ℕ → List ℕ
 marked_below word n zero = []
 marked_below word n (suc k) = (if bit_in (64 * word + k) n == 1 then (64 * word + k)
     ∷ marked_below word n k else marked_below word n k)
 
--- all of them
+-- the places of a word whose bits are set in n
 abbrev pub marked_in : ℕ → ℕ → List ℕ
 marked_in word n = marked_below word n 64

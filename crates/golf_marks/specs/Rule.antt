@@ -1,4 +1,4 @@
--- The rule of the mark words: what holds between any two steps of any threads, and what a step tells its seat.
+-- The rule of the mark words: its invariant between any two steps of any threads, and what each step tells its seat.
 use Rattle.std.specs.Prelude.{◌≡◌, ℕ, ◌+◌, ◌-◌, ◌<◌, ◌≤◌, ◌==◌, List, [], ◌∷◌, ◌++◌, length, sum_by, if◌then◌else◌}
 use mathlib.Core.Option.{some}
 use lib.ListN.{get_elem?}
@@ -18,8 +18,8 @@ view_of g parts claimed known = record { graph = g; parts = parts; claimed = cla
 abbrev pub graph_of : Plan → GraphParts
 graph_of plan = plan.graph.value
 
--- a view without a part has claimed nothing and knows nothing; another one names the graph of the words; what it
--- claimed it knows, and what it knows is marked
+-- A view without a part has claimed nothing and knows nothing. Any other view has the graph of the words. It knows the
+-- places that it claimed, and the places that it knows are marked.
 pub record Fits (g : GraphParts) (words : List ℕ) (v : View) : Type 0 where
   pub idle : v.parts ≡ 0 → v.claimed ≡ []
   pub ignorant : v.parts ≡ 0 → v.known ≡ []
@@ -27,8 +27,8 @@ pub record Fits (g : GraphParts) (words : List ℕ) (v : View) : Type 0 where
   pub own : (p : ℕ) → In p v.claimed → In p v.known
   pub known : (p : ℕ) → In p v.known → bit_at words p ≡ 1
 
--- a place is claimed as often as its bit says; the parts add up to the seats; each view fits; and what is marked is a
--- place of the least closed set
+-- Each place is claimed as often as its bit says. The parts add up to the seats. Each view fits. Each marked place is a
+-- place of the graph, and is in its least closed set.
 pub record Holds (plan : Plan) (s : State (Unit {0}) View) : Type 0 where
   pub size : length s.words ≡ word_count (graph_of plan)
   pub claims : (p : ℕ) → sum_by (λ v. times p v.claimed) s.views ≡ bit_at s.words p
@@ -41,7 +41,7 @@ pub record Holds (plan : Plan) (s : State (Unit {0}) View) : Type 0 where
 abbrev pub first_view : Plan → View
 first_view plan = view_of (graph_of plan) plan.seats [] []
 
--- what a claim that found this bit tells
+-- what a claim tells that found this bit
 pub record Claims (place : ℕ) (v : View) (bit : ℕ) (w : View) : Type 0 where
   pub small : bit ≤ 1
   pub view : w ≡ view_of v.graph v.parts (if bit == 0 then v.claimed ++ place ∷ [] else v.claimed)
@@ -49,7 +49,7 @@ pub record Claims (place : ℕ) (v : View) (bit : ℕ) (w : View) : Type 0 where
   pub once : bit ≡ 0 → times place v.claimed ≡ 0
   pub bounded : length w.claimed ≤ place_count v.graph
 
--- what a look that found this bit tells
+-- what a look tells that found this bit
 pub record Looks (place : ℕ) (v : View) (bit : ℕ) (w : View) : Type 0 where
   pub small : bit ≤ 1
   pub view : w ≡ view_of v.graph v.parts v.claimed (if bit == 1 then v.known ++ place ∷ [] else v.known)
@@ -57,7 +57,7 @@ pub record Looks (place : ℕ) (v : View) (bit : ℕ) (w : View) : Type 0 where
   pub unclaimed : bit ≡ 0 → times place v.claimed ≡ 0
   pub bounded : length v.claimed ≤ place_count v.graph
 
--- the place of a step is the one of its word and of its first operand
+-- the word and the first operand of a step name its place
 abbrev pub ClaimTells : Step (Unit {0}) → Me (Unit {0}) View → ℕ → Me (Unit {0}) View → Type 0
 ClaimTells step me n now = ((p : ℕ) → word_of p ≡ step.word → mask_of p ≡ step.first → Claims p me.0 (bit_in p n) now.0)
     × (now.1 ≡ me.1)
@@ -66,7 +66,7 @@ abbrev pub LookTells : Step (Unit {0}) → Me (Unit {0}) View → ℕ → Me (Un
 LookTells step me n now = ((p : ℕ) → word_of p ≡ step.word → mask_of p ≡ step.first → Looks p me.0 (bit_in p n) now.0)
     × (now.1 ≡ me.1)
 
--- a glance tells all places of its word that are marked
+-- a glance tells all marked places of its word
 pub record Glances (word : ℕ) (v : View) (n : ℕ) (w : View) : Type 0 where
   pub view : w ≡ view_of v.graph v.parts v.claimed (v.known ++ marked_in word n)
   pub known : (p : ℕ) → word_of p ≡ word → In p v.known → bit_in p n ≡ 1
@@ -75,14 +75,14 @@ pub record Glances (word : ℕ) (v : View) (n : ℕ) (w : View) : Type 0 where
 abbrev pub GlanceTells : Step (Unit {0}) → Me (Unit {0}) View → ℕ → Me (Unit {0}) View → Type 0
 GlanceTells step me n now = Glances step.word me.0 n now.0 × (now.1 ≡ me.1)
 
--- a split gives one part away, and all that is known
+-- a split gives one part to the new view, which knows all that the old one knows
 abbrev pub left_view : View → View
 left_view v = view_of v.graph (v.parts - 1) v.claimed v.known
 
 abbrev pub right_view : View → View
 right_view v = view_of v.graph 1 [] v.known
 
--- a join takes everything in, and leaves nothing
+-- a join takes all of the other view, which is then empty
 abbrev pub both_views : View → View → View
 both_views v w = view_of v.graph (v.parts + w.parts) (v.claimed ++ w.claimed) (v.known ++ w.known)
 

@@ -1,4 +1,6 @@
-//! From the words to flags and numbers.
+//! From the mark words to flags and numbers.
+//!
+//! They are read after the marking, when no thread writes the words any more.
 
 ghost use Rattle.std.specs.Prelude.{◌^◌, ◌≡◌, ◌<◌, ◌≤◌, ◌+◌, ◌*◌, ◌==◌, ◌↔◌, ℕ, [], length, slice_index_or, false};
 ghost use Rattle.std.specs.List.Sorted.{IsStrictlyIncreasing};
@@ -12,7 +14,7 @@ use atomic_table::Closed;
 use golf_base::{List, Room};
 use std::alloc::Global;
 
-// Writes which places from `first` on are marked.
+// Sets the flags: for each place from `first` on whether it is marked.
 pub(crate) fn fill(closed: &Closed<(), Global>, first: usize, mut flags: List<bool>) -> List<bool>
     requires within { first + length flags ≤ 64 * slots_len closed.now.words }
     requires small { first + length flags < 2 ^ 32 }
@@ -27,7 +29,7 @@ pub(crate) fn fill(closed: &Closed<(), Global>, first: usize, mut flags: List<bo
     flags
 }
 
-/// The numbers of the flags that are set, in rising order, in a room that holds them. It takes no memory.
+/// Returns the numbers of the true flags, in rising order, in a room that holds them. It takes no memory.
 pub fn numbers_of(flags: &[bool], room: Room<u32>) -> List<u32>
     requires empty { room.items ≡ [] }
     requires room { length flags.now ≤ room.spare }

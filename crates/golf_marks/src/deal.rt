@@ -1,4 +1,6 @@
-//! The first seats.
+//! The seats of a new table of mark words, one for each thread.
+//!
+//! Each seat has one part. The words can be closed when all parts are together again.
 
 ghost use Rattle.std.specs.Prelude.{◌≡◌, ◌<◌, [], IfOk, length};
 ghost use Rattle.golf_theory.specs.Membership.{Every};
@@ -18,7 +20,7 @@ fn new_seat(seat: Seat<(), View>) -> MarkSeat
     MarkSeat { seat }
 }
 
-// Cuts the first seat, which has all parts, into seats of one part.
+// Cuts the first seat, which has all parts, into `seats` seats of one part each.
 pub(crate) fn deal(
     alloc: Global,
     marks: &Marks,

@@ -1,8 +1,13 @@
 //! Mark words: one bit for each place of a graph, which many threads share.
 //!
-//! Between any two steps of any threads each place is claimed at most once, and only if a root or
-//! a marked place justifies it, so that each marked place is in the least closed set; and what a
-//! seat knows as marked stays marked. Steps take no memory and never wait.
+//! The invariant holds between any two steps of any threads:
+//!
+//! - Each place is claimed at most once.
+//! - A claimed place is a root, or a marked place justifies it. So each marked place is in the least closed
+//!   set.
+//! - A place that a seat knows as marked stays marked.
+//!
+//! Steps take no memory and never wait.
 #![tactic(auto)]
 
 mod bits;

@@ -1,4 +1,7 @@
 //! The mark words and their seats.
+//!
+//! A seat is the ghost account of one thread: the places that it claimed, and the places that it knows as
+//! marked.
 
 ghost use Rattle.std.specs.Prelude.{◌^◌, ◌≡◌, ◌<◌, ◌≤◌, ◌+◌, ◌++◌, ◌∷◌, ℕ, [], length, IfOk, IsTrue, if◌then◌else◌};
 ghost use Rattle.std.specs.Prelude.{false};
@@ -33,7 +36,7 @@ pub struct Marks {
     ghost small: { place_count (graph_of table.shared.key) < 2 ^ 32 },
 }
 
-/// What one thread claims with and looks with. It has no bytes.
+/// The seat of one thread, with which it claims and looks. It has no bytes.
 #[derive(Drop)]
 pub struct MarkSeat {
     pub(crate) seat: Seat<(), View>,
@@ -49,7 +52,7 @@ impl Marks {
     ghost use Rattle.golf_marks.specs.Places.{IsJustified};
     ghost use Rattle.golf_marks.specs.Seats.{graph_in, seat_count, claimed, known, parts, claim_count, part_count, IsSeatOf, IsSameSeat, IsNewSeatOf};
 
-    /// Words for a graph, none of them set, with as many seats.
+    /// Returns mark words for a graph, none of them set, and `seats` seats. The only error is `Memory`.
     pub fn new(alloc: Global, graph: &Graph, seats: u32) -> Result<(Marks, List<MarkSeat>), Memory>
         requires { 0 < seats }
         ensures graph { IfOk result (λ r. graph_in r.0 ≡ graph.now) }
@@ -81,7 +84,7 @@ impl Marks {
         Ok((marks, list))
     }
 
-    // Sets the bit of a place, and tells what it was.
+    // Sets the bit of a place, and returns the bit before.
     fn put_bit(&self, seat: &mut MarkSeat, place: u32) -> u64
         requires seat { IsSeatOf self.now seat.old }
         requires place { place < place_count (graph_in self.now) }
@@ -98,8 +101,8 @@ impl Marks {
         bit(found, at)
     }
 
-    // The bit of a place. The step names the place by its bit, and so it is an exchange that changes
-    // nothing, and no load.
+    // The bit of a place. A step names the place by a mask, and a load has no mask. So this is an exchange
+    // that changes nothing.
     fn find_bit(&self, seat: &mut MarkSeat, place: u32) -> u64
         requires seat { IsSeatOf self.now seat.old }
         requires place { place < place_count (graph_in self.now) }
@@ -115,7 +118,7 @@ impl Marks {
         bit(found, at)
     }
 
-    /// Marks a place that is a root, or that a known place justifies: true exactly if this step
+    /// Marks a place that is a root, or that a known place justifies. Returns true exactly when this step
     /// set the bit. It is false only if the bit was set before.
     pub fn claim(&self, seat: &mut MarkSeat, place: u32) -> bool
         requires seat { IsSeatOf self.now seat.old }
@@ -130,7 +133,7 @@ impl Marks {
         self.put_bit(seat, place) == 0
     }
 
-    /// Whether a place is marked. It is never false for a place that the seat knows or claimed.
+    /// Returns whether a place is marked. It is never false for a place that the seat knows or claimed.
     pub fn is_marked(&self, seat: &mut MarkSeat, place: u32) -> bool
         requires seat { IsSeatOf self.now seat.old }
         requires place { place < place_count (graph_in self.now) }
@@ -144,9 +147,8 @@ impl Marks {
         self.find_bit(seat, place) == 1
     }
 
-    /// Whether a place is marked. The seat then knows the place, and with it other marked places
-    /// that have their bits in the same word. This costs no more than reading it: `is_marked` is a
-    /// step that writes, and `claim` another one.
+    /// Returns whether a place is marked. The seat then knows all marked places in the same word. This step
+    /// only loads, whereas `is_marked` and `claim` are steps that write.
     pub fn glance(&self, seat: &mut MarkSeat, place: u32) -> bool
         requires seat { IsSeatOf self.now seat.old }
         requires place { place < place_count (graph_in self.now) }
@@ -162,7 +164,7 @@ impl Marks {
         bit(found, at) == 1
     }
 
-    /// Takes in what another seat claimed and knows, and what it stands for.
+    /// Merges another seat into this one: its claimed places, its known places and its parts.
     pub fn join(&self, seat: &mut MarkSeat, other: MarkSeat)
         requires seat { IsSeatOf self.now seat.old }
         requires other { IsSeatOf self.now other }
@@ -175,7 +177,7 @@ impl Marks {
         self.table.shared.join_seat::<Deal>(&mut seat.seat, theirs);
     }
 
-    // One seat that has taken in all these.
+    // Merges all these seats into one.
     fn gather(&self, mut seats: List<MarkSeat>) -> MarkSeat
         requires seats { Every (IsSeatOf self.now) seats }
         requires some { 0 < part_count seats }
@@ -193,7 +195,8 @@ impl Marks {
         seat
     }
 
-    /// The places that these seats claimed, which are all seats or stand for all.
+    /// Ends the marking, and returns the places that these seats claimed. Their parts add up to the number
+    /// of all seats.
     pub fn close(self, seats: List<MarkSeat>) -> Marked
         requires seats { Every (IsSeatOf self) seats }
         requires all { part_count seats ≡ seat_count self }

@@ -1,29 +1,32 @@
-//! The rule of the mark words, and the steps under it.
+//! The rule of the mark words, and its steps.
+//!
+//! `specs/Rule.antt` states the invariant.
 
 use atomic_table::{Join, Play, Split, TableRule};
 use golf_model::Graph;
 use std::collections::LinkedList;
 use std::snapshot::Snapshot;
 
-/// What is fixed when the words are made.
+/// The fixed data of the words: the graph, and the number of seats.
 #[derive(Drop)]
 pub struct Plan {
     pub graph: Snapshot<Graph>,
-    /// How many seats there are at first.
+    /// The number of seats at the start.
     pub seats: u32,
 }
 
-/// What a seat knows. No value of it is ever made.
+/// The account of a seat. It is a ghost type: no value of it is ever made.
 pub struct View {
     pub graph: Graph,
-    /// How many of the first seats it stands for: a split cuts one off, a join adds them.
+    /// How many of the first seats this one stands for. A split cuts off one, and a join adds them.
     pub parts: u64,
-    /// The places that it claimed.
+    /// The places that the seat claimed.
     pub claimed: LinkedList<u32>,
-    /// The places that it knows as marked.
+    /// The places that the seat knows as marked.
     pub known: LinkedList<u32>,
 }
 
+/// The rule of the mark words: of all claims of a place at most one wins.
 pub struct Ruled;
 
 impl TableRule<(), View, Plan> for Ruled {
@@ -34,7 +37,7 @@ impl TableRule<(), View, Plan> for Ruled {
     ghost first = { first_view };
 }
 
-/// A claim of a place.
+/// The step that claims a place.
 pub struct Claim;
 
 impl Play<(), View> for Claim {
@@ -43,7 +46,7 @@ impl Play<(), View> for Claim {
     ghost then = { ClaimTells };
 }
 
-/// A look at a place.
+/// The step that looks at a place.
 pub struct Look;
 
 impl Play<(), View> for Look {
@@ -52,7 +55,7 @@ impl Play<(), View> for Look {
     ghost then = { LookTells };
 }
 
-/// A glance at all places of a word.
+/// The step that looks at all places of a word.
 pub struct Glance;
 
 impl Play<(), View> for Glance {
@@ -61,7 +64,7 @@ impl Play<(), View> for Glance {
     ghost then = { GlanceTells };
 }
 
-/// Seats that are cut off and taken in.
+/// Splits and joins of seats.
 pub struct Deal;
 
 impl Split<View> for Deal {

@@ -11,23 +11,23 @@ use Rattle.golf_meaning_flat.specs.Laws.{Agree, HasRules}
 use Rattle.golf_meaning_functions.specs.Functions.{CodeMeaning}
 use Rattle.golf_meaning_functions.specs.Files.{function_count, giving_in, MeaningOf}
 
--- both are there, and have the same body
+-- both codes have the function, with the same body
 abbrev pub AreSame : Option Function → Option Function → Type 0
 AreSame (Some f) (Some g) = HasSameBody f g
 AreSame (Some f) None = ⊥
 AreSame None o = ⊥
 
--- the code has a function of this number, and its parameters, slots and body are those that it has in the code of the
--- file
+-- the code has a function of this number, with the parameters, slots and body that the code of the file has there
 abbrev pub IsCodeOf : File → Code → ℕ → Type 0
 IsCodeOf file code k = AreSame (slice_get code.functions k) (slice_get (CodeOf file).functions k)
 
--- the number is that of a function or method of the file: neither 0, nor that of one that is made for `go` or `defer`
+-- The number is that of a function or method of the file. It is not 0, and not the number of a function made for `go`
+-- or `defer`.
 abbrev pub IsNumbered : File → ℕ → Type 0
 IsNumbered file k = (0 < k) × (k ≤ function_count file.declarations)
 
--- With as many arguments as it has parameters, and whatever the answers, the meaning of the source of this number and
--- that of the function agree, unless the source lacks a rule: for each bound of one there is a bound of the other.
+-- Unless the source lacks a rule, the meaning of this source and that of the function agree: for each bound of one
+-- there is a bound of the other. This holds for as many arguments as there are parameters, and for all answers.
 abbrev pub FunctionAgrees : File → ℕ → Option Function → Type 0
 FunctionAgrees file k None = ⊥
 FunctionAgrees file k (Some fn) =
@@ -39,12 +39,12 @@ FunctionAgrees file k (Some fn) =
 abbrev pub Agrees : File → Code → ℕ → Type 0
 Agrees file code k = FunctionAgrees file k (slice_get code.functions k)
 
--- ---- all of them
+-- ---- all functions of a file
 
--- the code has each function and method of the file as its code has it
+-- the code has each function and method of the file as the code of the file has it
 abbrev pub AllAreCodeOf : File → Code → Type 0
 AllAreCodeOf file code = (k : ℕ) → IsNumbered file k → IsCodeOf file code k
 
--- each of them agrees with its source
+-- each function and method of the file agrees with its source
 abbrev pub AllAgree : File → Code → Type 0
 AllAgree file code = (k : ℕ) → IsNumbered file k → Agrees file code k

@@ -1,4 +1,6 @@
-//! A function of a code, and all functions of a file, judged by the code of the file.
+//! Compares the functions of a code with those that the file's own code has.
+//!
+//! A function that is the same agrees with its source. Nothing here runs code.
 
 ghost use Rattle.std.specs.Prelude.{◌≡◌, ◌↔◌, drop, slice_get, IfOk, IsTrue};
 ghost use Rattle.golf_check_types.specs.Files.{facts_in};
@@ -27,14 +29,17 @@ fn are_same(code: &Code, other: &Code, number: usize) -> bool
     }
 }
 
-/// Whether the code has a function of this number, with the parameters, the slots and the body,
-/// each line of it with its place in the source, that the function has in the code of the file.
+/// Returns whether the code has this function as the code of the file has it: the same parameters, slots
+/// and body. The body includes the place in the source of each instruction.
 ///
-/// If it has, and the number is that of a function or method of the file, source and code agree,
-/// both ways: for as many arguments as the function has parameters, and all answers, each bound of
-/// one has a bound of the other with which the operations and the end are the same, or if it is
-/// short its operations are a prefix of the other's. This holds unless the source lacks a rule,
-/// which it never does in a file that breaks no rule (`golf_meaning_runs`).
+/// Suppose that it has, and that the number is that of a function or method of the file. Then source and
+/// code agree, for as many arguments as the function has parameters, and for all answers:
+///
+/// - Each bound of one has a bound of the other with which the operations and the end are the same.
+/// - If the bound is too short for the end, the operations of one are a prefix of the other's.
+///
+/// This holds unless the source lacks a rule. It never lacks one in a file that breaks no rule
+/// (`golf_meaning_runs`).
 pub fn check_body(
     alloc: Global,
     checked: &Checked,
@@ -50,7 +55,7 @@ pub fn check_body(
     Ok(are_same(code, &made, function as usize))
 }
 
-/// How many functions and methods these declare.
+/// Returns how many functions and methods these declarations have.
 pub fn function_count(declarations: &[Decl]) -> usize
     ensures { result ≡ function_count_of declarations.now }
 {
@@ -64,7 +69,7 @@ pub fn function_count(declarations: &[Decl]) -> usize
     count
 }
 
-// The functions but the first one, which runs the initialisers.
+// The functions except for the first one, which runs the initialisers.
 fn past_entry(functions: &[Function]) -> &[Function]
     ensures { result.now ≡ drop 1 functions.now }
 {
@@ -74,9 +79,9 @@ fn past_entry(functions: &[Function]) -> &[Function]
     }
 }
 
-/// Whether each function and method of the file has the code that the file gives it, as
-/// `check_body` judges one; then each agrees with its source, both ways. The functions of the file
-/// are made once, in one walk, and each is dropped once it is compared.
+/// Returns whether the code has each function and method of the file as the code of the file has it. Then
+/// each one agrees with its source, as with `check_body`. It makes the functions of the file one at a time,
+/// in one walk, and drops each after the comparison.
 pub fn check_all(alloc: Global, checked: &Checked, code: &Code) -> Result<bool, Memory>
     requires scope { checked.now.scope ≡ scope_of checked.now.file }
     requires facts { checked.now.facts ≡ facts_in checked.now.file }

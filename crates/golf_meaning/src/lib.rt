@@ -1,7 +1,8 @@
-//! Whether code is that of a typed file, function by function; and if it is, source and code agree, both ways.
+//! Judges whether code is that of a typed file, function by function. If it is, source and code agree, both
+//! ways.
 //!
-//! - `check_body`: whether a function of a code has the parameters, slots and body that the file's code gives it.
-//! - `check_all`: the same of each function and method of the file, which are made one at a time.
+//! - `check_body`: whether one function of a code is the one that the file's code has.
+//! - `check_all`: whether each function and method of the file is. It makes them one at a time.
 #![tactic(auto)]
 
 mod judging;

@@ -1,4 +1,4 @@
--- The calls of a run: what each has shown, and was answered, turn by turn; and what is to hold of them.
+-- The calls of a run: the operations that each has shown and its answers, turn by turn; and what holds of them.
 use Rattle.std.specs.Prelude.{◌≡◌, ℕ, zero, suc, ◌-◌, ◌==◌, Bool, true, false, cond, List, [], ◌∷◌, ◌++◌, length}
 use Rattle.std.specs.Prelude.{Option, Some, None, unwrap_or, slice_get}
 use Rattle.golf_theory.specs.Maps.{find, Entry}
@@ -30,15 +30,15 @@ use Rattle.golf_meaning_turns.specs.Life.{frame, Now, Life}
 use Rattle.golf_meaning_turns.specs.Answering.{AnswerFits, Answers}
 use Rattle.golf_meaning_turns.specs.Turning.{answer, Asked, shows, ends_with}
 
--- ---- what is written down of a call
+-- ---- the record of a call
 
--- a call goes on; or its last operation waits for its answer; or it has returned or divided by zero
+-- a call goes on, or its last operation waits for its answer, or it has returned or divided by zero
 pub data Standing : Type 0 where
   Goes : Standing
   Asks : (q : Asked) → Standing
   Ended : (h : Halt) → Standing
 
--- the function with the arguments, the operations that it has shown, the answers that it got, and how it stands
+-- the function, the arguments, the shown operations, the answers, and the present standing
 pub record Call : Type 0 where
   pub function : ℕ
   pub arguments : List Value
@@ -49,14 +49,14 @@ pub record Call : Type 0 where
 abbrev pub fresh : ℕ → List Value → Call
 fresh f vs = record { function = f; arguments = vs; shown = []; got = []; standing = Standing.Goes }
 
--- so many operands in source order
+-- n operands in source order
 abbrev pub popped : ℕ → List Value → List Value → List Value
 popped zero vs os = vs
 popped (suc n) vs [] = vs
 popped (suc n) vs (v ∷ os) = popped n (v ∷ vs) os
 
--- before the next turn of a call the answer to its last operation is written down: the clause whose place it stands at,
--- and what lies on top of the operands that were left
+-- before the next turn of a call the answer to its last operation is recorded: its clause is given by the call's place,
+-- and its values are on top of the operands that were left
 abbrev pub settled_by : Standing → FrameView → Call → Call
 settled_by Standing.Goes f k = k
 settled_by (Standing.Asks q) f k = record k {
@@ -67,7 +67,7 @@ settled_by (Standing.Asks q) f k = record k {
 }
 settled_by (Standing.Ended h) f k = k
 
--- with its turn a call shows an operation, or it ends, or it does neither
+-- by its turn a call shows an operation, or ends, or does neither
 abbrev pub with_turn : Option (Operation × Asked) → Option Halt → Call → Call
 with_turn (Some x) e k = record k { shown = k.shown ++ x.0 ∷ []; standing = Standing.Asks x.1 }
 with_turn None None k = k
@@ -83,14 +83,14 @@ abbrev pub line_ends : Option CodeLine → FrameView → Option Halt
 line_ends None f = None
 line_ends (Some l) f = ends_with l.instr f.at (frame f.slots f.operands)
 
--- the innermost call, by how its frame is left
+-- the innermost call after a turn, by how its frame is leaving
 abbrev pub turned_call : Code → FrameView → Leaving → Call → Call
 turned_call code f Leaving.No k = with_turn (line_shows (line_at code f.function f.at) f)
     (line_ends (line_at code f.function f.at) f) (settled_by k.standing f k)
 turned_call code f (Leaving.Returning v) k = k
 turned_call code f (Leaving.Unwinding x) k = k
 
--- the arguments of the call that a turn begins: those of the operation, or of the deferred call
+-- the arguments of the call that a turn begins: those of the operation, or those of the deferred call
 abbrev pub operands_shown : Option (Operation × Asked) → List Value
 operands_shown None = []
 operands_shown (Some x) = x.0.operands
@@ -114,7 +114,7 @@ abbrev pub begun_in : List FrameView → List Value → List Call
 begun_in [] vs = []
 begun_in (f ∷ fs) vs = fresh f.function vs ∷ []
 
--- a frame more is a call more, and a frame fewer one fewer
+-- one more frame is one more call, and one frame fewer is one call fewer
 abbrev pub rebooked : Code → FrameView → List FrameView → List FrameView → Call → List Call → List Call
 rebooked code f callers after k ks = cond (is_longer after (f ∷ callers))
     (begun_in after (passed code f f.leaving) ++ turned_call code f f.leaving k ∷ ks)
@@ -161,7 +161,7 @@ abbrev pub book_from : Code → State → List Event → Book → Book
 book_from code s [] b = b
 book_from code s (e ∷ es) b = book_from code (happens code s e) es (booked_in (has_ended s) code s e b)
 
--- at first goroutine 1 has a call of function 0
+-- at first, goroutine 1 has a call of function 0
 abbrev pub first_book : Book
 first_book g = cond (g == 1) (fresh 0 [] ∷ []) []
 
@@ -169,9 +169,9 @@ first_book g = cond (g == 1) (fresh 0 [] ∷ []) []
 abbrev pub book_of : Code → List Event → Book
 book_of code es = book_from code (start code) es first_book
 
--- ---- the calls that have left the book, since their frames are gone
+-- ---- the calls that have left the book because their frames are gone
 
--- with a frame fewer the innermost call has left
+-- with one frame fewer, the innermost call has left
 abbrev pub left_by : Code → List FrameView → List FrameView → List Call → List Call
 left_by code (f ∷ callers) after (k ∷ ks) =
     cond (is_longer (f ∷ callers) after) (turned_call code f f.leaving k ∷ []) []
@@ -191,11 +191,11 @@ left_from code s [] b = []
 left_from code s (e ∷ es) b = left_in (has_ended s) code s e b
     ++ left_from code (happens code s e) es (booked_in (has_ended s) code s e b)
 
--- those of the run from the opening state, in the order in which they left
+-- the calls that left in the run from the opening state, in the order in which they left
 abbrev pub left_of : Code → List Event → List Call
 left_of code es = left_from code (start code) es first_book
 
--- ---- what holds of them
+-- ---- what holds of the calls
 
 -- the types of a code with the shapes of its functions, and the types of the objects of a run
 pub record RunTypes : Type 0 where
@@ -219,20 +219,20 @@ shaping types f = Some (record {
 abbrev pub Shaped : RunTypes → ℕ → ℕ → Frame → Type 0
 Shaped types f at c = IsShaped (shaping types f) at c
 
--- the function of this number may be called with them
+-- the function of this number can be called with these arguments
 abbrev pub Takes : Code → RunTypes → ℕ → List Value → Type 0
 Takes code types f vs = (fn : Function) → slice_get code.functions f ≡ Some fn → (length vs ≡ fn.params)
     × AreArguments types f vs
 
--- a life that has come to this is that of a call that stands so
+-- the present of a life agrees with the standing of the call
 abbrev pub StandsSo : Standing → Now → Type 0
 StandsSo Standing.Goes (Now.Stands at c) = Unit {0}
 StandsSo (Standing.Asks q) (Now.Asks at c before) = Unit {0}
 StandsSo (Standing.Ended h) (Now.Halted i) = h ≡ i
 StandsSo _ _ = ⊥
 
--- the call of the function has arguments of its types, and a life whose frames have shapes, and which has come to where
--- the call stands
+-- the call has arguments of the types of its function, and a life whose frames have shapes and whose present agrees
+-- with the call's standing
 abbrev pub Lives : RunTypes → Function → Call → Type 0
 Lives types fn k = AreArguments types k.function k.arguments
     × ((now : Now) × Life fn (shaping types k.function) k.arguments k.shown k.got now × StandsSo k.standing now)
@@ -240,19 +240,19 @@ Lives types fn k = AreArguments types k.function k.arguments
 abbrev pub HasLife : Code → RunTypes → Call → Type 0
 HasLife code types k = (fn : Function) × (slice_get code.functions k.function ≡ Some fn) × Lives types fn k
 
--- with this answer to its last operation it stands there, if its frame has the shape of that place
+-- with this answer to its last operation the call is at that place, if its frame has the shape of the place
 abbrev pub LivesAt : RunTypes → Function → Call → List ℕ → ℕ → List Value → List Value → List Value → Type 0
 LivesAt types fn k ranks to slots values rest = Shaped types k.function to (frame slots (pushed values rest))
     → Life fn (shaping types k.function) k.arguments k.shown (k.got ++ answer (lower ranks to) values ∷ [])
     (Now.Stands to (frame slots (pushed values rest)))
 
--- whatever it is served with by this wait, and if it is only woken, the call lives on
+-- the call lives on with any values by which this wait serves it, and also if it is only woken
 abbrev pub MayServe : RunTypes → Function → Call → Asked → FrameView → Wait → Type 0
 MayServe types fn k q f w = ((values : List Value)
     → LivesAt types fn k q.ranks (unwrap_or w.target f.at) f.slots values q.rest)
     × (IsOfLock w.side → LivesAt types fn k q.ranks f.at f.slots [] q.rest)
 
--- the innermost frame of a goroutine, and its call: it stands at its place; it was answered; or it waits
+-- the innermost frame of a goroutine and its call: the call is at its place, or was answered, or waits
 abbrev pub IsOnTop : RunTypes → Function → Call → FrameView → Standing → Mode → Type 0
 IsOnTop types fn k f Standing.Goes Mode.Running =
     Life fn (shaping types k.function) k.arguments k.shown k.got (Now.Stands f.at (frame f.slots f.operands))
@@ -263,13 +263,13 @@ IsOnTop types fn k f (Standing.Asks q) (Mode.Blocked kind line waits ticket) = (
     × Every (MayServe types fn k q f) waits
 IsOnTop types fn k f (Standing.Ended h) mode = ⊥
 
--- a call whose frame unwinds has divided by zero or returned, or its last operation is never answered
+-- a call whose frame unwinds or is gone: it has ended, or its last operation is never answered
 abbrev pub GoesNoMore : Standing → Type 0
 GoesNoMore Standing.Goes = ⊥
 GoesNoMore (Standing.Asks q) = Unit {0}
 GoesNoMore (Standing.Ended h) = Unit {0}
 
--- a call whose frame is being left: it has returned this; or it unwinds
+-- a call whose frame is leaving: it has returned this value, or it unwinds
 abbrev pub IsLeft : Call → Leaving → Type 0
 IsLeft k Leaving.No = Unit {0}
 IsLeft k (Leaving.Returning v) = k.standing ≡ Standing.Ended (Halt.Returned v)
@@ -280,7 +280,7 @@ Top types fn k f Leaving.No mode = IsOnTop types fn k f k.standing mode
 Top types fn k f (Leaving.Returning v) mode = IsLeft k (Leaving.Returning v)
 Top types fn k f (Leaving.Unwinding x) mode = IsLeft k (Leaving.Unwinding x)
 
--- a frame below: its call waits for what the one above gives
+-- a frame below another: its call waits for the value that the frame above gives
 abbrev pub WaitsBelow : RunTypes → Function → Call → FrameView → Standing → Type 0
 WaitsBelow types fn k f Standing.Goes = ⊥
 WaitsBelow types fn k f (Standing.Asks q) = (f.operands ≡ q.rest)
@@ -292,7 +292,7 @@ Below types fn k f Leaving.No = WaitsBelow types fn k f k.standing
 Below types fn k f (Leaving.Returning v) = IsLeft k (Leaving.Returning v)
 Below types fn k f (Leaving.Unwinding x) = IsLeft k (Leaving.Unwinding x)
 
--- a frame is of the function of its call
+-- the frame is of the function of its call
 abbrev pub Of : Code → RunTypes → Call → FrameView → (Function → Type 0) → Type 0
 Of code types k f P = (fn : Function) × (slice_get code.functions k.function ≡ Some fn) × (f.function ≡ k.function)
     × Lives types fn k × P fn
@@ -303,7 +303,7 @@ AllBelow code types (f ∷ fs) (k ∷ ks) = Of code types k f (λ fn. Below type
     × AllBelow code types fs ks
 AllBelow code types _ _ = ⊥
 
--- the frames of a goroutine and its calls
+-- the frames of a goroutine match its calls
 abbrev pub Matches : Code → RunTypes → Mode → List FrameView → List Call → Type 0
 Matches code types mode [] [] = Unit {0}
 Matches code types mode (f ∷ fs) (k ∷ ks) = Of code types k f (λ fn. Top types fn k f f.leaving mode)
@@ -319,11 +319,11 @@ abbrev pub HasParameters : Code → Typing → Type 0
 HasParameters code types = (k : ℕ) (fn : Function) (sig : Signature) → slice_get code.functions k ≡ Some fn
     → slice_get types.of.functions k ≡ Some sig → fn.params ≡ length sig.params
 
--- the state is well typed, by what is known of its objects then, and later still
+-- the state is well typed by what is known of its objects, and all of that is still known later
 abbrev pub TypedIn : Typing → List (ℕ × ValueType) → State → Type 0
 TypedIn types later s = (known : List (ℕ × ValueType)) × WellTyped types known s × Grows known later
 
--- so is each state of a run from this one on
+-- each state of a run from this one on is well typed
 abbrev pub TypedAlong : Code → Typing → List (ℕ × ValueType) → State → List Event → Type 0
 TypedAlong code types later s [] = TypedIn types later s
 TypedAlong code types later s (e ∷ es) = TypedIn types later s × TypedAlong code types later (happens code s e) es
@@ -335,14 +335,14 @@ GoesWell code types =
     × ((events : List Event) (c : ℕ) → ending (run code (start code) events) ≡ None
     → MovesOn code (run code (start code) events) c)
 
--- each answer that the call got is of the types that its operation leaves, by those of a function with its signature
+-- each answer of the call is of the types that its operation leaves, by the shapes of a function with its signature
 abbrev pub IsAnswered : RunTypes → Call → Type 0
 IsAnswered types k = (ft : FunctionTypes) × (slice_get types.typing.of.functions k.function ≡ Some (signature ft))
     × Answers (AnswerFits types.typing.of types.known ft) k.shown k.got
 
--- In each state of a run without an ending the frames of each goroutine match its calls, with the operations that they
--- have shown and the answers that they got in that run. Always each call, also one that has left, has arguments of its
--- types, a life, and answers of the types that its operations leave; and one that has left goes on no more.
+-- In each state of a run without an ending the frames of each goroutine match its calls, with the operations shown and
+-- the answers got in that run. Each call, even one that has left, has arguments of its types, a life, and answers of
+-- the types that its operations leave. A call that has left does not go on.
 pub record IsBooked (code : Code) (types : RunTypes) (events : List Event) : Type 0 where
   pub going : ending (run code (start code) events) ≡ None → (g : ℕ) (r : GoroutineView)
       → Entry (run code (start code) events).goroutines g r → Matches code types r.mode r.frames (book_of code events g)
@@ -351,7 +351,7 @@ pub record IsBooked (code : Code) (types : RunTypes) (events : List Event) : Typ
   pub answered : (g : ℕ) → Every (IsAnswered types) (book_of code events g)
   pub left_answered : Every (IsAnswered types) (left_of code events)
 
--- so it is for each code with shapes that goes well, by what is known of objects in the end
+-- a run is booked if the code has shapes and goes well; `known` has the objects known at the end of the run
 abbrev pub RunsAreBooked : Type 0
 RunsAreBooked = (code : Code) (types : Typing) → HasMasks code → HasShapes code types → HasParameters code types
     → GoesWell code types → (events : List Event) → (known : List (ℕ × ValueType))

@@ -5,14 +5,14 @@ use Rattle.golf_data.specs.declared.code.SelectCase.{SelectCase}
 use Rattle.golf_data.specs.Effects.{left, case_left}
 use Rattle.golf_meaning_flat.specs.Worlds.{Answer}
 
--- as many values as the clause of this number leaves
+-- as many values as clause k of a `select` leaves
 abbrev pub clause_left : ℕ → List SelectCase → Option ℕ → Option ℕ
 clause_left k [] None = None
 clause_left k [] (Some t) = cond (t == k) (Some 0) None
 clause_left k (c ∷ cs) o = cond (c.target == k) (Some (case_left c.kind)) (clause_left k cs o)
 
--- as many as the operation leaves, if these functions give a value; of a choice, as many as the clause leaves that the
--- answer names
+-- as many values as the operation leaves, where `gives` says which functions give a value; for a choice, as many as the
+-- clause that the answer names leaves
 abbrev pub answer_left : List Bool → Instr → ℕ → Option ℕ
 answer_left gives (Instr.Select cases otherwise) k = clause_left k cases otherwise
 answer_left gives i k = cond (k == 0) (Some (left gives i)) None

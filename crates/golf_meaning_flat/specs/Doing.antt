@@ -1,4 +1,4 @@
--- What an instruction does in a frame.
+-- The effect of an instruction on a frame.
 use Rattle.std.specs.Prelude.{ℕ, zero, suc, Bool, true, false, not, List, [], ◌∷◌, Option, Some, None, slice_get}
 use Rattle.std.specs.Prelude.{slice_set, ℤ, int_lt, int_le}
 use Rattle.golf_data.specs.declared.value.Value.{Value}
@@ -16,7 +16,7 @@ pub record Frame : Type 0 where
   pub slots : List Value
   pub operands : List Value
 
--- an instruction without targets: how the frame stands after it
+-- an instruction without targets: the frame after it
 abbrev pub Act : Type 0
 Act = Frame → World → Part Frame
 
@@ -36,7 +36,7 @@ abbrev pub on_some : {A X : Type 0} → (X → Part A) → World → Option X �
 on_some act w None = unfit w
 on_some act w (Some x) = act x
 
--- a value that is used as of a kind is of this kind
+-- a value that is used as a value of a kind must be of this kind
 abbrev pub on_kind : {A X : Type 0} → (X → Part A) → World → Option X → Part A
 on_kind act w None = wrong_kind w
 on_kind act w (Some x) = act x
@@ -50,7 +50,7 @@ two w act [] = unfit w
 two w act (y ∷ []) = unfit w
 two w act (y ∷ x ∷ rest) = act x y rest
 
--- so many operands in source order
+-- takes n operands, as a list in source order
 abbrev pub some_from : {A : Type 0} → World → ℕ → List Value → (List Value → List Value → Part A) → List Value → Part A
 some_from w zero taken act rest = act taken rest
 some_from w (suc n) taken act [] = unfit w
@@ -60,7 +60,7 @@ abbrev pub chosen_by : {A : Type 0} → Bool → Part A → Part A → Part A
 chosen_by true a b = a
 chosen_by false a b = b
 
--- Calculating: of a value, or of two.
+-- Calculations from one value, or from two.
 
 abbrev pub negated : World → Value → Part Value
 negated w x = on_kind (λ n. Part.Gives (Value.Int (int_wrapping_neg w64 n)) w) w (int_of x)
@@ -117,23 +117,23 @@ returns c w = Part.Stops (Halt.Returned None) w.operations
 abbrev pub returns_value : Act
 returns_value c w = one w (λ v rest. Part.Stops (Halt.Returned (Some v)) w.operations) c.operands
 
--- a visible operation that has no answer
+-- `panic`: a visible operation that has no answer
 abbrev pub panics : Act
 panics c w = some_from w 1 [] (λ vs rest. bind (asks Instr.Panic vs w) (λ a u. miscount u)) c.operands
 
--- what an instruction does: it acts, or it has targets
+-- what an instruction does: it acts, or it goes on at targets
 pub data Doing : Type 0 where
   Acts : (f : Act) → Doing
   Jumps : (t : ℕ) → Doing
   Tests : (t : ℕ) → Doing
   Chooses : (cases : List SelectCase) (otherwise : Option ℕ) → Doing
 
--- an operation is added, and takes the next answer, if this has as many values as the operation leaves where these
--- functions give a value
+-- adds an operation and takes the next answer; the answer must have as many values as the operation leaves, where
+-- `gives` says which functions give a value
 abbrev pub gets : List Bool → Instr → List Value → World → Part Answer
 gets gives i vs w = bind (asks i vs w) (λ a u. chosen_by (is_counted gives i a) (Part.Gives a u) (miscount u))
 
--- a visible operation: its answer is taken as it stands
+-- a visible operation: the values of its answer go on top of the operands as they are
 abbrev pub shows : List Bool → Instr → Act
 shows gives i c w = some_from w (taken i) []
     (λ vs rest. bind (gets gives i vs w) (λ a u. goes c (pushed a.values rest) u)) c.operands

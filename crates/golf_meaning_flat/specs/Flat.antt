@@ -1,4 +1,4 @@
--- The meaning of flat code: at most so many instructions.
+-- The meaning of flat code, up to a number of instructions.
 use Rattle.std.specs.Prelude.{ℕ, zero, suc, ◌+◌, ◌==◌, nat_lt, cond, Bool, List, [], ◌∷◌, map, Option, Some, None}
 use Rattle.std.specs.Prelude.{slice_get}
 use Rattle.std.specs.Option.{option_map}
@@ -10,7 +10,7 @@ use Rattle.golf_data.specs.Effects.{cases_taken}
 use Rattle.golf_meaning_flat.specs.Worlds.{Misfit, Halt, Told, World, Part, halted, cut_short, bind, pushed}
 use Rattle.golf_meaning_flat.specs.Doing.{Frame, miscount, on_kind, one, some_from, gets, Doing, doing}
 
--- Clauses of a `select`: the place of the clause that begins at a target is how many of the targets are lower.
+-- Clauses of a `select`: the place of the clause that begins at a target is the number of targets below that target.
 
 abbrev pub targets : List SelectCase → Option ℕ → List ℕ
 targets [] None = []
@@ -33,12 +33,12 @@ abbrev pub clause_of : (ℕ → ℕ) → ℕ → List SelectCase → Option ℕ 
 clause_of label clause [] o = default_of label clause o
 clause_of label clause (c ∷ cs) o = cond (label c.target == clause) (Some c.target) (clause_of label clause cs o)
 
--- an answer names a clause
+-- acts on the clause that the answer names; the answer must name one
 abbrev pub on_clause : {A X : Type 0} → (X → Part A) → World → Option X → Part A
 on_clause act w None = miscount w
 on_clause act w (Some x) = act x
 
--- the operands of all cases are taken; the answer tells the clause, and what stands at its target
+-- takes the operands of all cases; the answer names the clause, and gives the values at its target
 abbrev pub picks : List Bool → (ℕ → ℕ) → List SelectCase → Option ℕ → Frame → World → Part (ℕ × Frame)
 picks gives label cs o c w =
     some_from w (cases_taken cs) [] (λ vs rest.
@@ -46,12 +46,12 @@ picks gives label cs o c w =
     on_clause (λ t. Part.Gives (t, record { slots = c.slots; operands = pushed a.values rest }) u) u
     (clause_of label a.clause cs o))) c.operands
 
--- a truth value on top
+-- takes a truth value from the top
 abbrev pub tests : Frame → World → Part (Bool × Frame)
 tests c w = one w (λ x rest. on_kind (λ b. Part.Gives (b, record { slots = c.slots; operands = rest }) w) w (bool_of x))
     c.operands
 
--- what comes next, from this place
+-- the continuation from a place
 abbrev pub Next : Type 0
 Next = ℕ → Frame → World → Told
 
@@ -70,7 +70,7 @@ abbrev pub at_line : List Bool → Option CodeLine → Next → Next
 at_line gives None next at c w = halted (Halt.Unfit Misfit.OfRule) w.operations
 at_line gives (Some l) next at c w = does gives (doing gives l.instr) next at c w
 
--- at most n instructions of these, from a place, if these functions give a value
+-- at most n of these instructions, from a place; `gives` says which functions give a value
 abbrev pub exec : List Bool → List CodeLine → ℕ → Next
 exec gives code zero at c w = cut_short w
 exec gives code (suc n) at c w = at_line gives (slice_get code at) (exec gives code n) at c w

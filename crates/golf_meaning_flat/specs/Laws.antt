@@ -7,18 +7,18 @@ use Rattle.golf_meaning_flat.specs.Doing.{Frame}
 use Rattle.golf_meaning_flat.specs.Flat.{exec}
 use Rattle.golf_meaning_flat.specs.Structured.{Way, run}
 
--- these lines stand at this place
+-- these lines are at this place of the code
 abbrev pub Stand : List CodeLine → ℕ → List CodeLine → Type 0
 Stand code at [] = Unit {0}
 Stand code at (l ∷ ls) = (slice_get code at ≡ Some l) × Stand code (at + 1) ls
 
--- what is short needs as many instructions
+-- a short meaning must have used at least n instructions
 abbrev pub Enough : End → ℕ → ℕ → Type 0
 Enough End.Short n j = n ≤ j
 Enough (End.Halts h) n j = Unit {0}
 
 module _ (gives : List Bool) where
-  -- the code goes from one place to another, by one instruction or more; or by any number
+  -- the code goes from one place to another, by at least one instruction (Leads) or by any number (Comes)
   pub record Leads (code : List CodeLine) (at : ℕ) (c : Frame) (w : World) (to : ℕ) (d : Frame)
       (u : World) : Type 0 where
     pub by : (k : ℕ) → (j : ℕ) × (k < j) × (exec gives code j at c w ≡ exec gives code k to d u)
@@ -40,12 +40,12 @@ PlacedFollows = (gives : List Bool) (code : List CodeLine) (n : ℕ) (p : Piece)
     (w : World) → Stand code at (placed p at ts)
     → Follows gives code n at ts (at + size p) c w (run gives n p at ts c w)
 
--- Two meanings by bounds: each bound of one has a bound of the other.
+-- Two meanings under bounds: each bound of one has a bound of the other.
 
 abbrev pub BeginsWith : List Operation → List Operation → Type 0
 BeginsWith xs ys = (zs : List Operation) × (xs ≡ ys ++ zs)
 
--- one with a bound is that of the other; the operations of a short one are a prefix of its operations
+-- a meaning that halts is equal to the other; the operations of a short meaning are a prefix of the other's
 abbrev pub IsPrefix : End → Told → Told → Type 0
 IsPrefix End.Short a b = BeginsWith b.operations a.operations
 IsPrefix (End.Halts h) a b = b ≡ a
@@ -57,19 +57,19 @@ pub record Agree (f g : ℕ → Told) : Type 0 where
   pub forth : (n : ℕ) → (m : ℕ) × Within (f n) (g m)
   pub back : (m : ℕ) → (n : ℕ) × Within (g m) (f n)
 
--- Of these halts it is said that the code halts alike: not if no rule fits, and not if the source alone has looked at
--- the kinds of an answer.
+-- Whether a halt of the source says that the code halts alike. It says nothing if no rule fits, or if only the source
+-- has looked at the kinds of an answer.
 abbrev pub Said : Halt → Type 0 → Type 0
 Said (Halt.Unfit Misfit.OfAnswer) P = Unit {0}
 Said (Halt.Unfit Misfit.OfRule) P = Unit {0}
 Said h P = P
 
--- what is meant is what the code does, with as many instructions if it is short
+-- the code does the meaning; if the meaning is short, the code uses at least n instructions
 abbrev pub Done : List Bool → List CodeLine → Frame → World → ℕ → Told → End → Type 0
 Done gives code c w n t (End.Halts h) = Said h ((j : ℕ) × (exec gives code j 0 c w ≡ t))
 Done gives code c w n t End.Short = (j : ℕ) × (n ≤ j) × (exec gives code j 0 c w ≡ t)
 
--- a rule fits, and the kinds of answers were not looked at
+-- a rule fits, and no answer failed because of the kinds of its values
 abbrev pub IsRuled : End → Type 0
 IsRuled (End.Halts (Halt.Unfit Misfit.OfAnswer)) = ⊥
 IsRuled (End.Halts (Halt.Unfit Misfit.OfRule)) = ⊥

@@ -1,5 +1,5 @@
--- The meaning of structured code, by recursion over it: each block that is begun anew is gone through at most n times.
--- The places are looked at by `select` alone.
+-- The meaning of structured code, by recursion over it. Each block that is begun anew runs at most n times. Only
+-- `select` looks at the places.
 use Rattle.std.specs.Prelude.{ℕ, zero, suc, ◌+◌, Bool, true, false, List, ◌∷◌, map, Option}
 use Rattle.std.specs.Option.{option_map}
 use Rattle.golf_data.specs.declared.code.SelectCase.{SelectCase}
@@ -8,8 +8,8 @@ use Rattle.golf_meaning_flat.specs.Worlds.{Told, World, Part, halted, cut_short}
 use Rattle.golf_meaning_flat.specs.Doing.{Frame, Doing, doing}
 use Rattle.golf_meaning_flat.specs.Flat.{targets, lower, picks, tests}
 
--- how a piece is left: at its end, by a target, or with the whole meaning; nothing is said of an instruction with a
--- target of its own
+-- how a piece is left: at its end, by a target, or with the end of the whole meaning; `Lost` is for an instruction with
+-- a target of its own, of which nothing is said
 pub data Way : Type 0 where
   Through : (c : Frame) (w : World) → Way
   Leaves : (k : ℕ) (c : Frame) (w : World) → Way
@@ -38,7 +38,7 @@ abbrev pub picked : Part (ℕ × Frame) → Way
 picked (Part.Gives r w) = Way.Leaves r.0 r.1 w
 picked (Part.Stops h os) = Way.Ends (halted h os)
 
--- out of a block: target 0 is the place after it
+-- the way out of a block: target 0 is the place after it
 abbrev pub out_of : Way → Way
 out_of (Way.Through c w) = Way.Through c w
 out_of (Way.Leaves zero c w) = Way.Through c w
@@ -46,7 +46,7 @@ out_of (Way.Leaves (suc k) c w) = Way.Leaves k c w
 out_of (Way.Ends t) = Way.Ends t
 out_of Way.Lost = Way.Lost
 
--- target 0 is the beginning
+-- the way out of a block that can begin anew: target 0 is its beginning
 abbrev pub once_more : Way → (Frame → World → Way) → Way
 once_more (Way.Through c w) next = Way.Through c w
 once_more (Way.Leaves zero c w) next = next c w
@@ -54,7 +54,7 @@ once_more (Way.Leaves (suc k) c w) next = Way.Leaves k c w
 once_more (Way.Ends t) next = Way.Ends t
 once_more Way.Lost next = Way.Lost
 
--- at most so many times
+-- at most m rounds
 abbrev pub rounds : ℕ → (Frame → World → Way) → Frame → World → Way
 rounds zero f c w = Way.Ends (cut_short w)
 rounds (suc m) f c w = once_more (f c w) (rounds m f)

@@ -8,33 +8,33 @@ pub record Operation : Type 0 where
   pub instr : Instr
   pub operands : List Value
 
--- the clause that is chosen, 0 elsewhere, and the values that the operation leaves, in source order
+-- the chosen clause, 0 for any operation but `select`, and the values that the operation leaves, in source order
 pub record Answer : Type 0 where
   pub clause : ℕ
   pub values : List Value
 
--- why nothing more is said: an answer has not as many values as its operation leaves; or, of a source that looks at the
--- kinds of answers, a value of an answer is not of its type; or a value is not of the kind that it is used as; or no
--- rule fits a number of operands or a name
+-- why no more is said of a meaning: an answer has the wrong number of values (OfCount), a value of an answer is not of
+-- its type for a source that looks at types (OfAnswer), a value is not of the kind that its use needs (OfKind), or no
+-- rule fits a number of operands or a name (OfRule)
 pub data Misfit : Type 0 where
   OfCount : Misfit
   OfAnswer : Misfit
   OfKind : Misfit
   OfRule : Misfit
 
--- how it halts
+-- how a meaning halts
 pub data Halt : Type 0 where
   Returned : (value : Option Value) → Halt
   Divided : Halt
   Waits : Halt
   Unfit : (of : Misfit) → Halt
 
--- short: a loop, or the code, would need a higher bound
+-- how a meaning ends; it is short if a loop, or the code, would need a higher bound
 pub data End : Type 0 where
   Halts : (h : Halt) → End
   Short : End
 
--- what a meaning is: the visible operations in their order, and an end
+-- a meaning: its visible operations in order, and its end
 pub record Told : Type 0 where
   pub operations : List Operation
   pub end : End
@@ -50,7 +50,7 @@ halted h os = record { operations = os; end = End.Halts h }
 abbrev pub cut_short : World → Told
 cut_short w = record { operations = w.operations; end = End.Short }
 
--- a part of a meaning without loops: it gives something and goes on, or halts
+-- a part of a meaning, without loops: it gives a result and goes on, or it halts
 pub data Part (A : Type 0) : Type 0 where
   Gives : (a : A) (w : World) → Part A
   Stops : (h : Halt) (os : List Operation) → Part A
@@ -62,7 +62,7 @@ bind (Part.Stops h os) f = Part.Stops h os
 abbrev pub done : World → Instr → List Value → List Operation
 done w i vs = w.operations ++ record { instr = i; operands = vs } ∷ []
 
--- an operation is added, and takes the next answer
+-- adds an operation and takes the next answer
 abbrev pub asked : List Answer → List Operation → Part Answer
 asked [] os = Part.Stops Halt.Waits os
 asked (a ∷ later) os = Part.Gives a (record { answers = later; operations = os })
@@ -70,7 +70,7 @@ asked (a ∷ later) os = Part.Gives a (record { answers = later; operations = os
 abbrev pub asks : Instr → List Value → World → Part Answer
 asks i vs w = asked w.answers (done w i vs)
 
--- values in source order, on top of others, the last one first
+-- the values, given in source order, pushed on top of the others; the last one comes first
 abbrev pub pushed : List Value → List Value → List Value
 pushed [] rest = rest
 pushed (v ∷ vs) rest = pushed vs (v ∷ rest)

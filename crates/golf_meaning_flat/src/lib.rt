@@ -1,14 +1,17 @@
 //! The meaning of flat code and of structured code, as visible operations and their answers.
+//!
+//! A meaning is a list of visible operations and an end, under a bound on instructions or rounds.
 #![tactic(auto)]
 
 ghost use Rattle.golf_meaning_flat.specs.Laws.{BothWays, PlacedFollows};
 
-/// Placed code does what its piece does, wherever it is placed.
+/// States that placed code does what its piece does, wherever it is placed.
 pub fn placed_code_follows()
     ensures { PlacedFollows }
 {}
 
-/// If the code does a meaning by bounds that lacks no rule, each agrees with the other.
+/// States that the code and a meaning agree in both directions, if the code does the meaning at
+/// each bound and a rule always fits.
 pub fn both_ways()
     ensures { BothWays }
 {}

@@ -2,8 +2,11 @@ pub mod Entering
 pub mod Agreeing
 pub mod WholeFiles
 pub mod Equations
+pub mod OnLiterals
+pub mod SamplesOfExpressions
 pub mod Samples
 pub mod Bodies
+pub mod BodiesOfLoops
 pub mod BodiesOfCalls
 pub mod BodiesOfExpressions
 pub mod WholeFunctions

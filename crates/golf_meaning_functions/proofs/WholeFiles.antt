@@ -2,7 +2,7 @@
 -- For: `files_agree`, src/lib.rt
 -- By: induction over the list of declarations
 use Rattle.std.proofs.Common.{◌≡◌, ℕ, zero, suc, ◌+◌, ◌<◌, Bool, false, List, [], ◌∷◌, ◌++◌, length, map, Some, refl}
-use Rattle.std.proofs.Common.{sym, subst, slice_get, arith}
+use Rattle.std.proofs.Common.{sym, subst, ◌∙◌, slice_get, arith}
 use Rattle.golf_syntax_trees.specs.declared.declarations.Func.{Func}
 use Rattle.golf_syntax_trees.specs.declared.declarations.Decl.{Decl}
 use Rattle.golf_syntax_trees.specs.declared.declarations.Decl.TheVariants as d
@@ -31,29 +31,23 @@ module _ (t : Tables) (gives : List Bool) (file : Scope) where
     pub meaning : (taking : Taking) (arguments : List Value) (answers : List Answer)
         → Meaning taking t file functions function arguments answers ≡ meaning_at taking t file n xs k arguments answers
 
+  -- a declaration that is no function changes nothing
+  past-other : {n k : ℕ} {xs ys : List Decl} → functions_from t gives file n ys ≡ functions_from t gives file n xs
+      → ((taking : Taking) (arguments : List Value) (answers : List Answer)
+      → meaning_at taking t file n xs k arguments answers ≡ meaning_at taking t file n ys k arguments answers)
+      → Placed n xs k → Placed n ys k
+  past-other same means r = record {
+    function = r.function;
+    functions = r.functions;
+    code = rw same r.code;
+    meaning = λ taking arguments answers. r.meaning taking arguments answers ∙ means taking arguments answers;
+  }
+
   is-placed : (xs : List Decl) (n k : ℕ) → k < function_count xs → Placed n xs k
   is-placed [] n k h = absurd (omega (arith, h))
-  is-placed (d.Const l m c ∷ xs) n k h = let r =
-      is-placed xs n k h in record {
-        function = r.function;
-        functions = r.functions;
-        code = r.code;
-        meaning = r.meaning;
-      }
-  is-placed (d.Var v ∷ xs) n k h = let r =
-      is-placed xs n k h in record {
-        function = r.function;
-        functions = r.functions;
-        code = r.code;
-        meaning = r.meaning;
-      }
-  is-placed (d.Struct l m fs ∷ xs) n k h = let r =
-      is-placed xs n k h in record {
-        function = r.function;
-        functions = r.functions;
-        code = r.code;
-        meaning = r.meaning;
-      }
+  is-placed (d.Const l m c ∷ xs) n k h = past-other refl (λ taking arguments answers. refl) (is-placed xs n k h)
+  is-placed (d.Var v ∷ xs) n k h = past-other refl (λ taking arguments answers. refl) (is-placed xs n k h)
+  is-placed (d.Struct l m fs ∷ xs) n k h = past-other refl (λ taking arguments answers. refl) (is-placed xs n k h)
   is-placed (d.Func f ∷ xs) n zero h = record {
     function = f;
     functions = n;

@@ -16,17 +16,9 @@ use Rattle.golf_data.specs.declared.value.Value.{Value}
 use Rattle.golf_data.specs.declared.code.Instr.{Instr}
 use Rattle.golf_check_types.specs.declared.types.GoType.{GoType}
 use Rattle.golf_check_types.specs.declared.scopes.Scope.{Scope}
-use Rattle.golf_check_types.specs.Scopes.{meaning, type_name, value_name, call_name, package_name, member, is_here}
-use Rattle.golf_check_types.specs.Scopes.{is_reserved, may_be_declared}
-use Rattle.golf_check_types.specs.Written.{named_base, made_base, sync_base}
-use Rattle.golf_check_types.specs.Expressions.{fmt_member, runtime_member, sync_member, condition_member}
-use Rattle.golf_check_types.specs.Expressions.{condition_method, mutex_method, group_method, read_method, write_method}
-use Rattle.golf_check_types.specs.Expressions.{field_type}
 use Rattle.golf_check_types.specs.Statements as V
-use Rattle.golf_check_types.specs.Statements.{behind, assigned_name, kept_faults, pair_differs, put_in_faults}
-use Rattle.golf_check_types.specs.Statements.{range_names_differ}
+use Rattle.golf_check_types.specs.Statements.{behind}
 use Rattle.golf_check_types.specs.Files.{outside, result_type, all_typed_names, receiver_walk, parameter_walk}
-use Rattle.golf_code_of.specs.Table.{text_number}
 use Rattle.golf_code_of.proofs.Examples.Writing as w
 use Rattle.golf_code_of.proofs.Examples.Writing.{WrittenType, file, tables}
 use Rattle.golf_meaning_flat.specs.Worlds.{Answer, Misfit, Halt, End, Told}
@@ -34,10 +26,12 @@ use Rattle.golf_meaning_statements.specs.Steps.{Step, in_order}
 use Rattle.golf_meaning_statements.specs.Statements.{step}
 use Rattle.golf_meaning_functions.specs.Functions.{named, begins, told_by, Meaning}
 use Rattle.golf_meaning_functions.specs.Files.{MeaningOf}
+use Rattle.golf_meaning_functions.proofs.OnLiterals.{on_literals}
 use Rattle.golf_meaning_functions.proofs.Samples as s
 use Rattle.golf_meaning_functions.proofs.Samples.{strictly, Sample, StmtSample, trees, values, all-same, name, integer}
 use Rattle.golf_meaning_functions.proofs.Samples.{binary_of, does, returns}
 use Rattle.golf_meaning_functions.proofs.Bodies.{ref, int, shown, answer, ends, gives}
+use Rattle.golf_meaning_functions.proofs.BodiesOfCalls.{t}
 
 -- How a function is written: with what its types are and its statements mean.
 
@@ -110,24 +104,28 @@ told_of r t ps xs arguments answers n =
 abbrev means : FuncSample → List Value → List Answer → ℕ → Told
 means x arguments answers n = Meaning strictly tables (outside file) 3 (func x) arguments answers n
 
-works_out : (x : FuncSample) (arguments : List Value) (answers : List Answer) (n : ℕ)
-    → means x arguments answers n ≡ told_of x.receiver (result_of x.result) (typed x.parameters)
-    (values x.body) arguments answers n
-works_out x arguments answers n =
-    ap (λ t. told_of x.receiver t (all_typed_names (outside file) (fields x.parameters))
-    (map (step strictly tables) (trees x.body)) arguments answers n) (result-same x.result)
-    ∙ ap (λ ps. told_of x.receiver (result_of x.result) ps
-    (map (step strictly tables) (trees x.body)) arguments answers n) (typed-same x.parameters)
-    ∙ ap (λ ys. told_of x.receiver (result_of x.result) (typed x.parameters) ys arguments answers n) (all-same x.body)
+pub record Tells (x : FuncSample) (arguments : List Value) (answers : List Answer) (n : ℕ) (t : Told) : Type 0 where
+  is : means x arguments answers n ≡ t
+
+works_out : {x : FuncSample} {arguments : List Value} {answers : List Answer} {n : ℕ} {t : Told}
+    → told_of x.receiver (result_of x.result) (typed x.parameters) (values x.body) arguments answers n ≡ t
+    → Tells x arguments answers n t
+works_out {x} {arguments} {answers} {n} e = record {
+  is =
+      ap (λ t. told_of x.receiver t (all_typed_names (outside file) (fields x.parameters))
+      (map (step strictly tables) (trees x.body)) arguments answers n) (result-same x.result)
+      ∙ ap (λ ps. told_of x.receiver (result_of x.result) ps
+      (map (step strictly tables) (trees x.body)) arguments answers n) (typed-same x.parameters)
+      ∙ ap (λ ys. told_of x.receiver (result_of x.result) (typed x.parameters) ys arguments answers n)
+      (all-same x.body)
+      ∙ e;
+}
 
 abbrev k : Sample
 k = name (codes "k")
 
 abbrev a : Sample
 a = name (codes "a")
-
-abbrev t : Sample
-t = name (codes "t")
 
 -- func add(d chan int, k, m int) int { for v := range d { k += v * m }; return k }
 abbrev add : FuncSample
@@ -148,31 +146,19 @@ abbrev received : Value → Value → Answer
 received v ok = answer (v ∷ ok ∷ [])
 
 -- two values and then no more: 1 + 2 * 10 + 3 * 10, with two turns and the one that ends the loop
-pub adds : means add (ref 0 ∷ int 1 ∷ int 10 ∷ [])
+pub adds : Tells add (ref 0 ∷ int 1 ∷ int 10 ∷ [])
     (received (int 2) (Value.Bool true) ∷ received (int 3) (Value.Bool true) ∷ received (int 0) (Value.Bool false) ∷ [])
-    3
-    ≡ gives (shown Instr.ReceiveOk (ref 0 ∷ []) ∷ shown Instr.ReceiveOk (ref 0 ∷ [])
-    ∷ shown Instr.ReceiveOk (ref 0 ∷ []) ∷ []) (int 51)
-unfolding meaning type_name value_name call_name package_name text_number named_base made_base sync_base member
-    fmt_member runtime_member sync_member condition_member condition_method mutex_method group_method read_method
-    write_method field_type is_here is_reserved may_be_declared assigned_name kept_faults pair_differs put_in_faults
-    range_names_differ
-adds = works_out add (ref 0 ∷ int 1 ∷ int 10 ∷ [])
-    (received (int 2) (Value.Bool true) ∷ received (int 3) (Value.Bool true) ∷ received (int 0) (Value.Bool false) ∷ [])
-    3
+    3 (gives (shown Instr.ReceiveOk (ref 0 ∷ []) ∷ shown Instr.ReceiveOk (ref 0 ∷ [])
+    ∷ shown Instr.ReceiveOk (ref 0 ∷ []) ∷ []) (int 51))
+unfolding on_literals
+adds = works_out refl
 
 -- the same with two turns: it is short
-pub adds_too_often : means add (ref 0 ∷ int 1 ∷ int 10 ∷ [])
+pub adds_too_often : Tells add (ref 0 ∷ int 1 ∷ int 10 ∷ [])
     (received (int 2) (Value.Bool true) ∷ received (int 3) (Value.Bool true) ∷ received (int 0) (Value.Bool false) ∷ [])
-    2
-    ≡ ends (shown Instr.ReceiveOk (ref 0 ∷ []) ∷ shown Instr.ReceiveOk (ref 0 ∷ []) ∷ []) End.Short
-unfolding meaning type_name value_name call_name package_name text_number named_base made_base sync_base member
-    fmt_member runtime_member sync_member condition_member condition_method mutex_method group_method read_method
-    write_method field_type is_here is_reserved may_be_declared assigned_name kept_faults pair_differs put_in_faults
-    range_names_differ
-adds_too_often = works_out add (ref 0 ∷ int 1 ∷ int 10 ∷ [])
-    (received (int 2) (Value.Bool true) ∷ received (int 3) (Value.Bool true) ∷ received (int 0) (Value.Bool false) ∷ [])
-    2
+    2 (ends (shown Instr.ReceiveOk (ref 0 ∷ []) ∷ shown Instr.ReceiveOk (ref 0 ∷ []) ∷ []) End.Short)
+unfolding on_literals
+adds_too_often = works_out refl
 
 -- func (t *T) m(a int) { t.n += a; if a < 1 { return }; defer t.m(a - 1) }
 abbrev down : FuncSample
@@ -189,23 +175,17 @@ down = record {
 }
 
 -- the receiver is the first argument, and nothing is given
-pub defers_itself : means down (ref 4 ∷ int 3 ∷ []) (answer (int 10 ∷ []) ∷ answer [] ∷ answer [] ∷ []) 0
-    ≡ ends (shown (Instr.Field 0) (ref 4 ∷ []) ∷ shown (Instr.SetField 0) (ref 4 ∷ int 13 ∷ [])
-    ∷ shown (Instr.Defer 2 2) (ref 4 ∷ int 2 ∷ []) ∷ []) (End.Halts (Halt.Returned None))
-unfolding meaning type_name value_name call_name package_name text_number named_base made_base sync_base member
-    fmt_member runtime_member sync_member condition_member condition_method mutex_method group_method read_method
-    write_method field_type is_here is_reserved may_be_declared assigned_name kept_faults pair_differs put_in_faults
-    range_names_differ
-defers_itself = works_out down (ref 4 ∷ int 3 ∷ []) (answer (int 10 ∷ []) ∷ answer [] ∷ answer [] ∷ []) 0
+pub defers_itself : Tells down (ref 4 ∷ int 3 ∷ []) (answer (int 10 ∷ []) ∷ answer [] ∷ answer [] ∷ []) 0
+    (ends (shown (Instr.Field 0) (ref 4 ∷ []) ∷ shown (Instr.SetField 0) (ref 4 ∷ int 13 ∷ [])
+    ∷ shown (Instr.Defer 2 2) (ref 4 ∷ int 2 ∷ []) ∷ []) (End.Halts (Halt.Returned None)))
+unfolding on_literals
+defers_itself = works_out refl
 
-pub defers_no_more : means down (ref 4 ∷ int 0 ∷ []) (answer (int 10 ∷ []) ∷ answer [] ∷ []) 0
-    ≡ ends (shown (Instr.Field 0) (ref 4 ∷ []) ∷ shown (Instr.SetField 0) (ref 4 ∷ int 10 ∷ []) ∷ [])
-    (End.Halts (Halt.Returned None))
-unfolding meaning type_name value_name call_name package_name text_number named_base made_base sync_base member
-    fmt_member runtime_member sync_member condition_member condition_method mutex_method group_method read_method
-    write_method field_type is_here is_reserved may_be_declared assigned_name kept_faults pair_differs put_in_faults
-    range_names_differ
-defers_no_more = works_out down (ref 4 ∷ int 0 ∷ []) (answer (int 10 ∷ []) ∷ answer [] ∷ []) 0
+pub defers_no_more : Tells down (ref 4 ∷ int 0 ∷ []) (answer (int 10 ∷ []) ∷ answer [] ∷ []) 0
+    (ends (shown (Instr.Field 0) (ref 4 ∷ []) ∷ shown (Instr.SetField 0) (ref 4 ∷ int 10 ∷ []) ∷ [])
+    (End.Halts (Halt.Returned None)))
+unfolding on_literals
+defers_no_more = works_out refl
 
 -- package main
 -- func helper() { }

@@ -1,5 +1,5 @@
--- What the functions and methods of a file do, by their numbers: they have the numbers from 1 on, in source order
--- (profile).
+-- The meanings of the functions and methods of a file, by their numbers. They have the numbers from 1 on, in source
+-- order (this runtime's rule).
 use Rattle.std.specs.Prelude.{ℕ, zero, suc, ◌+◌, Bool, true, false, is_some, List, [], ◌∷◌, ◌++◌, length, map}
 use Rattle.golf_syntax_trees.specs.declared.declarations.Decl.{Decl}
 use Rattle.golf_syntax_trees.specs.declared.declarations.Decl.TheVariants as d
@@ -15,13 +15,13 @@ use Rattle.golf_meaning_flat.specs.Worlds.{Answer, Misfit, Halt, Told, halted}
 use Rattle.golf_meaning_source.specs.Operations.{Taking}
 use Rattle.golf_meaning_functions.specs.Functions.{Meaning}
 
--- how many functions and methods these declare
+-- how many functions and methods these declarations have
 abbrev pub function_count : List Decl → ℕ
 function_count [] = 0
 function_count (d.Func f ∷ xs) = suc (function_count xs)
 function_count (x ∷ xs) = function_count xs
 
--- the meaning of the function at this place among these, with so many functions before the next one that is made
+-- the meaning of the k-th function of these; `functions` is the number of functions before the next one that is made
 abbrev pub meaning_at : Taking → Tables → Scope → ℕ → List Decl → ℕ → List Value → List Answer → ℕ → Told
 meaning_at taking t file functions [] k arguments answers n = halted (Halt.Unfit Misfit.OfRule) []
 meaning_at taking t file functions (d.Func f ∷ xs) zero arguments answers n =
@@ -46,7 +46,7 @@ abbrev pub made_in : File → List Making
 made_in file = (functions_from (tables_of file.declarations) (giving (names_of file)) (outside (names_of file))
     (length (names_of file).functions + 1) file.declarations).made
 
--- Whether each function of the code of a file gives a value: function 0 does not, and none that is made does.
+-- Whether each function of the code of a file gives a value. Function 0 does not, and no made function does.
 abbrev pub giving_in : File → List Bool
 giving_in file = false ∷ (results_in (outside (names_of file)) file.declarations
     ++ map (λ (m : Making). false) (made_in file))
@@ -61,10 +61,10 @@ meaning_of strict file (suc k) arguments answers n =
     meaning_at (taking_in file strict) (tables_of file.declarations) (outside (names_of file))
     (length (names_of file).functions + 1) file.declarations k arguments answers n
 
--- The kinds of answers are not looked at: a value of another kind is unfit where it is used.
+-- Answers are taken without a look at their kinds: a value of the wrong kind is unfit where it is used.
 abbrev pub MeaningOf : File → ℕ → List Value → List Answer → ℕ → Told
 MeaningOf = meaning_of false
 
--- they are looked at: an answer of other kinds is unfit where it is taken
+-- Answers are taken with a look at their kinds: an answer of the wrong kinds is unfit where it is taken.
 abbrev pub StrictMeaningOf : File → ℕ → List Value → List Answer → ℕ → Told
 StrictMeaningOf = meaning_of true

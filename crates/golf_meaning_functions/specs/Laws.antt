@@ -1,4 +1,4 @@
--- The laws of functions and of files.
+-- The laws of functions and of files, as statements.
 use Rattle.std.specs.Prelude.{◌≡◌, ℕ, ◌<◌, ◌≤◌, Bool, List, length, Some, slice_get}
 use Rattle.golf_syntax_trees.specs.declared.declarations.Func.{Func}
 use Rattle.golf_syntax_trees.specs.declared.declarations.File.{File}
@@ -14,8 +14,8 @@ use Rattle.golf_meaning_source.specs.Operations.{Taking}
 use Rattle.golf_meaning_functions.specs.Functions.{Meaning, CodeMeaning}
 use Rattle.golf_meaning_functions.specs.Files.{function_count, giving_in, MeaningOf}
 
--- with as many arguments as it has parameters, and for all answers, the code of a function and its source agree, both
--- ways, if a rule fits wherever the source comes to
+-- the code of a function and its source agree in both directions, for all answers and with as many arguments as
+-- parameters, if the source lacks no rule
 abbrev pub FunctionsAgree : Type 0
 FunctionsAgree = (taking : Taking) (t : Tables) (gives : List Bool) (names : FileScope) (k : ℕ) (f : Func)
     (arguments : List Value) (answers : List Answer)
@@ -23,8 +23,8 @@ FunctionsAgree = (taking : Taking) (t : Tables) (gives : List Bool) (names : Fil
     ≡ fn.params → HasRules (Meaning taking t (outside names) k f arguments answers)
     → Agree (Meaning taking t (outside names) k f arguments answers) (CodeMeaning taking.gives fn arguments answers)
 
--- for each number from 1 to that of the functions and methods of a file, its code has a function, and that agrees with
--- the source
+-- for each number of a function or method of a file, the code has a function of that number, and it agrees with the
+-- source
 abbrev pub FilesAgree : Type 0
 FilesAgree = (file : File) (k : ℕ) → 0 < k → k ≤ function_count file.declarations
     → (fn : Function) × (slice_get (CodeOf file).functions k ≡ Some fn)

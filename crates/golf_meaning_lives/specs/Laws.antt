@@ -10,9 +10,9 @@ use Rattle.golf_meaning_functions.specs.Files.{function_count, giving_in, Meanin
 use Rattle.golf_meaning_turns.specs.Shaping.{Shaping, giving_by}
 use Rattle.golf_meaning_turns.specs.Life.{Now, Life}
 
--- With the answers that the call got, and for some number of turns of each loop: the operations that it has shown are a
--- prefix of those that the source means; or they are these, and the source waits at the last one, or halts as the call
--- has.
+-- With the answers that the call got, and for some bound on the rounds of loops: while the call goes on, its operations
+-- are a prefix of those that the source means. If it waits, they are the same and the source waits at the last one. If
+-- it has halted, they are the same and the source halts alike.
 abbrev pub SourceMeans : File → ℕ → List Value → List Operation → List Answer → Now → Type 0
 SourceMeans file k arguments shown got (Now.Stands at c) = (n : ℕ)
     × BeginsWith (MeaningOf file k arguments got n).operations shown
@@ -21,8 +21,8 @@ SourceMeans file k arguments shown got (Now.Asks at c before) = (n : ℕ)
 SourceMeans file k arguments shown got (Now.Halted h) = (n : ℕ)
     × (MeaningOf file k arguments got n ≡ record { operations = shown; end = End.Halts h })
 
--- for each call of a function or method of a file, if a rule fits wherever the source comes to, and answers are taken
--- as those of the file's functions
+-- for each call of a function or method of a file, if a rule fits wherever the source gets, and answers are taken as
+-- for the file's functions
 abbrev pub LivesMeanSource : Type 0
 LivesMeanSource = (file : File) (k : ℕ) (fn : Function) (shaping : Option Shaping) (arguments : List Value)
     (shown : List Operation) (got : List Answer) (now : Now) → 0 < k → k ≤ function_count file.declarations

@@ -10,8 +10,8 @@ use Rattle.golf_meaning_flat.specs.Laws.{Agree}
 use Rattle.golf_meaning_functions.specs.Functions.{CodeMeaning}
 use Rattle.golf_meaning_functions.specs.Files.{function_count, giving_in, MeaningOf}
 
--- Each function and method of a file, by its number, has code that agrees with its source, for as many arguments as it
--- has parameters, and for all answers: for each bound of one there is a bound of the other.
+-- Each function and method of a file, by its number, has code that agrees with its source, for all answers and with as
+-- many arguments as parameters: each bound of one has a bound of the other.
 abbrev pub SourcesAgree : File → Type 0
 SourcesAgree file =
     (k : ℕ) → 0 < k → k ≤ function_count file.declarations
@@ -19,6 +19,6 @@ SourcesAgree file =
     × ((arguments : List Value) (answers : List Answer) → length arguments ≡ fn.params
     → Agree (MeaningOf file k arguments answers) (CodeMeaning (giving_in file) fn arguments answers))
 
--- so it is in each well-formed file that breaks no rule
+-- this holds in each well-formed file that breaks no rule
 abbrev pub ProgramsAgree : Type 0
 ProgramsAgree = (file : File) → IsProgram file → SourcesAgree file

@@ -14,23 +14,22 @@ use Rattle.golf_meaning_functions.specs.Functions.{CodeMeaning}
 use Rattle.golf_meaning_functions.specs.Files.{function_count, giving_in, MeaningOf}
 use Rattle.golf_meaning_books.specs.Books.{RunTypes, Standing, Call, book_of, left_of, IsBooked}
 
--- What a meaning says of a call that stands so, with the answers that it got, for some bound. While the call goes on,
--- the operations that it has shown are a prefix of those that are meant. If it waits for an answer, they are exactly
--- these, and the meaning waits at the last one. Once it has returned or divided by zero, they are exactly these, with
--- the same end.
+-- What a meaning says of a call with this standing, for some bound. While the call goes on, its operations are a prefix
+-- of those that are meant. If it waits for an answer, they are the same, and the meaning waits at the last one. If it
+-- has returned or divided by zero, they are the same, with the same end.
 abbrev pub SaysOf : (ℕ → Told) → List Operation → Standing → Type 0
 SaysOf meaning shown Standing.Goes = (n : ℕ) × BeginsWith (meaning n).operations shown
 SaysOf meaning shown (Standing.Asks q) = (n : ℕ)
     × (meaning n ≡ record { operations = shown; end = End.Halts Halt.Waits })
 SaysOf meaning shown (Standing.Ended h) = (n : ℕ) × (meaning n ≡ record { operations = shown; end = End.Halts h })
 
--- so does the source of a function or method of the file
+-- the source of a function or method of the file says this of the call
 abbrev pub SourceSays : File → Call → Type 0
 SourceSays file k =
     0 < k.function → k.function ≤ function_count file.declarations
     → SaysOf (MeaningOf file k.function k.arguments k.got) k.shown k.standing
 
--- and so does the code of every function
+-- the code of the call's function says this of the call
 abbrev pub CodeSays : File → Call → Type 0
 CodeSays file k = (fn : Function) → slice_get (CodeOf file).functions k.function ≡ Some fn
     → SaysOf (CodeMeaning (giving_in file) fn k.arguments k.got) k.shown k.standing
@@ -38,8 +37,8 @@ CodeSays file k = (fn : Function) → slice_get (CodeOf file).functions k.functi
 abbrev pub IsMeant : File → Call → Type 0
 IsMeant file k = SourceSays file k × CodeSays file k
 
--- After these events the frames of each goroutine match its calls, whose frames have shapes of the code; and each call,
--- also one that has left, has done what its source and its code mean.
+-- After these events the frames of each goroutine match its calls, and the code has shapes. Each call, even one that
+-- has left, has done what its source and its code mean.
 pub record RunMeansSource (file : File) (events : List Event) : Type 0 where
   pub types : RunTypes
   pub of_file : types.typing.of ≡ types_of_file file
@@ -48,6 +47,6 @@ pub record RunMeansSource (file : File) (events : List Event) : Type 0 where
   pub meant : (g : ℕ) → Every (IsMeant file) (book_of (CodeOf file) events g)
   pub left_meant : Every (IsMeant file) (left_of (CodeOf file) events)
 
--- so it is after all events, for each well-formed file that breaks no rule
+-- this holds after all events, for each well-formed file that breaks no rule
 abbrev pub RunsMeanSources : Type 0
 RunsMeanSources = (file : File) → IsProgram file → (events : List Event) → RunMeansSource file events

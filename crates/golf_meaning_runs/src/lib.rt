@@ -1,5 +1,5 @@
-//! The runs of a program and the meaning of its source: whatever its goroutines have shown in a run,
-//! the sources of their functions mean.
+//! The runs of a program and the meaning of its source: the sources of the functions mean all that the goroutines of a
+//! run have shown.
 //!
 //! Each function here has one law as its contract.
 #![tactic(auto)]
@@ -7,15 +7,17 @@
 ghost use Rattle.golf_meaning_runs.specs.Agreeing.{ProgramsAgree};
 ghost use Rattle.golf_meaning_runs.specs.Laws.{RunsMeanSources};
 
-/// The code of each function and method of a well-formed file that breaks no rule agrees with its
-/// source, for as many arguments as it has parameters, and for all answers.
+/// States that the code of each function and method agrees with its source, for all answers. The file is well formed
+/// and breaks no rule, and there are as many arguments as parameters.
 pub fn programs_agree()
     ensures { ProgramsAgree }
 {}
 
-/// In each run of a well-formed file that breaks no rule, the frames of every goroutine match its
-/// calls. With the answers that a call got, the source of its function means operations that begin with
-/// those that the call has shown; exactly these if it waits or has ended, with the same end.
+/// States that each run of a well-formed file that breaks no rule does what its sources mean.
+///
+/// The frames of every goroutine match its calls. With the answers that a call got, the source of its function means
+/// operations that begin with those that the call has shown. If the call waits or has ended, they are exactly these,
+/// with the same end.
 pub fn runs_mean_their_sources()
     ensures { RunsMeanSources }
 {}

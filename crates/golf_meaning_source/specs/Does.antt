@@ -1,4 +1,4 @@
--- What it is that code does what a source does.
+-- When code does what a source does.
 use Rattle.std.specs.Prelude.{◌≡◌, ℕ, ◌+◌, ◌<◌, ◌≤◌, List, [], ◌∷◌, ◌++◌, length, Some, slice_get}
 use Rattle.golf_data.specs.declared.value.Value.{Value}
 use Rattle.golf_check_types.specs.declared.locals.Local.{Local}
@@ -15,7 +15,8 @@ use Rattle.golf_meaning_source.specs.Exprs.{Location, read, store}
 abbrev pub frame : List Value → List Value → Frame
 frame slots operands = record { slots = slots; operands = operands }
 
--- a way does what a part says: it leads to if this holds, or ends alike, if that is said of its halt
+-- the way of the code matches the part of the source: if the part goes on, K holds; if it halts, the code halts alike,
+-- unless nothing is said of that halt
 abbrev pub Sim : {A : Type 0} → Part A → (A → World → Way → Type 0) → Way → Type 0
 Sim (Part.Gives a w) K o = K a w o
 Sim (Part.Stops h os) K o = Said h (o ≡ Way.Ends (halted h os))
@@ -24,14 +25,14 @@ Sim (Part.Stops h os) K o = Said h (o ≡ Way.Ends (halted h os))
 abbrev pub OnTop : List Value → List Value → List Value → World → Way → Type 0
 OnTop slots rest vs u o = o ≡ Way.Through (frame slots (pushed vs rest)) u
 
--- the names of the locals have their values, and these stand in their slots
+-- the environment has the names of the locals, and their values are in their slots
 abbrev pub Stored : List Local → Env → List Value → Type 0
 Stored [] [] slots = Unit {0}
 Stored [] (x ∷ xs) slots = ⊥
 Stored (d ∷ ds) [] slots = ⊥
 Stored (d ∷ ds) (x ∷ xs) slots = (x.name ≡ d.name) × (slice_get slots d.slot ≡ Some x.value) × Stored ds xs slots
 
--- the slots of the locals rise, from this one up to below that one
+-- the slots of the locals rise, from `low` on, and lie below `high`
 abbrev pub Rising : ℕ → ℕ → List Local → Type 0
 Rising low high [] = low ≤ high
 Rising low high (d ∷ ds) = (low ≤ d.slot) × Rising (d.slot + 1) high ds
@@ -41,39 +42,40 @@ abbrev pub Apart : ℕ → List Local → Type 0
 Apart i [] = Unit {0}
 Apart i (d ∷ ds) = (d.slot ≡ i → ⊥) × Apart i ds
 
--- slots that are not those of the locals, below this one, stay as they were
+-- the slots below `next` that are not those of the locals stay as they were
 abbrev pub Kept : List Local → ℕ → List Value → List Value → Type 0
 Kept ds next slots now = (i : ℕ) → i < next → Apart i ds → slice_get now i ≡ slice_get slots i
 
--- it goes on with the names changed
+-- the way goes on with the environment changed
 abbrev pub Changed : List Local → List Value → List Value → Env → World → Way → Type 0
 Changed ds slots rest env u o = (now : List Value) × (o ≡ Way.Through (frame now rest) u) × Stored ds env now
     × (length now ≡ length slots) × ((i : ℕ) → Apart i ds → slice_get now i ≡ slice_get slots i)
 
--- the names that are known have their values
+-- the environment of the known names is stored in their slots
 pub record Known (ds : List Local) (next : ℕ) (env : Env) (slots : List Value) : Type 0 where
   pub stored : Stored ds env slots
   pub rising : Rising 0 next ds
 
 module _ (taking : Taking) where
-  -- the piece takes these operands, and gives what is said
+  -- the piece takes these operands and gives the same values as the source
   abbrev pub Turns : List Value → Piece → List Value → Gives → Type 0
   Turns slots p takes f = (n at : ℕ) (ts : List ℕ) (rest : List Value) (w : World)
       → Sim (f w) (OnTop slots rest) (run taking.gives n p at ts (frame slots (pushed takes rest)) w)
 
-  -- what goes on after these operands
+  -- the code after these operands matches the source after these values
   abbrev pub Tail : {B : Type 0} → List Value → List Value → Piece → List Value → (World → Part B)
       → (B → World → Way → Type 0) → Type 0
   Tail slots rest q vs g L = (n at : ℕ) (ts : List ℕ) (w : World)
       → Sim (g w) L (run taking.gives n q at ts (frame slots (pushed vs rest)) w)
 
-  -- What an expression does with these names and values is what its code does: its value, the place, and what tells it.
+  -- The code of an expression does what the expression does, in this environment: its value, its place, and the
+  -- operands that name the place.
   pub record Matches (ds : List Local) (slots : List Value) (env : Env) (value : Gives) (place : Location)
       (parts : Gives)
       (m : Made) : Type 0 where
     pub value_turns : Turns slots m.piece [] value
     pub parts_turn : Turns slots m.parts [] parts
-    -- the place is read on top of what tells it
+    -- the place is read on top of the operands that name it
     pub again : (rest vs : List Value) (q : Piece) (g : List Value → World → Part Env)
         → ((xs : List Value) → Tail slots rest q (vs ++ xs) (g xs) (Changed ds slots rest))
         → Tail slots rest (Piece.Then m.twice (Piece.Then m.read q)) vs (λ w. bind (read taking env place vs w) g)

@@ -1,4 +1,5 @@
--- What each kind of expression does, by what its parts are and do (Go specification, "Expressions").
+-- What each kind of expression does, from the judgments and the meanings of its parts (Go specification,
+-- "Expressions").
 use Rattle.std.specs.Prelude.{ℕ, ◌+◌, pos, negsuc, Bool, true, false, cond, List, [], ◌∷◌, ◌++◌, length, map, Option}
 use Rattle.std.specs.Prelude.{Some, None}
 use Rattle.golf_syntax_trees.specs.declared.expressions.UnaryOperator.{UnaryOperator}
@@ -60,8 +61,8 @@ abbrev pub dropped : Env → List Value → World → Part Env
 dropped env (v ∷ []) w = Part.Gives env w
 dropped env _ w = unfit w
 
--- What an expression does with these names and values: its value, or the receiver of a method; as a left side the
--- place, and what tells it.
+-- What an expression does in an environment: its value, or the receiver of a method; and as a left side its place, and
+-- the operands that name the place.
 pub record Does : Type 0 where
   pub value : Env → Gives
   pub place : Env → Location
@@ -97,7 +98,7 @@ one_reference _ f w = unfit w
 abbrev pub int_value : ℕ → Value
 int_value n = Value.Int (pos n)
 
--- the type of what is given
+-- the types of the values that an expression leaves
 abbrev pub left_types : Operand → List (Option GoType)
 left_types (operand.Value t) = t ∷ []
 left_types (operand.Outcome t) = t ∷ []
@@ -131,7 +132,7 @@ binary_does binary.Or a b = then_do (then_do a (on_one inverted)) (λ vs. if_tru
 binary_does binary.And a b = then_do a (λ vs. if_true vs b (gives (Value.Bool false ∷ [])))
 binary_does o a b = then_do (both a b) (calculation o)
 
--- an argument: what it is, and its value
+-- an argument: its judgment and its value
 pub record Argument : Type 0 where
   pub meaning : Operand
   pub value : Gives
@@ -140,7 +141,7 @@ abbrev pub values_of : List Argument → Gives
 values_of xs = in_order (map (λ x. x.value) xs)
 
 module _ (taking : Taking) where
-  -- a place that these operands tell is read
+  -- reads a place that is named by these operands
   abbrev pub read : Env → Location → List Value → Gives
   read env Location.Nowhere vs w = if_none vs w (Part.Gives [] w)
   read env Location.Blank vs w = if_none vs w (Part.Gives [] w)
@@ -149,7 +150,7 @@ module _ (taking : Taking) where
   read env (Location.Field i t) vs w = visible taking (Instr.Field i) (t ∷ []) vs w
   read env (Location.Element t) vs w = visible taking Instr.Index (t ∷ []) vs w
 
-  -- a value is stored, on top of the operands that tell the place
+  -- stores a value; the operands that name the place are below it
   abbrev pub store : Env → Location → List Value → World → Part Env
   store env Location.Nowhere vs w = unfit w
   store env Location.Blank vs w = dropped env vs w
@@ -190,7 +191,7 @@ module _ (taking : Taking) where
   abbrev pub new_struct : Option Base → Gives
   new_struct b = visible taking (Instr.NewStruct (struct_of b)) (pointer_type b) []
 
-  -- what is put in leaves the reference
+  -- puts a value into an object; the reference to the object stays
   abbrev pub puts_in : Instr → List Value → Gives → List Value → Gives
   puts_in i p e more w = bind (both (gives (p ++ more)) e w)
       (λ vs u. bind (visible taking i [] vs u) (λ us v. if_none us v (Part.Gives p v)))
@@ -243,7 +244,7 @@ module _ (taking : Taking) where
 
   -- Calls.
 
-  -- what a built-in call does with its operands, of which there are so many
+  -- the operation of a built-in call on its operands; there are n of them
   abbrev pub operation : ℕ → BuiltIn → List (Option GoType) → List Value → Gives
   operation n built_in.Length ts = visible taking Instr.Len ts
   operation n built_in.Close ts = visible taking Instr.Close ts

@@ -13,7 +13,7 @@ use Rattle.golf_meaning_source.specs.Meaning.{meant}
 use Rattle.golf_meaning_source.specs.Does.{Matches, Known}
 
 module _ (taking : Taking) where
-  -- wherever the names that are known have their values, the code of an expression does what the expression does
+  -- if the known names have their values in their slots, the code of an expression does what the expression does
   abbrev pub ExpressionMeans : (ℕ → Scope → Does) → (ℕ → Scope → Made) → Type 0
   ExpressionMeans d c = (l : ℕ) (s : Scope) (env : Env) (slots : List Value) → Known s.locals s.next env slots
       → Matches taking s.locals slots env ((d l s).value env) ((d l s).place env) ((d l s).parts env) (c l s)

@@ -1,4 +1,4 @@
--- What an expression does: one equation a construct, beside what it is.
+-- What an expression does, beside its judgment: one equation for each construct.
 use Rattle.std.specs.Prelude.{ℕ, List, [], ◌∷◌, map, Option}
 use Rattle.golf_syntax_trees.specs.declared.expressions.Expr.{Expr}
 use Rattle.golf_syntax_trees.specs.declared.expressions.Expr.TheOpen.{Expr-F, Element-F, Integer, Text, Name, Parens}

@@ -43,7 +43,7 @@ all_fit [] [] = true
 all_fit (t ∷ ts) (v ∷ vs) = fits t v && all_fit ts vs
 all_fit _ _ = false
 
--- What gives operands, in source order.
+-- A part of a meaning that gives values in source order.
 abbrev pub Gives : Type 0
 Gives = World → Part (List Value)
 
@@ -61,8 +61,8 @@ abbrev pub in_order : List Gives → Gives
 in_order [] w = Part.Gives [] w
 in_order (f ∷ fs) w = both f (in_order fs) w
 
--- How answers are taken: as many values as operations leave if these functions give a value; and if it is strict,
--- values of the types that the operations leave.
+-- How answers are taken: `gives` says which functions give a value, and with that how many values an answer has; a
+-- strict taking also asks that the values are of the types that the operation leaves.
 pub record Taking : Type 0 where
   pub gives : List Bool
   pub strict : Bool
@@ -70,7 +70,7 @@ pub record Taking : Type 0 where
 abbrev pub misfit : {A : Type 0} → World → Part A
 misfit w = Part.Stops (Halt.Unfit Misfit.OfAnswer) w.operations
 
--- one without an answer
+-- `panic`, which has no answer
 abbrev pub panicking : List Value → Gives
 panicking vs w = chosen_by (length vs == 1) (bind (asks Instr.Panic vs w) (λ a u. miscount u)) (unfit w)
 
@@ -82,7 +82,7 @@ abbrev pub on_two : (World → Value → Value → Part Value) → List Value �
 on_two f (x ∷ (y ∷ [])) w = bind (f w x y) (λ v u. Part.Gives (v ∷ []) u)
 on_two f _ w = unfit w
 
--- a test of one truth value
+-- goes on by one truth value
 abbrev pub by_bool : Option Bool → {A : Type 0} → World → Part A → Part A → Part A
 by_bool None w p q = wrong_kind w
 by_bool (Some b) w p q = chosen_by b p q
@@ -92,7 +92,7 @@ if_true (x ∷ []) f g w = by_bool (bool_of x) w (f w) (g w)
 if_true _ f g w = unfit w
 
 module _ (taking : Taking) where
-  -- an operation with these operands, which leaves values of these types
+  -- an operation with these operands; its answer has values of these types
   abbrev pub answered : Instr → List (Option GoType) → List Value → Gives
   answered i leaves vs w = bind (gets taking.gives i vs w)
       (λ a u. chosen_by (not taking.strict || all_fit leaves a.values) (Part.Gives a.values u) (misfit u))

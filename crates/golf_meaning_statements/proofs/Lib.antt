@@ -2,6 +2,8 @@ pub mod Flowing
 pub mod Simples
 pub mod Conditions
 pub mod Loops
+pub mod RangeSteps
+pub mod ChannelRanges
 pub mod Ranges
 pub mod Stmts
 pub mod Ranks

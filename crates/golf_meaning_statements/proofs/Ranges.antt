@@ -33,25 +33,27 @@ use Rattle.golf_code_of.specs.Loops as O
 use Rattle.golf_meaning_flat.specs.Worlds as V
 use Rattle.golf_meaning_flat.specs.Worlds.{Halt, World, Operation, halted, bind, pushed}
 use Rattle.golf_meaning_flat.proofs.Halting.{said, said-as}
-use Rattle.golf_meaning_flat.specs.Doing.{Frame, on_some, on_kind, computed, compared}
+use Rattle.golf_meaning_flat.specs.Doing.{Frame, on_kind, computed, compared}
 use Rattle.golf_meaning_flat.specs.Structured.{Way, from_part, then_way, unless_true, out_of, once_more, rounds, run}
 use Rattle.golf_meaning_source.specs.Names.{Env}
 use Rattle.golf_meaning_source.specs.Operations.{Taking, visible}
 use Rattle.golf_meaning_source.specs.Exprs.{int_value}
-use Rattle.golf_meaning_source.specs.Does.{frame, Sim, OnTop, Tail, Stored, Rising, Apart, Kept, Known}
+use Rattle.golf_meaning_source.specs.Does.{frame, Sim, OnTop, Stored, Rising, Apart, Kept, Known}
 use Rattle.golf_meaning_source.proofs.Turning.{turn-visible, tail-then, tail-end, then-end}
 use Rattle.golf_meaning_source.proofs.Environments.{set-other, set-same, stored-below}
 use Rattle.golf_meaning_statements.specs.Flows.{Course, Flow, after, cut, by_test, turned}
 use Rattle.golf_meaning_statements.specs.Steps.{value_at, Step, bound, declared, block, in_loop, parts, named_one}
-use Rattle.golf_meaning_statements.specs.Steps.{range_named, ranges, measured, range_step, over_slice, channel_named}
-use Rattle.golf_meaning_statements.specs.Steps.{received_two, receives, channel_step, by_channel, over, ranging}
-use Rattle.golf_meaning_statements.specs.Steps.{for_deed}
+use Rattle.golf_meaning_statements.specs.Steps.{range_named, ranges, measured, range_step, over_slice, receives}
+use Rattle.golf_meaning_statements.specs.Steps.{channel_step, by_channel, over, ranging, for_deed}
 use Rattle.golf_meaning_statements.specs.Follows.{Stands, EndsAlike, Goes, StatementMeans}
 use Rattle.golf_meaning_statements.proofs.Flowing.{ends-in, Came, MayBegin, stored-prefix, stored-take, stored-length}
 use Rattle.golf_meaning_statements.proofs.Flowing.{rising-append, apart-rising, apart-append, apart-below, goes-after}
 use Rattle.golf_meaning_statements.proofs.Flowing.{Exactly, GoesPrefix, exactly-prefix, exactly-goes, EachMeans}
-use Rattle.golf_meaning_statements.proofs.Simples.{value-turns, stored-new, there-is}
+use Rattle.golf_meaning_statements.proofs.Simples.{value-turns, there-is}
 use Rattle.golf_meaning_statements.proofs.Loops.{goes-trans, B, inside, looped, body-exactly}
+use Rattle.golf_meaning_statements.proofs.RangeSteps.{Below, NamedNow, names-rise, channel-rises, Single, load-step}
+use Rattle.golf_meaning_statements.proofs.RangeSteps.{store-step, tail-store}
+use Rattle.golf_meaning_statements.proofs.ChannelRanges.{receiving, receives-go}
 
 then-assoc : (o : Way) (f g : Frame → World → Way) → then_way (then_way o f) g ≡ then_way o (λ c w. then_way (f c w) g)
 then-assoc (Way.Through c w) f g = refl
@@ -64,15 +66,6 @@ sim-act : {A : Type 0} (p : V.Part A) (to : A → Frame)
     → Sim p (λ a u o. o ≡ Way.Through (to a) u) (from_part (bind p (λ a u. V.Part.Gives (to a) u)))
 sim-act (V.Part.Gives a u) to = refl
 sim-act (V.Part.Stops s os) to = said s _ refl
-
--- slots below this one stay
-abbrev Below : ℕ → List Value → List Value → Type 0
-Below k slots now = (j : ℕ) → j < k → slice_get now j ≡ slice_get slots j
-
--- it goes on with these names, and lower slots stay
-abbrev NamedNow : List Local → ℕ → List Value → List Value → Env → World → Way → Type 0
-NamedNow al k slots rest env u o = (now : List Value) × (o ≡ Way.Through (frame now rest) u) × Stored al env now
-    × (length now ≡ length slots) × Below k slots now
 
 -- the slice that is ranged over is in this slot, and the index two slots later
 record Ranged (slots : List Value) (h : ℕ) (x i : Value) : Type 0 where
@@ -90,77 +83,7 @@ turn_of l h nm bp = Piece.Then (op l (Instr.Load (h + 2)))
     (Piece.Then (op l Instr.Less) (Piece.Then (Piece.Unless l 1)
     (Piece.Then nm (Piece.Then (Piece.Block bp) (incr_of l h))))))
 
-one-name-rises : (b : Bool) (n : List ℕ) (t : Option GoType) (s : Scope)
-    → Rising s.next (s.next + length (W.one_new b n t s).slots) (W.one_new b n t s).declares
-one-name-rises true n t s = (omega arith, omega arith)
-one-name-rises false n t s = omega arith
-
-names-rise : (names : RangeNames) (el : Option GoType) (s : Scope)
-    → Rising s.next (behind s (range_names names true el s)).next (range_names names true el s).declares
-names-rise range.Neither el s = omega arith
-names-rise (range.One n) el s = one-name-rises (not (is_blank n)) n int_type s
-names-rise (range.Two n m) el s =
-    let v = W.range_name n int_type s in
-    let s1 = behind s v in
-    let w = W.range_name m el s1 in
-    let z = length-append v.slots w.slots in
-    subst (λ k. Rising s.next k (v.declares ++ w.declares)) (omega (arith, z))
-    (rising-append v.declares w.declares s.next s1.next (s1.next + length w.slots)
-    (one-name-rises (not (is_blank n)) n int_type s) (one-name-rises (not (is_blank m)) m el s1))
-
-channel-rises : (names : RangeNames) (el : Option GoType) (s : Scope)
-    → Rising s.next (behind s (range_names names false el s)).next (range_names names false el s).declares
-channel-rises range.Neither el s = omega arith
-channel-rises (range.One n) el s = one-name-rises (not (is_blank n)) n el s
-channel-rises (range.Two n m) el s =
-    let v = W.range_name n el s in
-    let s1 = behind s v in
-    let w = W.range_name m el s1 in
-    let z = length-append v.slots w.slots in
-    subst (λ k. Rising s.next k (v.declares ++ w.declares)) (omega (arith, z))
-    (rising-append v.declares w.declares s.next s1.next (s1.next + length w.slots)
-    (one-name-rises (not (is_blank n)) n el s) (one-name-rises (not (is_blank m)) m el s1))
-
--- one name at most
-abbrev Single : RangeNames → Type 0
-Single (range.Two n m) = ⊥
-Single _ = Unit {0}
-
 module _ (taking : Taking) where
-  -- steps whose slots are known
-
-  load-step : {v : Value} (n l i : ℕ) (q : Piece) (at : ℕ) (ts : List ℕ) (slots ops : List Value) (w : World)
-      → slice_get slots i ≡ Some v → run taking.gives n (Piece.Then (op l (Instr.Load i)) q) at ts (frame slots ops) w
-      ≡ run taking.gives n q (at + 1) ts (frame slots (v ∷ ops)) w
-  load-step n l i q at ts slots ops w e =
-      ap (λ o. then_way (from_part (on_some (λ x. V.Part.Gives (frame slots (x ∷ ops)) w) w o))
-      (run taking.gives n q (at + 1) ts)) e
-
-  store-step : {old : Value} (n l i : ℕ) (q : Piece) (at : ℕ) (ts : List ℕ) (slots ops : List Value) (w : World)
-      (v : Value) → slice_get slots i ≡ Some old
-      → run taking.gives n (Piece.Then (op l (Instr.Store i)) q) at ts (frame slots (v ∷ ops)) w ≡ run taking.gives n q
-      (at + 1) ts (frame (slice_set slots i v) ops) w
-  store-step n l i q at ts slots ops w v e =
-      ap (λ o. then_way (from_part (on_some (λ (x : Value). V.Part.Gives (frame (slice_set slots i v) ops) w) w o))
-      (run taking.gives n q (at + 1) ts)) e
-
-  tail-store : {env : Env} {slots : List Value} (s : Scope) (rest : List Value) (n : List ℕ) (t : Option GoType) (l : ℕ)
-      → Known s.locals s.next env slots → s.next < length slots → (vs : List Value)
-      → Tail taking slots rest (op l (Instr.Store s.next)) vs (declared env n vs)
-      (NamedNow (s.locals ++ variable s n t ∷ []) s.next slots rest)
-  tail-store {env} {slots} s rest n t l ok lt [] m at ts u = tt
-  tail-store {env} {slots} s rest n t l ok lt (v ∷ []) m at ts u =
-      let old = there-is slots s.next lt in (
-        slice_set slots s.next v,
-        ap (λ o. from_part (on_some (λ (x : Value). V.Part.Gives (frame (slice_set slots s.next v) rest) u) u o)) old.1,
-        stored-new s.locals env (slice_set slots s.next v) (variable s n t) v
-            (stored-below s.locals env slots s.next 0 s.next v (omega arith) ok.rising ok.stored)
-            (set-same slots s.next v lt),
-        length-set slots s.next v,
-        λ j under. set-other slots s.next j v (λ q. omega (arith, q, under)),
-      )
-  tail-store {env} {slots} s rest n t l ok lt (v ∷ (x ∷ vs)) m at ts u = tt
-
   module _ (l : ℕ) (el : Option GoType) (rest : List Value) where
     -- the index
     index-named : {s : Scope} {env : Env} {slots : List Value} {v : Value} (b : Bool) (n : List ℕ) (k : ℕ)
@@ -180,10 +103,10 @@ module _ (taking : Taking) where
     index-named {s} {env} {slots} {v} false n k ready e m at ts u =
         let room = ready.room in
         subst (λ o. NamedNow (s.locals ++ variable s n int_type ∷ []) s.next slots rest (bound env n v) u o)
-        (sym (load-step m l k (all (op l (Instr.Store s.next) ∷ [])) at ts slots rest u e))
+        (sym (load-step taking m l k (all (op l (Instr.Store s.next) ∷ [])) at ts slots rest u e))
         (tail-end taking slots rest (op l (Instr.Store s.next)) (v ∷ []) (declared env n (v ∷ []))
         (NamedNow (s.locals ++ variable s n int_type ∷ []) s.next slots rest)
-        (tail-store s rest n int_type l ready.known (omega (arith, room)) (v ∷ [])) m (at + 1) ts u)
+        (tail-store taking s rest n int_type l ready.known (omega (arith, room)) (v ∷ [])) m (at + 1) ts u)
 
     -- the element
     element-goes : {s : Scope} {env : Env} {slots : List Value} {h : ℕ} {x i : Value} (b : Bool) (n : List ℕ)
@@ -207,13 +130,14 @@ module _ (taking : Taking) where
         let two : List Value = x ∷ (i ∷ []) in
         let room = ready.room in
         subst (λ o. Sim (bind (visible taking Instr.Index (el ∷ []) two u) (declared env n)) K o)
-        (sym (load-step m l h (all (op l (Instr.Load (h + 2)) ∷ op l Instr.Index ∷ op l (Instr.Store s.next) ∷ []))
-        at ts slots rest u ranged.slice ∙ load-step m l (h + 2)
+        (sym (load-step taking m l h (all (op l (Instr.Load (h + 2)) ∷ op l Instr.Index ∷ op l (Instr.Store s.next)
+        ∷ []))
+        at ts slots rest u ranged.slice ∙ load-step taking m l (h + 2)
         (all (op l Instr.Index ∷ op l (Instr.Store s.next) ∷ [])) (at + 1) ts slots (x ∷ rest) u ranged.index))
         (tail-then taking slots rest (op l Instr.Index) last two (visible taking Instr.Index (el ∷ []) two)
         (declared env n) K (turn-visible taking slots l Instr.Index (el ∷ []) two refl)
         (λ vs. tail-end taking slots rest (op l (Instr.Store s.next)) vs (declared env n vs) K
-        (tail-store s rest n el l ready.known (omega (arith, room)) vs)) m (at + 1 + 1) ts u)
+        (tail-store taking s rest n el l ready.known (omega (arith, room)) vs)) m (at + 1 + 1) ts u)
 
     -- both, with the slice in slot h and the index in slot h + 2
     names-go : {s : Scope} {env : Env} {slots : List Value} {h : ℕ} {x i : Value} (names : RangeNames)
@@ -456,7 +380,8 @@ module _ (taking : Taking) where
             let at6 = at5 + 1 + 1 + 1 in
             let p = computed sum u i (int_value 1) in
             subst (λ o. G now (after p (λ k v. ranges m long step k env v)) (out_of (once_more o to)))
-            (sym (load-step n l (h + 2) (all (op l (Instr.Int (pos 1)) ∷ op l Instr.Add ∷ op l (Instr.Store (h + 2))
+            (sym (load-step taking n l (h + 2) (all
+            (op l (Instr.Int (pos 1)) ∷ op l Instr.Add ∷ op l (Instr.Store (h + 2))
             ∷ Piece.Exit l 0 ∷ [])) at5 us now rest u ready.2.2))
             (goes-after (Goes ds h now rest ds a) (λ t o h. h) p (λ k v. ranges m long step k env v)
             (λ k v o. o ≡ Way.Through (frame now (k ∷ rest)) v)
@@ -483,7 +408,7 @@ module _ (taking : Taking) where
             subst (λ z. G now (ranges m long step k env v)
             (out_of (once_more (then_way z (run taking.gives n store at6 us)) to))) (sym e)
             (subst (λ z. G now (ranges m long step k env v) (out_of (once_more z to)))
-            (sym (store-step n l (h + 2) (all (Piece.Exit l 0 ∷ [])) at6 us now rest v k ready.2.2))
+            (sym (store-step taking n l (h + 2) (all (Piece.Exit l 0 ∷ [])) at6 us now rest v k ready.2.2))
             (goes-trans rest a ds (ranges m long step k env v) (out_of (to (frame now4 rest) v)) came
             (rec k env now4 v ready4)))))
 
@@ -549,8 +474,9 @@ module _ (taking : Taking) where
             (turned (step i env v) (λ e y. after (computed sum y i (int_value 1))
             (λ k z. ranges m long step k e z))) (Flow.Goes Course.On env v) in
             subst (λ o. G now (after p f) (out_of (once_more o (rounds m turn))))
-            (sym (load-step n l (h + 2) (Piece.Then (op l (Instr.Load (h + 1))) (Piece.Then (op l Instr.Less) P2))
-            at us now rest u ready.2.2 ∙ load-step n l (h + 1) (Piece.Then (op l Instr.Less) P2) (at + 1) us now
+            (sym (load-step taking n l (h + 2) (Piece.Then (op l (Instr.Load (h + 1)))
+            (Piece.Then (op l Instr.Less) P2))
+            at us now rest u ready.2.2 ∙ load-step taking n l (h + 1) (Piece.Then (op l Instr.Less) P2) (at + 1) us now
             (i ∷ rest) u ready.2.1))
             (goes-after (Goes ds h now rest ds a) (λ t o h. h) p f (λ k v o. o ≡ Way.Through (frame now (k ∷ rest)) v)
             (λ o. out_of (once_more (then_way o (run taking.gives n P2 at3 us)) (rounds m turn)))
@@ -560,262 +486,6 @@ module _ (taking : Taking) where
             subst (λ z. G now (f k v) (out_of (once_more (then_way z (run taking.gives n P2 at3 us)) (rounds m turn))))
             (sym e)
             (bool-goes m (rounds m turn) (at3 + 1) (ranges-go m) i env now v ready (bool_of k))))
-
-  -- the code of a turn over a channel
-  abbrev receiving : ℕ → ℕ → Piece → Piece → Piece
-  receiving l h nm bp = all (op l (Instr.Load h) ∷ op l Instr.ReceiveOk ∷ Piece.Unless l 1 ∷ nm ∷ bp ∷ Piece.Exit l 0
-      ∷ [])
-
-  -- Turns over a channel: if it is closed, what was received stands on top.
-  module _ (body : List Step) (means-body : EachMeans taking body) (l : ℕ) (names : RangeNames) (el ty : Option GoType)
-      (a : Around) (s : Scope) (n : ℕ) (rest : List Value) (c : Value) (count : ℕ) where
-    abbrev cds : List Local
-    cds = s.locals
-
-    abbrev ch : ℕ
-    ch = s.next
-
-    abbrev C3 : Scope
-    C3 = behind s (hides (ty ∷ []))
-
-    abbrev Cb : Scope
-    Cb = behind s (W.then (λ s. hides (ty ∷ [])) (range_names names false el) s)
-
-    abbrev cdecl : List Local
-    cdecl = (range_names names false el C3).declares
-
-    abbrev c2 : Around
-    c2 = inside taking body means-body 2 0 a
-
-    abbrev cbp : Piece
-    cbp = ((B taking body means-body).lay c2 (looped taking body means-body Cb)).piece
-
-    abbrev cd : Env → World → Flow
-    cd = in_loop 2 0 (block body) a Cb n
-
-    abbrev CReady : Env → List Value → Type 0
-    CReady env now = Stored cds env now × (length now ≡ count) × (slice_get now ch ≡ Some c)
-
-    -- seen from the inside
-    abbrev CHalf : List Value → Flow → Way → Type 0
-    CHalf now (Flow.Goes Course.On env u) o = (then_now : List Value) × (o ≡ Way.Leaves 0 (frame then_now rest) u)
-        × CReady env then_now × Kept cds ch now then_now
-    CHalf now (Flow.Goes Course.Continues env u) o = (then_now : List Value)
-        × (o ≡ Way.Leaves 0 (frame then_now rest) u) × CReady env then_now × Kept cds ch now then_now
-    CHalf now (Flow.Goes Course.Breaks env u) o = (then_now : List Value) × (o ≡ Way.Leaves 2 (frame then_now rest) u)
-        × Stands cds ch now cds env then_now
-    CHalf now (Flow.Goes Course.Skips env u) o = ⊥
-    CHalf now (Flow.Ends t) o = EndsAlike t t.end o
-
-    module _ (rising : Rising 0 ch cds) (rises : Rising C3.next (behind C3 (range_names names false el C3)).next cdecl)
-        (room : Cb.next + length ((B taking body means-body).walk (looped taking body means-body Cb)).slots ≤ count)
-        (single : Single names) where
-      cnext-is : (behind C3 (range_names names false el C3)).next ≡ Cb.next
-      cnext-is = let z = length-append (ty ∷ []) (range_names names false el C3).slots in omega (arith, z)
-
-      capart-all : (j : ℕ) → j < ch + 1 → Apart j cds → Apart j (cds ++ cdecl)
-      capart-all j lt q = apart-append cds cdecl j q
-          (apart-rising cdecl C3.next (behind C3 (range_names names false el C3)).next j lt rises)
-
-      cleft : (now now2 now3 : List Value) (env : Env) → length now ≡ count → slice_get now ch ≡ Some c
-          → (length now2 ≡ length now) → Below (ch + 1) now now2
-          → Stands (cds ++ cdecl) Cb.next now2 (cds ++ cdecl) env now3 → CReady (take (length cds) env) now3
-          × Kept cds ch now now3
-      cleft now now2 now3 env q hid long2 below st =
-          let z = length-append (ty ∷ []) (range_names names false el C3).slots in (
-            (
-              stored-prefix cds cdecl env now3 st.0,
-              st.1 ∙ long2 ∙ q,
-              st.2 ch (omega (arith, z)) (capart-all ch (omega arith) (apart-below cds 0 ch ch rising (omega arith)))
-                  ∙ below ch (omega arith) ∙ hid,
-            ),
-            λ j lt ap'. st.2 j (omega (arith, lt, z)) (capart-all j (omega (arith, lt)) ap')
-                ∙ below j (omega (arith, lt)),
-          )
-
-      chalf-of : (now now2 : List Value) (f : Flow) (o : Way) → length now ≡ count → slice_get now ch ≡ Some c
-          → (length now2 ≡ length now) → Below (ch + 1) now now2 → Exactly rest c2 (cds ++ cdecl) Cb.next now2 f o
-          → CHalf now (cut (length cds) f) (then_way o (λ d x. Way.Leaves 0 d x))
-      chalf-of now now2 (Flow.Goes Course.On env u) o q hid long2 below e = let r =
-          cleft now now2 e.0 env q hid long2 below
-          e.2 in (e.0, ap (λ z. then_way z (λ d x. Way.Leaves 0 d x)) e.1, r.0, r.1)
-      chalf-of now now2 (Flow.Goes Course.Continues env u) o q hid long2 below e = let r =
-          cleft now now2 e.0 env q hid long2 below
-          e.2 in (e.0, ap (λ z. then_way z (λ d x. Way.Leaves 0 d x)) e.1, r.0, r.1)
-      chalf-of now now2 (Flow.Goes Course.Breaks env u) o q hid long2 below e = let r =
-          cleft now now2 e.0 env q hid long2 below
-          e.2 in (e.0, ap (λ z. then_way z (λ d x. Way.Leaves 0 d x)) e.1, (r.0.0, r.0.1 ∙ sym q, r.1))
-      chalf-of now now2 (Flow.Goes Course.Skips env u) o q hid long2 below e = absurd e
-      chalf-of now now2 (Flow.Ends t) o q hid long2 below e =
-          ends-in t t.end (λ z. then_way z (λ d x. Way.Leaves 0 d x)) o refl e
-
-      -- the name, or what is received is dropped
-      name-goes : (env : Env) (now : List Value) (v : Value) → CReady env now → (m at : ℕ) (us : List ℕ) (u : World)
-          → NamedNow (behind C3 (range_names names false el C3)).locals C3.next now rest (channel_named names v env) u
-          (run taking.gives m (O.channel_name l names C3) at us (frame now (v ∷ rest)) u)
-      name-goes env now v ready m at us u =
-          let q = ready.1 in
-          let nx = cnext-is in
-          let known : Known C3.locals C3.next env now = record {
-            stored = subst (λ es. Stored es env now) (sym (append-nil cds)) ready.0;
-            rising = subst (λ es. Rising 0 C3.next es) (sym (append-nil cds)) (wider cds 0 ch rising);
-          } in
-          let ready3 : MayBegin C3 (range_names names false el C3) env now =
-          record { known = known; room = omega (arith, room, q, nx) } in
-          received-name names v ready3 single m at us u
-        where
-          wider : (es : List Local) (low high : ℕ) → Rising low high es → Rising low (high + 1) es
-          wider [] low high r = omega (arith, r)
-          wider (e ∷ es) low high r = (r.0, wider es (e.slot + 1) high r.1)
-
-          by-blank : {s : Scope} {env : Env} {now : List Value} (b : Bool) (n : List ℕ) (v : Value)
-              → MayBegin s (W.one_new (not b) n el s) env now → (m at : ℕ) (us : List ℕ) (u : World)
-              → NamedNow (behind s (W.one_new (not b) n el s)).locals s.next now rest (cond b env (bound env n v)) u
-              (run taking.gives m (cond b (op l Instr.Drop) (op l (Instr.Store s.next))) at us
-              (frame now (v ∷ rest)) u)
-          by-blank {s} {env} {now} true n v ready3 m at us u = (
-            now,
-            refl,
-            subst (λ es. Stored es env now) (sym (append-nil s.locals)) ready3.known.stored,
-            refl,
-            λ j lt. refl,
-          )
-          by-blank {s} {env} {now} false n v ready3 m at us u = let few =
-              ready3.room in tail-store s rest n el l ready3.known (omega (arith, few)) (v ∷ []) m at us u
-
-          received-name : {s : Scope} {env : Env} {now : List Value} (names : RangeNames) (v : Value)
-              → MayBegin s (range_names names false el s) env now → Single names → (m at : ℕ) (us : List ℕ) (u : World)
-              → NamedNow (behind s (range_names names false el s)).locals s.next now rest (channel_named names v env) u
-              (run taking.gives m (O.channel_name l names s) at us (frame now (v ∷ rest)) u)
-          received-name {s} {env} {now} range.Neither v ready3 one m at us u = (
-            now,
-            refl,
-            subst (λ es. Stored es env now) (sym (append-nil s.locals)) ready3.known.stored,
-            refl,
-            λ j lt. refl,
-          )
-          received-name {s} {env} {now} (range.One n) v ready3 one m at us u =
-              let first : MayBegin s (W.one_new (not (is_blank n)) n el s) env now =
-              record { known = ready3.known; room = ready3.room } in
-              by-blank (is_blank n) n v first m at us u
-          received-name (range.Two n k) v ready3 one m at us u = absurd one
-
-      chalf : (env : Env) (now : List Value) (v : Value) → CReady env now → (at at2 : ℕ) (us : List ℕ) (u : World)
-          → CHalf now (channel_step names cd v env u)
-          (then_way (run taking.gives n (O.channel_name l names C3) at us (frame now (v ∷ rest)) u)
-          (λ d x. then_way (run taking.gives n cbp at2 us d x) (λ d x. Way.Leaves 0 d x)))
-      chalf env now v ready at at2 us u =
-          let k = name-goes env now v ready n at us u in
-          let q = ready.1 in
-          let env2 = channel_named names v env in
-          let long2 = k.3 in
-          let known : Known Cb.locals Cb.next env2 k.0 = record {
-            stored = subst (λ es. Stored es env2 k.0) (append_assoc cds [] cdecl) k.2;
-            rising = subst (λ m. Rising 0 m (cds ++ cdecl)) cnext-is
-                (rising-append cds cdecl 0 C3.next (behind C3 (range_names names false el C3)).next
-                (wider cds 0 ch rising) rises);
-          } in
-          subst (λ z. CHalf now (cut z (cd env2 u))
-          (then_way (run taking.gives n (O.channel_name l names C3) at us (frame now (v ∷ rest)) u)
-          (λ d x. then_way (run taking.gives n cbp at2 us d x) (λ d x. Way.Leaves 0 d x))))
-          (sym (stored-length cds env now ready.0))
-          (subst (λ z. CHalf now (cut (length cds) (cd env2 u))
-          (then_way z (λ d x. then_way (run taking.gives n cbp at2 us d x) (λ d x. Way.Leaves 0 d x)))) (sym k.1)
-          (chalf-of now k.0 (cd env2 u) (run taking.gives n cbp at2 us (frame k.0 rest) u) ready.1 ready.2 k.3 k.4
-          (body-exactly taking body means-body c2 Cb n env2 k.0 known
-          (omega (arith, room, q, long2)) at2 us rest u)))
-        where
-          wider : (es : List Local) (low high : ℕ) → Rising low high es → Rising low (high + 1) es
-          wider [] low high r = omega (arith, r)
-          wider (e ∷ es) low high r = (r.0, wider es (e.slot + 1) high r.1)
-
-      module _ (at : ℕ) (us : List ℕ) where
-        abbrev cturn : Frame → World → Way
-        cturn = run taking.gives n (receiving l ch (O.channel_name l names C3) cbp) at us
-
-        abbrev CG : List Value → Flow → Way → Type 0
-        CG now f o = Goes cds ch now rest cds a f o
-
-        -- out of both blocks, with the drop between
-        abbrev outside : Way → Way
-        outside o = out_of (then_way (out_of o)
-            (λ d x. then_way (run taking.gives n (op l Instr.Drop) 0 [] d x) (λ d x. Way.Through d x)))
-
-        chalf-goes : (m : ℕ) (to : Frame → World → Way)
-            → ((env : Env) (now : List Value) (u : World) → CReady env now
-            → CG now (receives taking m el c (channel_step names cd) env u) (outside (to (frame now rest) u)))
-            → (now : List Value) (f : Flow) (o : Way) → length now ≡ count → CHalf now f o
-            → CG now (turned f (receives taking m el c (channel_step names cd))) (outside (once_more o to))
-        chalf-goes m to rec now (Flow.Goes Course.On env u) o q g =
-            let came : Came cds ch now g.0 = record { long = g.2.1 ∙ sym q; kept = g.3 } in
-            subst (λ z. CG now (receives taking m el c (channel_step names cd) env u) (outside (once_more z to)))
-            (sym g.1) (goes-trans rest a cds (receives taking m el c (channel_step names cd) env u)
-            (outside (to (frame g.0 rest) u)) came (rec env g.0 u g.2))
-        chalf-goes m to rec now (Flow.Goes Course.Continues env u) o q g =
-            let came : Came cds ch now g.0 = record { long = g.2.1 ∙ sym q; kept = g.3 } in
-            subst (λ z. CG now (receives taking m el c (channel_step names cd) env u) (outside (once_more z to)))
-            (sym g.1) (goes-trans rest a cds (receives taking m el c (channel_step names cd) env u)
-            (outside (to (frame g.0 rest) u)) came (rec env g.0 u g.2))
-        chalf-goes m to rec now (Flow.Goes Course.Breaks env u) o q g =
-            (g.0, ap (λ z. outside (once_more z to)) g.1, g.2)
-        chalf-goes m to rec now (Flow.Goes Course.Skips env u) o q g = absurd g
-        chalf-goes m to rec now (Flow.Ends t) o q g = ends-in t t.end (λ z. outside (once_more z to)) o refl g
-
-        cbool-goes : (m : ℕ) (to : Frame → World → Way) (at3 : ℕ)
-            → ((env : Env) (now : List Value) (u : World) → CReady env now
-            → CG now (receives taking m el c (channel_step names cd) env u) (outside (to (frame now rest) u)))
-            → (env : Env) (now : List Value) (v : Value) (u : World) → CReady env now → (b : Option Bool)
-            → CG now (by_test b u (turned (channel_step names cd v env u)
-            (receives taking m el c (channel_step names cd))) (Flow.Goes Course.On env u))
-            (outside (once_more (then_way (unless_true
-            (on_kind (λ x. V.Part.Gives (x, frame now (v ∷ rest)) u) u b) 1)
-            (run taking.gives n (all (O.channel_name l names C3 ∷ cbp ∷ Piece.Exit l 0 ∷ [])) at3 us)) to))
-        cbool-goes m to at3 rec env now v u ready None = refl
-        cbool-goes m to at3 rec env now v u ready (Some true) =
-            chalf-goes m to rec now (channel_step names cd v env u)
-            (run taking.gives n (all (O.channel_name l names C3 ∷ cbp ∷ Piece.Exit l 0 ∷ [])) at3 us
-            (frame now (v ∷ rest)) u) ready.1 (chalf env now v ready at3
-            (at3 + size (O.channel_name l names C3)) us u)
-        cbool-goes m to at3 rec env now v u ready (Some false) = (now, refl, (ready.0, refl, λ j lt q. refl))
-
-        receives-go : (m : ℕ) (env : Env) (now : List Value) (u : World) → CReady env now
-            → CG now (receives taking m el c (channel_step names cd) env u)
-            (outside (rounds m cturn (frame now rest) u))
-        receives-go zero env now u ready = refl
-        receives-go (suc m) env now u ready =
-            let p = visible taking Instr.ReceiveOk (el ∷ (W.bool_type ∷ [])) (c ∷ []) u in
-            let f : List Value → World → Flow = λ vs y. received_two vs y
-            (λ v ok z. by_test (bool_of ok) z (turned (channel_step names cd v env z)
-            (receives taking m el c (channel_step names cd))) (Flow.Goes Course.On env z)) in
-            let after_it = all (Piece.Unless l 1 ∷ O.channel_name l names C3 ∷ cbp ∷ Piece.Exit l 0 ∷ []) in
-            subst (λ o. CG now (after p f) (outside (once_more o (rounds m cturn))))
-            (sym (load-step n l ch (Piece.Then (op l Instr.ReceiveOk) after_it) at us now rest u ready.2))
-            (goes-after (Goes cds ch now rest cds a) (λ t o h. h) p f (OnTop now rest)
-            (λ o. outside (once_more (then_way o (run taking.gives n after_it (at + 1 + 1) us)) (rounds m cturn)))
-            (run taking.gives n (op l Instr.ReceiveOk) (at + 1) us (frame now (c ∷ rest)) u) (λ g os. refl)
-            (turn-visible taking now l Instr.ReceiveOk (el ∷ (W.bool_type ∷ [])) (c ∷ []) refl n (at + 1) us rest u)
-            (λ vs y o e. subst (λ z. CG now (f vs y)
-            (outside (once_more (then_way z (run taking.gives n after_it (at + 1 + 1) us)) (rounds m cturn))))
-            (sym e) (by vs y (λ v ok z. cbool-goes m (rounds m cturn) (at + 1 + 1 + 1)
-            (receives-go m) env now v z ready (bool_of ok)))))
-          where
-            by : (vs : List Value) (y : World) → ((v ok : Value) (z : World)
-                → CG now (by_test (bool_of ok) z (turned (channel_step names cd v env z)
-                (receives taking m el c (channel_step names cd))) (Flow.Goes Course.On env z))
-                (outside (once_more (then_way (unless_true
-                (on_kind (λ x. V.Part.Gives (x, frame now (v ∷ rest)) z) z (bool_of ok)) 1)
-                (run taking.gives n (all (O.channel_name l names C3 ∷ cbp ∷ Piece.Exit l 0 ∷ [])) (at + 1 + 1 + 1) us))
-                (rounds m cturn))))
-                → CG now (received_two vs y (λ v ok z. by_test (bool_of ok) z
-                (turned (channel_step names cd v env z) (receives taking m el c (channel_step names cd)))
-                (Flow.Goes Course.On env z)))
-                (outside (once_more (run taking.gives n
-                (all (Piece.Unless l 1 ∷ O.channel_name l names C3 ∷ cbp ∷ Piece.Exit l 0 ∷ [])) (at + 1 + 1) us
-                (frame now (pushed vs rest)) y) (rounds m cturn)))
-            by [] y k = tt
-            by (v ∷ []) y k = tt
-            by (v ∷ (ok ∷ [])) y k = k v ok y
-            by (v ∷ (ok ∷ (x ∷ vs))) y k = tt
 
   -- all ways have the names of before
   prefix-of : (rest : List Value) (a : Around) (ds : List Local) (next : ℕ) (slots : List Value) (f : Flow) (o : Way)
@@ -878,9 +548,9 @@ module _ (taking : Taking) where
         (int_value 0) env v) in
         let p = visible taking Instr.Len (int_type ∷ []) (x ∷ []) y in
         let at3 = at + 1 + 1 + 1 in
-        subst (λ o. R (after p F) o) (sym (store-step n l h
+        subst (λ o. R (after p F) o) (sym (store-step taking n l h
         (Piece.Then (op l (Instr.Load h)) X2) at ts slots rest y x old.1
-        ∙ load-step n l h X2 (at + 1) ts slots1 rest y (set-same slots h x (omega (arith, room, z1, z2)))))
+        ∙ load-step taking n l h X2 (at + 1) ts slots1 rest y (set-same slots h x (omega (arith, room, z1, z2)))))
         (goes-after (Goes s.locals h slots rest s.locals a) (λ t o h. h) p F (OnTop slots1 rest)
         (λ o. then_way o (run taking.gives n X3 at3 ts))
         (run taking.gives n (op l Instr.Len) (at + 1 + 1) ts (frame slots1 (x ∷ rest)) y) (λ g os. refl)
@@ -929,9 +599,9 @@ module _ (taking : Taking) where
                   ∙ set-other slots1 (h + 1) j long (λ z. omega (arith, z, lt))
                   ∙ set-other slots h j x (λ z. omega (arith, z, lt));
             } in
-            subst (λ o. R f o) (sym (store-step n l (h + 1)
+            subst (λ o. R f o) (sym (store-step taking n l (h + 1)
             (all (op l (Instr.Int (pos 0)) ∷ op l (Instr.Store (h + 2)) ∷ loop ∷ [])) at3 ts slots1 rest v long
-            old1.1 ∙ store-step n l (h + 2) (all (loop ∷ [])) (at3 + 1 + 1) ts slots2 rest v i old2.1
+            old1.1 ∙ store-step taking n l (h + 2) (all (loop ∷ [])) (at3 + 1 + 1) ts slots2 rest v i old2.1
             ∙ then-end (run taking.gives n loop at5 ts (frame slots3 rest) v)))
             (goes-trans rest a s.locals f (run taking.gives n loop at5 ts (frame slots3 rest) v) came
             (ranges-go body means-body l names el ty a s n rest x long (length slots) ok.rising
@@ -962,10 +632,10 @@ module _ (taking : Taking) where
         let f = receives taking n el x (channel_step names (in_loop 2 0 (block body) a (scope_by false) n)) env y in
         let came : Came s.locals h slots slots1 =
         record { long = l1; kept = λ j lt q. set-other slots h j x (λ z. omega (arith, z, lt)) } in
-        subst (λ o. R f o) (sym (store-step n l h (all (Piece.Block inner ∷ [])) at ts slots rest y x old.1
+        subst (λ o. R f o) (sym (store-step taking n l h (all (Piece.Block inner ∷ [])) at ts slots rest y x old.1
         ∙ then-end (run taking.gives n (Piece.Block inner) at1 ts (frame slots1 rest) y)))
         (goes-trans rest a s.locals f (run taking.gives n (Piece.Block inner) at1 ts (frame slots1 rest) y) came
-        (receives-go body means-body l names el ty a s n rest x (length slots) ok.rising
+        (receives-go taking body means-body l names el ty a s n rest x (length slots) ok.rising
         (channel-rises names el (hidden_by false)) (omega (arith, room, z2)) single at1 us n env slots1 y (
           stored-below s.locals env slots h 0 h x (omega arith) ok.rising ok.stored,
           l1,

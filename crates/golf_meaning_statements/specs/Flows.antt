@@ -5,7 +5,8 @@ use Rattle.golf_model.specs.Values.{bool_of}
 use Rattle.golf_meaning_flat.specs.Worlds.{Misfit, Halt, Told, World, Part, halted, cut_short}
 use Rattle.golf_meaning_source.specs.Names.{Env}
 
--- to what follows; out of the loop or `select`; to the next turn; or past what a condition guards
+-- the course of a statement: on to what follows, out of the loop or `select`, to the next round, or past the guarded
+-- statements
 pub data Course : Type 0 where
   On : Course
   Breaks : Course
@@ -29,7 +30,7 @@ abbrev pub on : Part Env → Flow
 on (Part.Gives env w) = Flow.Goes Course.On env w
 on (Part.Stops h os) = Flow.Ends (halted h os)
 
--- after a part
+-- goes on after a part
 abbrev pub after : {A : Type 0} → Part A → (A → World → Flow) → Flow
 after (Part.Gives a w) f = f a w
 after (Part.Stops h os) f = Flow.Ends (halted h os)
@@ -41,7 +42,7 @@ then_flow (Flow.Goes Course.Continues env w) f = Flow.Goes Course.Continues env 
 then_flow (Flow.Goes Course.Skips env w) f = unfit_flow w
 then_flow (Flow.Ends t) f = Flow.Ends t
 
--- what was declared inside is forgotten
+-- forgets the names that were declared inside
 abbrev pub cut : ℕ → Flow → Flow
 cut k (Flow.Goes Course.On env w) = Flow.Goes Course.On (take k env) w
 cut k (Flow.Goes Course.Breaks env w) = Flow.Goes Course.Breaks (take k env) w
@@ -49,7 +50,7 @@ cut k (Flow.Goes Course.Continues env w) = Flow.Goes Course.Continues (take k en
 cut k (Flow.Goes Course.Skips env w) = unfit_flow w
 cut k (Flow.Ends t) = Flow.Ends t
 
--- a condition that is false is no more than that
+-- a false condition without an `else` has no further effect
 abbrev pub ends_here : Flow → Flow
 ends_here (Flow.Goes Course.On env w) = Flow.Goes Course.On env w
 ends_here (Flow.Goes Course.Breaks env w) = Flow.Goes Course.Breaks env w
@@ -57,7 +58,7 @@ ends_here (Flow.Goes Course.Continues env w) = Flow.Goes Course.Continues env w
 ends_here (Flow.Goes Course.Skips env w) = Flow.Goes Course.On env w
 ends_here (Flow.Ends t) = Flow.Ends t
 
--- if a condition is false, this
+-- goes on with f if the condition is false
 abbrev pub or_else : Flow → (Env → World → Flow) → Flow
 or_else (Flow.Goes Course.On env w) f = Flow.Goes Course.On env w
 or_else (Flow.Goes Course.Breaks env w) f = Flow.Goes Course.Breaks env w
@@ -65,12 +66,12 @@ or_else (Flow.Goes Course.Continues env w) f = Flow.Goes Course.Continues env w
 or_else (Flow.Goes Course.Skips env w) f = f env w
 or_else (Flow.Ends t) f = Flow.Ends t
 
--- if this is false, unfit
+-- the flow, or unfit if the test fails
 abbrev pub guarded : Bool → World → Flow → Flow
 guarded true w f = f
 guarded false w f = unfit_flow w
 
--- if an answer does not fit, misfit
+-- the flow, or a misfit if the answer does not fit
 abbrev pub if_fits : Bool → World → Flow → Flow
 if_fits true w f = f
 if_fits false w f = misfit_flow w
@@ -84,8 +85,8 @@ abbrev pub tested : List Value → World → Flow → Flow → Flow
 tested (x ∷ []) w f g = by_test (bool_of x) w f g
 tested _ w f g = unfit_flow w
 
--- a turn of a loop: at its end, and at `continue`, comes the next; if its condition is false, and at `break`, the loop
--- is left
+-- a round of a loop: at its end and at `continue` the next round begins; at `break`, and if the condition is false, the
+-- loop is left
 abbrev pub turned : Flow → (Env → World → Flow) → Flow
 turned (Flow.Goes Course.On env w) next = next env w
 turned (Flow.Goes Course.Continues env w) next = next env w
@@ -93,12 +94,12 @@ turned (Flow.Goes Course.Breaks env w) next = Flow.Goes Course.On env w
 turned (Flow.Goes Course.Skips env w) next = Flow.Goes Course.On env w
 turned (Flow.Ends t) next = Flow.Ends t
 
--- so many turns are begun at most
+-- at most m rounds begin
 abbrev pub turns : ℕ → (Env → World → Flow) → Env → World → Flow
 turns zero step env w = Flow.Ends (cut_short w)
 turns (suc m) step env w = turned (step env w) (turns m step)
 
--- `continue` leads to the post statement
+-- `continue` goes on at the post statement
 abbrev pub then_post : Flow → (Env → World → Flow) → Flow
 then_post (Flow.Goes Course.On env w) f = f env w
 then_post (Flow.Goes Course.Continues env w) f = f env w

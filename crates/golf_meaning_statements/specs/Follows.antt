@@ -1,4 +1,4 @@
--- What it is that the code of a statement does what the statement does.
+-- When the code of a statement does what the statement does.
 use Rattle.std.specs.Prelude.{◌≡◌, ℕ, ◌≤◌, List, length, take}
 use Rattle.golf_data.specs.declared.value.Value.{Value}
 use Rattle.golf_check_types.specs.declared.locals.Local.{Local}
@@ -15,17 +15,17 @@ use Rattle.golf_meaning_source.specs.Does.{frame, Stored, Rising, Kept, Known}
 use Rattle.golf_meaning_statements.specs.Flows.{Course, Flow}
 use Rattle.golf_meaning_statements.specs.Steps.{Deed}
 
--- it stands so, and no other slot has changed
+-- the environment is stored in the slots, and no other slot below `next` has changed
 abbrev pub Stands : List Local → ℕ → List Value → List Local → Env → List Value → Type 0
 Stands ds next slots after env now = Stored after env now × (length now ≡ length slots) × Kept ds next slots now
 
--- it ends alike, if that is said of its halt
+-- the way ends as the meaning does, unless nothing is said of its halt
 abbrev pub EndsAlike : Told → End → Way → Type 0
 EndsAlike t (End.Halts h) o = Said h (o ≡ Way.Ends t)
 EndsAlike t End.Short o = o ≡ Way.Ends t
 
--- From a scope with these locals and a frame with these slots, the way goes as the flow does. `break` and `continue`
--- lead to their targets, and past what a condition guards is target 0.
+-- The way goes as the flow does, from a scope with these locals and a frame with these slots. `break` and `continue`
+-- leave by their targets, and a false condition leaves by target 0.
 abbrev pub Goes : List Local → ℕ → List Value → List Value → List Local → Around → Flow → Way → Type 0
 Goes ds next slots rest after a (Flow.Goes Course.On env u) o = (now : List Value)
     × (o ≡ Way.Through (frame now rest) u) × Stands ds next slots after env now
@@ -38,8 +38,8 @@ Goes ds next slots rest after a (Flow.Goes Course.Continues env u) o = (now : Li
 Goes ds next slots rest after a (Flow.Ends t) o = EndsAlike t t.end o
 
 module _ (taking : Taking) where
-  -- the code of a statement does what the statement does, wherever its slots are there; what it declares has slots of
-  -- its own
+  -- the code of a statement does what the statement does, if the frame has enough slots; the names that it declares
+  -- have slots of their own
   pub record StatementMeans (w : Walk) (x : Lay) (d : Deed) : Type 0 where
     pub rises : (s : Scope) → Rising s.next (behind s (w s)).next (w s).declares
     pub goes : (a : Around) (s : Scope) (n : ℕ) (env : Env) (slots : List Value) → Known s.locals s.next env slots

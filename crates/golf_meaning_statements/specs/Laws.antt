@@ -1,4 +1,4 @@
--- The law of statements.
+-- The law of statements, as a statement.
 use Rattle.golf_syntax_trees.specs.declared.statements.Stmt.{Stmt}
 use Rattle.golf_code_of.specs.declared.tables.Tables.{Tables}
 use Rattle.golf_code_of.specs.Laying.{stmt_part}

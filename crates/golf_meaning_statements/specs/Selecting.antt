@@ -1,6 +1,6 @@
--- Select statements (Go specification, "Select statements"; profile): the operands of all clauses are evaluated once,
--- in source order, and one operation chooses a clause. The operation and its answer name a clause by its place in
--- source order, from 0.
+-- Select statements (Go specification, "Select statements"; this runtime's rule): the operands of all clauses are
+-- evaluated once, in source order, and one operation chooses a clause. The operation and its answer name a clause by
+-- its place in source order, from 0.
 use Rattle.std.specs.Prelude.{ℕ, zero, suc, ◌==◌, ◌&&◌, ◌||◌, not, is_some, cond, Bool, true, List, [], ◌∷◌, length}
 use Rattle.std.specs.Prelude.{map, Option}
 use Rattle.golf_syntax_trees.specs.declared.statements.Communication.{Communication}
@@ -25,15 +25,15 @@ use Rattle.golf_meaning_statements.specs.Flows.{Course, Flow, on, after, unfit_f
 use Rattle.golf_meaning_statements.specs.Steps.{Deals, Deed, Step, value_at, declared, name_place, defines_pair}
 use Rattle.golf_meaning_statements.specs.Steps.{then_deed, in_order, in_block, parts}
 
--- A clause beside its code, of which only the walk, the kind and the made functions are looked at: on the line of the
--- `select` its operands, and the types of what it leaves if it is chosen; and what it does with these values.
+-- A clause beside its code, of which only the walk, the kind and the made functions are used. It has its operands, on
+-- the line of the `select`, the types of the values that it leaves if it is chosen, and what it does with these values.
 pub record ClauseStep : Type 0 where
   pub part : ClausePart
   pub operands : ℕ → Scope → Env → Gives
   pub leaves : ℕ → Scope → List (Option GoType)
   pub deed : ℕ → List Value → Deed
 
--- the types of what is received
+-- the types of the received values
 abbrev pub received_types : Communication → ℕ → Scope → List (Option GoType)
 received_types (comm.Send c e) l s = []
 received_types (comm.Receive e) l s = carried l e s ∷ []
@@ -55,7 +55,7 @@ default_step k body = record {
 abbrev pub clause_parts : List ClauseStep → List ClausePart
 clause_parts cs = map (λ (c : ClauseStep). c.part) cs
 
--- how many clauses these are
+-- the number of clauses
 abbrev pub many : List ClauseStep → ℕ
 many cs = length (clause_parts cs)
 
@@ -87,7 +87,7 @@ module _ (taking : Taking) where
   operands_given t (comm.Assign n e) l s env = value_at taking t l s e env
   operands_given t (comm.DefineReceived n m e) l s env = value_at taking t l s e env
 
-  -- what a chosen clause does with what was received
+  -- what a chosen clause does with the received values
   abbrev pub takes_in : Tables → Communication → List Value → Scope → Deals
   takes_in t (comm.Send c e) vs s env w = Part.Gives env w
   takes_in t (comm.Receive e) vs s env w = dropped env vs w
@@ -108,7 +108,7 @@ module _ (taking : Taking) where
     deed = λ l vs. in_block (then_deed (K.communication t l k c) (communicates t c vs) (breaking (in_order body)));
   }
 
-  -- the clause at this place, with these values; each clause stands in the scope after those before it
+  -- the clause at this place, with these values; the scope of each clause follows the clauses before it
   abbrev pub chosen : ℕ → ℕ → List Value → List ClauseStep → Deed
   chosen l k vs [] a s n env w = unfit_flow w
   chosen l zero vs (c ∷ cs) a s n env w =

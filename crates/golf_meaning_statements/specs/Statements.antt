@@ -1,4 +1,4 @@
--- What statements do: one equation a construct, beside their code (Go specification, "Statements").
+-- What statements do, beside their code: one equation for each construct (Go specification, "Statements").
 use Rattle.golf_syntax_trees.specs.declared.statements.Stmt.{Stmt}
 use Rattle.golf_syntax_trees.specs.declared.statements.Clause.{Clause}
 use Rattle.golf_syntax_trees.specs.declared.statements.Clause.TheOpen as S

@@ -47,19 +47,19 @@ use Rattle.golf_meaning_source.specs.Meaning.{meant, outer}
 use Rattle.golf_meaning_statements.specs.Flows.{Course, Flow, on, after, then_flow, cut, ends_here, or_else, unfit_flow}
 use Rattle.golf_meaning_statements.specs.Flows.{guarded, by_test, tested, turned, turns, then_post}
 
--- names with values, as a part
+-- a part of a meaning that gives an environment
 abbrev pub Deals : Type 0
 Deals = Env → World → W.Part Env
 
 abbrev pub bound : Env → List ℕ → Value → Env
 bound env n v = env ++ record { name = n; value = v } ∷ []
 
--- a name is declared, with one value
+-- declares a name with one value
 abbrev pub declared : Env → List ℕ → List Value → World → W.Part Env
 declared env n (v ∷ []) w = W.Part.Gives (bound env n v) w
 declared env n _ w = unfit w
 
--- what a call or receive leaves is dropped
+-- drops the value that a call or receive leaves
 abbrev pub drops : Operand → Env → List Value → World → W.Part Env
 drops (operand.Nothing late) env vs w = if_none vs w (W.Part.Gives env w)
 drops m env vs w = dropped env vs w
@@ -77,11 +77,11 @@ with_new b n v env = cond b (bound env n v) env
 abbrev pub one : Gives
 one w = W.Part.Gives (int_value 1 ∷ []) w
 
--- Statements: they know what their code knows, and how many turns a loop takes.
+-- Statements: they know what their code knows, and the bound on the rounds of a loop.
 abbrev pub Deed : Type 0
 Deed = Around → Scope → ℕ → Env → World → Flow
 
--- a statement beside its code, of which only the walk and the made functions are looked at
+-- a statement beside its code, of which only the walk and the made functions are used
 pub record Step : Type 0 where
   pub part : Part
   pub deed : Deed
@@ -117,7 +117,7 @@ in_loop breaks continues d a s n env w =
 abbrev pub forever : Deed → Deed
 forever d a s n env w = turns n (d a s n) env w
 
--- a post statement declares nothing
+-- whether a post statement declares nothing
 abbrev pub is_plain_kind : SimpleKind → Bool
 is_plain_kind (simple.Define n e) = false
 is_plain_kind (simple.DefineReceived n m e) = false
@@ -130,7 +130,7 @@ is_plain (Some x) = is_plain_kind x.kind
 abbrev pub named_one : List ℕ → Value → Env → Env
 named_one n v env = cond (is_blank n) env (bound env n v)
 
--- turns from an index on
+-- the rounds of a range from an index on
 abbrev pub ranges : ℕ → Value → (Value → Env → World → Flow) → Value → Env → World → Flow
 ranges zero long step i env w = Flow.Ends (W.cut_short w)
 ranges (suc m) long step i env w =
@@ -153,7 +153,7 @@ received_two _ w f = unfit_flow w
 abbrev pub channel_step : RangeNames → (Env → World → Flow) → Value → Env → World → Flow
 channel_step names d v env w = cut (length env) (d (channel_named names v env) w)
 
--- a channel has one name at most
+-- a range over a channel has at most one name
 abbrev pub by_channel : RangeNames → Flow → World → Flow
 by_channel (range.Two n m) f w = unfit_flow w
 by_channel _ f w = f
@@ -179,17 +179,17 @@ module _ (taking : Taking) where
   assigns p e env w = bind (p.parts env w)
       (λ told u. bind (e u) (λ xs v. store taking env (p.place env) (told ++ xs) v))
 
-  -- a name left of `=`
+  -- the place of a name left of `=`
   abbrev pub name_place : Tables → Scope → List ℕ → Env → Location
   name_place t s n env = (name_does taking t (is_blank n) n (outer s n)).place env
 
-  -- the value and `ok` are there: `ok` is stored first
+  -- stores a received value and `ok`; `ok` is stored first
   abbrev pub stores_pair : Tables → Scope → List ℕ → List ℕ → Env → List Value → World → W.Part Env
   stores_pair t s n m env (v ∷ (ok ∷ [])) w =
       bind (store taking env (name_place t s m env) (ok ∷ []) w) (λ e u. store taking e (name_place t s n e) (v ∷ []) u)
   stores_pair t s n m env _ w = unfit w
 
-  -- names left of `:=`: one that is there already is assigned, and another is declared
+  -- names left of `:=`: a known name is assigned, and a new one is declared
 
   abbrev pub stores_unless : Bool → Tables → Scope → List ℕ → Env → Value → World → W.Part Env
   stores_unless true t s n env v w = W.Part.Gives env w
@@ -243,7 +243,7 @@ module _ (taking : Taking) where
   abbrev pub argument : Tables → ℕ → Scope → Env → Expr → Argument
   argument t l s env e = record { meaning = (judge_at l s e).meaning; value = value_at t l s e env }
 
-  -- the next function that is made has this number
+  -- begins a call by `go` or `defer`; the next function that is made has the number `next`
   abbrev pub beginning : (ℕ → ℕ → Instr) → ℕ → Operand → List K.Argument → List Value → Gives
   beginning begin next (operand.Function k) xs = visible taking (begin (k + 1) (length xs)) []
   beginning begin next (operand.Method k) xs = visible taking (begin (k + 1) (length xs + 1)) []
@@ -285,7 +285,7 @@ module _ (taking : Taking) where
       (λ env u. ends_here (otherwise.deed (within 1 (past a (x.lay (within 2 a) s)))
       (behind s (x.walk s)) n env u)))
 
-  -- Loops: at most so many turns are begun; a turn begins with the look at the condition.
+  -- Loops: at most n rounds begin, and each round begins with the test of the condition.
 
   abbrev pub while : Tables → ℕ → Expr → Deed → Deed
   while t l test d a s n env w = turns n (after_test t l test d a s n) env w

@@ -1,10 +1,13 @@
-//! The meaning of statements.
+//! The meaning of statements, and that their code does the same.
+//!
+//! The main word is `Deed`: what a statement does in an environment, where each loop begins a
+//! bounded number of rounds.
 #![tactic(auto)]
 
 ghost use Rattle.golf_meaning_source.specs.Operations.{Taking};
 ghost use Rattle.golf_meaning_statements.specs.Laws.{StatementsMean};
 
-/// The code of a statement does what the statement does, whichever way answers are taken.
+/// States that the code of a statement does what the statement does, however answers are taken.
 pub fn statements_mean()
     ensures { (taking : Taking) → StatementsMean taking }
 {}

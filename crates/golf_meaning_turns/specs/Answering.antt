@@ -14,21 +14,21 @@ use Rattle.golf_meaning_turns.specs.Stepping.{is_inner}
 use Rattle.golf_meaning_turns.specs.Life.{Now, Life}
 use Rattle.golf_meaning_turns.specs.Turning.{choice_of}
 
--- how many operands an operation takes, a choice those of all its cases
+-- how many operands an operation takes; a choice takes those of all its cases
 abbrev pub operands_taken : Instr → ℕ
 operands_taken (Instr.Select cases otherwise) = cases_taken cases
 operands_taken i = taken i
 
--- the instruction at a place shows this operation, and an answer with this clause leads to that place
+-- the instruction at a place shows this operation, and after an answer with this clause the call goes on at `to`
 abbrev pub LeadsTo : Instr → ℕ → Instr → ℕ → ℕ → Type 0
 LeadsTo (Instr.Select cases otherwise) at shown clause to = (shown ≡ choice_of cases otherwise)
     × (clause_of (lower (targets cases otherwise)) clause cases otherwise ≡ Some to)
 LeadsTo Instr.Panic at shown clause to = ⊥
 LeadsTo i at shown clause to = (is_inner i ≡ false) × (shown ≡ i) × (clause ≡ 0) × (to ≡ at + 1)
 
--- An operation and its answer, by these types and by what is known of objects: an instruction fits the shape of its
--- place, which has the types of the operands, of which there are as many as it takes; the answer leads to a place whose
--- shape has the types of its values, and below both are the same values.
+-- An operation and its answer fit their instruction. The instruction fits the shape of its place, which has the types
+-- of the operands, and it takes that many operands. The shape of the place where the answer goes on has the types of
+-- its values. The operands below are the same at both places.
 pub record AnswerFits (types : Types) (known : List (ℕ × ValueType)) (ft : FunctionTypes) (o : Operation)
     (a : Answer) : Type 0 where
   pub at : ℕ
@@ -45,13 +45,13 @@ pub record AnswerFits (types : Types) (known : List (ℕ × ValueType)) (ft : Fu
   pub operands : ValuesFit types known (pushed o.operands rest) before.operands
   pub values : ValuesFit types known (pushed a.values rest) later.operands
 
--- each answer, with its operation; at most as many answers as operations
+-- each answer has the property with its operation; there are at most as many answers as operations
 abbrev pub Answers : (Operation → Answer → Type 0) → List Operation → List Answer → Type 0
 Answers P os [] = Unit {0}
 Answers P [] (a ∷ got) = ⊥
 Answers P (o ∷ os) (a ∷ got) = P o a × Answers P os got
 
--- so it is of each answer that a call got whose function fits its types
+-- each answer of a call fits its operation, if the function fits its types
 abbrev pub AnswersAreTyped : Type 0
 AnswersAreTyped = (types : Types) (known : List (ℕ × ValueType)) (fn : Function) (ft : FunctionTypes)
     (arguments : List Value) (os : List Operation) (got : List Answer) (now : Now) → FunctionFits types fn ft

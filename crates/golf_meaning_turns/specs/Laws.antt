@@ -18,7 +18,7 @@ use Rattle.golf_meaning_flat.specs.Flat.{targets, exec}
 use Rattle.golf_meaning_turns.specs.Stepping.{stepped, frame_of, is_inner, IsTurn}
 use Rattle.golf_meaning_turns.specs.Showing.{split_from, ComesBy, GoOn, Chooses, IsAwake}
 
--- as many slots, and the same values in those that are needed at a place
+-- the same number of slots, and the same values in the slots that are needed at a place
 abbrev pub AlikeAt : List CodeLine → ℕ → List Value → List Value → Type 0
 AlikeAt body at xs ys = (length xs ≡ length ys) × ((i : ℕ) → Needed body i at → slice_get xs i ≡ slice_get ys i)
 
@@ -31,24 +31,24 @@ abbrev pub InnerTurns : Type 0
 InnerTurns = (gives : List Bool) (code : Code) (i : Instr) (a : Actor) (choice : ℕ) (s : State) → is_inner i ≡ true
     → IsTurn a (λ w. stepped gives (doing gives i) a.frame.at (frame_of a.frame) w) (changes code i a choice s)
 
--- the place after the instruction; who waits there goes on there
+-- the place is the one after the instruction; a goroutine that waits is served to go on there
 abbrev pub After : Actor → ℕ → Type 0
 After a to = to ≡ a.frame.at + 1
 
 abbrev pub WaitsAfter : Actor → ℕ → List Wait → Type 0
 WaitsAfter a to ws = (to ≡ a.frame.at + 1) × GoOn ws
 
--- what the turn of a visible instruction that has no targets comes to
+-- the outcome of the turn of a visible instruction that has no targets
 abbrev pub VisibleTurns : Type 0
 VisibleTurns = (code : Code) (i : Instr) (a : Actor) (choice : ℕ) (s : State) → is_inner i ≡ false
     → ((cases : List SelectCase) (otherwise : Option ℕ) → i ≡ Instr.Select cases otherwise → ⊥) → IsAwake s a.number
     → ComesBy code s a i (After a) (WaitsAfter a) (split_from (taken i) [] a.frame.operands) (changes code i a choice s)
 
--- who waits for a choice goes on at the target of a case; if it stands at a target already, it goes on there
+-- a goroutine that waits for a choice goes on at the target of a case; if it is at a target already, it goes on there
 abbrev pub WaitsFor : List ℕ → ℕ → List Wait → Type 0
 WaitsFor ts to ws = (In to ts × GoOn ws) ⊎ Chooses ts ws
 
--- what the turn of a choice comes to: it goes on at one of the targets
+-- the outcome of the turn of a choice: it goes on at one of the targets
 abbrev pub ChoosingTurns : Type 0
 ChoosingTurns = (code : Code) (cases : List SelectCase) (otherwise : Option ℕ) (a : Actor) (choice : ℕ) (s : State)
     → IsAwake s a.number

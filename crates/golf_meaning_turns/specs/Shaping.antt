@@ -5,7 +5,7 @@ use Rattle.golf_model_typing.specs.Types.{ValueType, Shape, Signature, FunctionT
 use Rattle.golf_model_typing.specs.Shapes.{FunctionFits}
 use Rattle.golf_meaning_flat.specs.Doing.{Frame}
 
--- the shapes of the places of a function, by these types, and by what is known of objects
+-- the shapes of the places of a function, with the types of the code and of the known objects
 pub record Shaping : Type 0 where
   pub types : Types
   pub known : List (ℕ × ValueType)
@@ -17,7 +17,7 @@ IsShaped None at c = Unit {0}
 IsShaped (Some shaping) at c = (sh : Shape) × (slice_get shaping.shapes at ≡ Some sh)
     × ValuesFit shaping.types shaping.known c.operands sh.operands
 
--- the function fits these types, and has these shapes
+-- the function fits these types and has these shapes
 abbrev pub FitsShaping : Function → Option Shaping → Type 0
 FitsShaping fn None = ⊥
 FitsShaping fn (Some shaping) = (ft : FunctionTypes) × (ft.shapes ≡ shaping.shapes) × FunctionFits shaping.types fn ft

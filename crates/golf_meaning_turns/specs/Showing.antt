@@ -1,4 +1,4 @@
--- What a visible operation comes to in the goroutine that does it.
+-- The outcome of a visible operation in the goroutine that does it.
 use Rattle.std.specs.Prelude.{◌≡◌, ℕ, zero, suc, true, false, List, [], ◌∷◌, ◌++◌, Option, Some, None, ◌⊎◌, slice_get}
 use Rattle.golf_theory.specs.Membership.{In, Every}
 use Rattle.golf_data.specs.declared.value.Value.{Value}
@@ -19,7 +19,7 @@ use Rattle.golf_model.specs.Changes.{Change}
 use Rattle.golf_model.specs.Acting.{Actor, with_frames, stands, panics, dies, blocks}
 use Rattle.golf_meaning_flat.specs.Worlds.{pushed}
 
--- so many operands in source order, and those below them; none if there are fewer
+-- n operands in source order, and the operands below them; none if there are fewer
 abbrev pub split_from : ℕ → List Value → List Value → Option (List Value × List Value)
 split_from zero taken rest = Some (taken, rest)
 split_from (suc n) taken [] = None
@@ -37,7 +37,7 @@ abbrev pub GoesOnAs : Side → Waiter → GoroutineView → Type 0
 GoesOnAs side w r = ((values : List Value) × (r ≡ resumed w.wait values w.goroutine))
     ⊎ (IsOfLock side × (r ≡ released w.goroutine))
 
--- the goroutine of this number is a waiter of the state, and goes on as this one
+-- the goroutine of this number is a waiter of the state, and goes on as this goroutine
 abbrev pub Serves : State → ℕ → GoroutineView → Type 0
 Serves s h r = (o : ℕ) × (side : Side) × (w : Waiter) × In w (waiters o side s.goroutines) × (w.number ≡ h)
     × GoesOnAs side w r
@@ -46,7 +46,7 @@ Serves s h r = (o : ℕ) × (side : Side) × (w : Waiter) × In w (waiters o sid
 abbrev pub WaitsOnCondition : State → ℕ → Type 0
 WaitsOnCondition s h = (o : ℕ) × (w : Waiter) × In w (waiters o Side.Cond s.goroutines) × (w.number ≡ h)
 
--- a change of another goroutine, which is a waiter, or of none
+-- a change that is not of goroutine g; a goroutine that it changes is a waiter
 abbrev pub IsOther : State → ℕ → Change → Type 0
 IsOther s g (Change.Make x) = Unit {0}
 IsOther s g (Change.Replace o x) = Unit {0}
@@ -70,7 +70,7 @@ AreOthers s g cs = Every (IsOther s g) cs
 abbrev pub stood : Actor → ℕ → List Value → FrameView
 stood a to operands = record a.frame { at = to; operands = operands }
 
--- a goroutine that is started by this one on its first frame
+-- the goroutine that this actor starts, with its first frame
 abbrev pub started_on : Actor → FrameView → GoroutineView
 started_on a x = record { frames = x ∷ []; mode = Mode.Running; started = a.line }
 
@@ -80,10 +80,13 @@ CalledBy (Instr.Call f n) g = f ≡ g
 CalledBy (Instr.Go f n) g = f ≡ g
 CalledBy _ g = ⊥
 
--- What an operation comes to, with its operands, and with these below them. No rule fits; or it is answered at once,
--- and the goroutine goes on at a place to which answers lead; or it waits, in queues or for the function that it calls;
--- or it starts a goroutine on the function; or the call is deferred; or it has no answer, since the goroutine panics or
--- the program ends.
+-- The outcome of an operation with its operands, and with `rest` below them:
+--   no rule fits;
+--   it is answered at once, and the goroutine goes on at a place where answers go on;
+--   it waits, in wait queues or for the function that it calls;
+--   it starts a goroutine on a function;
+--   it defers a call;
+--   it has no answer, since the goroutine panics or the program ends.
 pub data ComesTo (code : Code) (s : State) (a : Actor) (i : Instr) (operands rest : List Value) (Answering : ℕ → Type 0)
     (Waiting : ℕ → List Wait → Type 0) (cs : List Change) : Type 0 where
   NoRule : cs ≡ [] → ComesTo code s a i operands rest Answering Waiting cs
@@ -105,21 +108,21 @@ pub data ComesTo (code : Code) (s : State) (a : Actor) (i : Instr) (operands res
   Panics : (kind : PanicKind) → cs ≡ panics a kind → ComesTo code s a i operands rest Answering Waiting cs
   Dies : (kind : PanicKind) → cs ≡ dies a kind → ComesTo code s a i operands rest Answering Waiting cs
 
--- with too few operands no rule fits
+-- the same; with too few operands no rule fits
 abbrev pub ComesBy : Code → State → Actor → Instr → (ℕ → Type 0) → (ℕ → List Wait → Type 0)
     → Option (List Value × List Value) → List Change → Type 0
 ComesBy code s a i Answering Waiting None cs = cs ≡ []
 ComesBy code s a i Answering Waiting (Some o) cs = ComesTo code s a i o.0 o.1 Answering Waiting cs
 
--- who is served there goes on where it stands
+-- a goroutine that is served for one of these waits goes on where it stands
 abbrev pub GoOn : List Wait → Type 0
 GoOn ws = Every (λ (w : Wait). w.target ≡ None) ws
 
--- who is served there goes on at one of these places, and is served by a channel
+-- a goroutine that is served for one of these waits goes on at one of these places, and a channel serves it
 abbrev pub Chooses : List ℕ → List Wait → Type 0
 Chooses ts ws = Every (λ (w : Wait). (t : ℕ) × (w.target ≡ Some t) × In t ts
     × ((w.side ≡ Side.Send) ⊎ (w.side ≡ Side.Receive))) ws
 
--- the goroutine is in no queue
+-- the goroutine is in no wait queue
 abbrev pub IsAwake : State → ℕ → Type 0
 IsAwake s g = (o : ℕ) (side : Side) (w : Waiter) → In w (waiters o side s.goroutines) → w.number ≡ g → ⊥

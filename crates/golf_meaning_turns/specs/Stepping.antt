@@ -11,7 +11,7 @@ use Rattle.golf_meaning_flat.specs.Worlds.{Operation, Misfit, Halt, Told, World,
 use Rattle.golf_meaning_flat.specs.Doing.{Frame, Doing}
 use Rattle.golf_meaning_flat.specs.Flat.{targets, lower, picks, tests, Next}
 
--- it goes on at a place, or halts
+-- the code goes on at a place, or halts
 pub data Stepped : Type 0 where
   Goes : (at : ℕ) (c : Frame) (w : World) → Stepped
   Halts : (h : Halt) (os : List Operation) → Stepped
@@ -35,7 +35,7 @@ then_next (Stepped.Halts h os) next = halted h os
 abbrev pub frame_of : FrameView → Frame
 frame_of f = record { slots = f.slots; operands = f.operands }
 
--- an instruction that shows nothing
+-- whether an instruction shows nothing
 abbrev pub is_inner : Instr → Bool
 is_inner (Instr.Int n) = true
 is_inner (Instr.Bool b) = true
@@ -63,8 +63,8 @@ is_inner Instr.Return = true
 is_inner Instr.ReturnValue = true
 is_inner i = false
 
--- The changes of a turn are what the step says in every world, and nothing is shown: the frame goes on there; it
--- returns that value; it panics at a zero divisor; or no rule fits.
+-- The changes of a turn are what the step says in every world, and nothing is shown: the frame goes on, it returns a
+-- value, it panics at a zero divisor, or no rule fits.
 pub data IsTurn (a : Actor) (step : World → Stepped) (cs : List Change) : Type 0 where
   GoesOn : (to : ℕ) (d : Frame) → ((w : World) → step w ≡ Stepped.Goes to d w)
       → cs ≡ stands a (record a.frame { at = to; slots = d.slots; operands = d.operands }) → IsTurn a step cs

@@ -30,12 +30,12 @@ operation i vs = record { instr = i; operands = vs }
 abbrev pub answer : ℕ → List Value → Answer
 answer clause values = record { clause = clause; values = values }
 
--- in an operation each target of a `select` is the place of its clause
+-- the operation of a `select`: each target is the place of its clause
 abbrev pub choice_of : List SelectCase → Option ℕ → Instr
 choice_of cases otherwise = Instr.Select (map (relabelled (lower (targets cases otherwise))) cases)
     (option_map (lower (targets cases otherwise)) otherwise)
 
--- an operation that waits for its answer: the targets of a `select`, or none; and the operands below its own
+-- an operation that waits for its answer: the targets of a `select`, none for any other; and the operands below its own
 pub record Asked : Type 0 where
   pub ranks : List ℕ
   pub rest : List Value
@@ -54,7 +54,7 @@ shows (Instr.Select cases otherwise) os =
     choice_shown (choice_of cases otherwise) (targets cases otherwise) (split_from (cases_taken cases) [] os)
 shows i os = cond (is_inner i) None (plain_shown i (split_from (taken i) [] os))
 
--- How a call ends with an instruction at this place. Which functions give a value decides nothing of it.
+-- How a call ends with an instruction at this place. It does not matter which functions give a value.
 abbrev pub ended_by : Stepped → Option Halt
 ended_by (Stepped.Halts (Halt.Returned v) os) = Some (Halt.Returned v)
 ended_by (Stepped.Halts Halt.Divided os) = Some Halt.Divided
@@ -63,8 +63,8 @@ ended_by _ = None
 abbrev pub ends_with : Instr → ℕ → Frame → Option Halt
 ends_with i at c = ended_by (stepped [] (doing [] i) at c (world [] []))
 
--- the call has shown one operation more, and waits for its answer; whatever values it is answered with, it lives on at
--- each place to which answers lead, if its frame has the shape of that place
+-- the call has shown one more operation, and waits for its answer; with any values it lives on at each place where
+-- answers go on, if its frame has the shape of that place
 pub record Asking (fn : Function) (shaping : Option Shaping) (arguments : List Value) (shown : List Operation)
     (got : List Answer) (o : Operation) (a : Actor) (rest : List Value) (Answering : ℕ → Type 0)
     (clause : ℕ → ℕ) : Type 0 where
@@ -74,8 +74,8 @@ pub record Asking (fn : Function) (shaping : Option Shaping) (arguments : List V
       → Life fn shaping arguments (shown ++ o ∷ []) (got ++ answer (clause to) values ∷ [])
       (Now.Stands to (frame a.frame.slots (pushed values rest)))
 
--- What a turn is in the life of a call. It shows nothing, and the call stands there; it returns or divides by zero; no
--- rule fits; it shows an operation, of a `select` or another, and the changes are what comes of it; or it panics.
+-- What a turn is in the life of a call: it shows nothing; it returns or divides by zero; no rule fits; it shows an
+-- operation, of a `select` or another, and the changes are an outcome of the operation; or it panics.
 pub data IsLived (code : Code) (s : State) (fn : Function) (shaping : Option Shaping) (arguments : List Value)
     (shown : List Operation) (got : List Answer) (a : Actor) (i : Instr) (m : Option (Operation × Asked))
     (e : Option Halt) (cs : List Change) : Type 0 where

@@ -1,7 +1,8 @@
-//! The turns of the plain machine and the meaning of flat code: what a turn does in a frame is one
-//! step of the meaning of its function.
+//! The turns of the plain machine and the meaning of flat code agree: a turn in a frame is one step of the meaning of
+//! the frame's function.
 //!
-//! Each function here has one law as its contract.
+//! The main word is `Life`: the operations that a call has shown, and the answers that it got. Each function here has
+//! one law as its contract.
 #![tactic(auto)]
 
 ghost use Rattle.golf_meaning_turns.specs.Answering.{AnswersAreCounted, AnswersAreTyped};
@@ -9,45 +10,47 @@ ghost use Rattle.golf_meaning_turns.specs.Laws.{ChoosingTurns, InnerTurns, Neede
 ghost use Rattle.golf_meaning_turns.specs.Life.{LivesMean};
 ghost use Rattle.golf_meaning_turns.specs.Turning.{TurnsAreLived};
 
-/// A slot that is not needed at a place decides nothing of what the code means from there on.
+/// States that a slot that is not needed at a place does not affect the meaning of the code from there on.
 pub fn needed_slots_decide()
     ensures { NeededDecide }
 {}
 
-/// The turn of an instruction that shows nothing is one step of the meaning.
+/// States that the turn of an instruction that shows nothing is one step of the meaning.
 pub fn inner_turns_mean()
     ensures { InnerTurns }
 {}
 
-/// The turn of a visible instruction without targets takes its operands, and is answered at once,
-/// waits, calls, defers, panics or ends the program; it changes no other frame of its goroutine.
+/// States the outcome of the turn of a visible instruction without targets.
+///
+/// The turn takes the operands. Then the operation is answered at once, waits, calls, defers, panics or ends the
+/// program. The turn changes no other frame of its goroutine.
 pub fn visible_turns_show()
     ensures { VisibleTurns }
 {}
 
-/// The turn of a `select` takes the operands of all cases, and goes on at one of its targets, or
-/// waits for one.
+/// States that the turn of a `select` takes the operands of all cases. It goes on at one of the targets, or waits for
+/// one.
 pub fn choosing_turns_show()
     ensures { ChoosingTurns }
 {}
 
-/// With the answers that a call got, its code means the operations that the call has shown.
+/// States that with the answers that a call got, its code means the operations that the call has shown.
 pub fn lives_mean()
     ensures { LivesMean }
 {}
 
-/// A turn of the machine on the frame of a call is one step of the call's life.
+/// States that a turn of the machine on the frame of a call is one step of the call's life.
 pub fn turns_are_lived()
     ensures { TurnsAreLived }
 {}
 
-/// Each answer that a call got has the types that its operation leaves, if the function fits its types:
-/// those of the shape of the place to which the answer leads.
+/// States that each answer of a call has the types that its operation leaves, if the function fits its types. They are
+/// the types of the shape at the place where the call goes on.
 pub fn answers_are_typed()
     ensures { AnswersAreTyped }
 {}
 
-/// An answer that fits its operation has as many values as the operation leaves.
+/// States that an answer that fits its operation has as many values as the operation leaves.
 pub fn answers_are_counted()
     ensures { AnswersAreCounted }
 {}

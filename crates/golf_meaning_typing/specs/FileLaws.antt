@@ -17,15 +17,15 @@ use Rattle.golf_meaning_functions.specs.Files.{function_count, taking_in, meanin
 use Rattle.golf_meaning_typing.specs.Flowing.{EndSound}
 use Rattle.golf_meaning_typing.specs.Laws.{ArgumentsFit}
 
--- the types of receiver and parameters of the function at this place among these
+-- the types of receiver and parameters of the k-th function of these declarations
 abbrev pub parameters_at : Scope → List Decl → ℕ → List (Option GoType)
 parameters_at file [] k = []
 parameters_at file (d.Func f ∷ xs) zero = parameter_slots file f
 parameters_at file (d.Func f ∷ xs) (suc k) = parameters_at file xs k
 parameters_at file (x ∷ xs) k = parameters_at file xs k
 
--- For each function and method, with arguments of the types of its parameters: its meaning lacks no rule. If kinds are
--- looked at in answers, it is unfit by an answer alone; if not, it needs no more than as many arguments.
+-- For each function and method, with arguments of the types of its parameters, the meaning lacks no rule. If kinds are
+-- looked at in answers, it is unfit only by an answer; if not, only the number of arguments matters.
 abbrev pub MeaningsSound : File → Type 0
 MeaningsSound file =
     (strict : Bool) (k : ℕ) (arguments : List Value) (answers : List Answer) (n : ℕ)
@@ -33,7 +33,7 @@ MeaningsSound file =
     → ArgumentsFit (taking_in file strict) (parameters_at (outside (scope_of file)) file.declarations k) arguments
     → EndSound strict (meaning_of strict file (suc k) arguments answers n).end
 
--- so it is in a well-formed file that breaks no rule, and whose names fit
+-- this holds in a well-formed file that breaks no rule and whose names fit
 abbrev pub FilesFit : Type 0
 FilesFit = (file : File) → Typed file → list_all decl_good file.declarations ≡ true
     → NamesFit (tables_of file.declarations) (scope_of file) file.declarations → MeaningsSound file

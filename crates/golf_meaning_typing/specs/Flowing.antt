@@ -22,8 +22,8 @@ abbrev pub Never : Env → Type 0
 Never env = ⊥
 
 module _ (taking : Taking) where
-  -- no rule is lacking; and if a flow goes on, this holds of the names on the way on, on `break`, on `continue` and
-  -- past what a condition guards
+  -- no rule is lacking; and if the flow goes on, its environment has the property for its course: on, `break`,
+  -- `continue`, or past the guarded statements
   abbrev pub Fitting : (Env → Type 0) → (Env → Type 0) → (Env → Type 0) → (Env → Type 0) → Flow → Type 0
   Fitting K B C S (Flow.Goes Course.On env w) = K env
   Fitting K B C S (Flow.Goes Course.Breaks env w) = B env
@@ -31,20 +31,19 @@ module _ (taking : Taking) where
   Fitting K B C S (Flow.Goes Course.Skips env w) = S env
   Fitting K B C S (Flow.Ends t) = EndSound taking.strict t.end
 
-  -- the names of these locals come first, with values of their types
+  -- the environment begins with these locals, with values of their types
   abbrev pub Begins : List Local → Env → Type 0
   Begins ds env = (more : List Local) × NamesFit taking (ds ++ more) env
 
-  -- such a way stands open, and the names of these locals come first
+  -- the course is allowed, and the environment begins with these locals
   abbrev pub Out : Bool → List Local → Env → Type 0
   Out b ds env = (b ≡ true) × Begins ds env
 
-  -- from this scope a flow goes on to names of these locals; `break` and `continue` come only if the scope lets them
+  -- a flow from this scope goes on with these locals; `break` and `continue` come only if the scope allows them
   abbrev pub FlowFits : Scope → List Local → Flow → Type 0
   FlowFits s after = Fitting (NamesFit taking after) (Out s.breaks s.locals) (Out s.loops s.locals) Never
 
-  -- if names have values of their types, what a statement does that breaks no rule lacks no rule, and after it names
-  -- have values of their types
+  -- a statement that breaks no rule lacks no rule, if names have values of their types; after it they have them, too
   abbrev pub StatementFits : Types → Tables → Walk → Deed → Type 0
   StatementFits types t walk d =
       (a : Around) (s : Scope) (n : ℕ) (env : Env) (w : World) → FileTaken taking types t s.file

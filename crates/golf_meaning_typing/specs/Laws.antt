@@ -1,4 +1,4 @@
--- The laws of meanings that break no rule of types, as statements.
+-- The laws of meanings that break no typing rule, as statements.
 use Rattle.std.specs.Prelude.{◌≡◌, ℕ, true, [], ◌∷◌, ◌++◌, List, Option}
 use Rattle.golf_syntax_trees.specs.declared.expressions.Expr.{Expr}
 use Rattle.golf_syntax_trees.specs.declared.expressions.UnaryOperator.{UnaryOperator}
@@ -33,7 +33,7 @@ use Rattle.golf_meaning_typing.specs.Sound.{Sound, IsOf, YieldsBy, Shown, Held, 
 use Rattle.golf_meaning_typing.specs.Meets.{Meets}
 
 module _ (taking : Taking) where
-  -- what stands as a value gives a value
+  -- if the operand can be used as a value, it gives one
   abbrev pub Fits : ℕ → Judged → Gives → Type 0
   Fits l j f = used l j ≡ [] → YieldsBy taking (given_by j) f
 
@@ -46,7 +46,7 @@ module _ (taking : Taking) where
   BinaryFits = (l : ℕ) (o : BinaryOperator) (j k : Judged) (f g : Gives) → Fits l j f → Fits l k g
       → (binary_judged l o j k).faults ≡ [] → Shown taking (binary_judged l o j k).meaning (binary_does o f g)
 
-  -- an element of a slice is read
+  -- reads an element of a slice
   abbrev pub IndexFits : Type 0
   IndexFits = (l : ℕ) (j k : Judged) (f g : Gives) (env : Env) → Fits l j f → Fits l k g
       → (index_judged l j k).faults ≡ [] → Shown taking (index_judged l j k).meaning
@@ -55,13 +55,13 @@ module _ (taking : Taking) where
   abbrev pub OperatorsFit : Type 0
   OperatorsFit = UnaryFits × BinaryFits × IndexFits
 
-  -- a name that stands as a value gives the value that it has, if names mean what the types of the code say
+  -- a name that is used as a value gives its value, if names mean what the types of the code say
   abbrev pub NamesGive : Type 0
   NamesGive = (types : Types) (t : Tables) (l : ℕ) (s : Scope) (env : Env) (n : List ℕ)
       → FileTaken taking types t s.file → NamesFit taking s.locals env
       → Fits l (named l s n) ((name_does taking t (is_blank n) n (outer s n)).value env)
 
-  -- a condition that breaks no rule is one value, of the truth values
+  -- a condition that breaks no rule gives one truth value
   abbrev pub IsTruth : List Value → Type 0
   IsTruth vs = (v : Value) × (vs ≡ v ∷ []) × IsOf taking ValueType.Bool v
 
@@ -69,7 +69,7 @@ module _ (taking : Taking) where
   ConditionsDecide = (l : ℕ) (j : Judged) (f : Gives) → Fits l j f → used l j
       ++ broken l 8 (has_base base.Bool (given_by j)) ≡ [] → (w : World) → Sound taking IsTruth (f w)
 
-  -- if names have values of their types, what an expression gives that breaks no rule is what it is
+  -- an expression that breaks no rule gives what its judgment says, if names have values of their types
   abbrev pub ExpressionFits : Types → Tables → Judge → (ℕ → Scope → Does) → Type 0
   ExpressionFits types t j d =
       (l : ℕ) (s : Scope) (env : Env) → FileTaken taking types t s.file → NamesFit taking s.locals env
@@ -79,7 +79,7 @@ module _ (taking : Taking) where
   abbrev pub ExpressionsFit : Type 0
   ExpressionsFit = (types : Types) (t : Tables) (e : Expr) → ExpressionFits types t (judge e) (meant taking t e).does
 
-  -- what a well-formed statement does that breaks no rule lacks no rule
+  -- a well-formed statement that breaks no rule lacks no rule
   abbrev pub StatementsFit : Type 0
   StatementsFit = (types : Types) (t : Tables) (x : Stmt) → (stmt_form x).good ≡ true
       → StatementFits taking types t (walk x) (step taking t x).deed

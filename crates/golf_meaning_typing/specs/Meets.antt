@@ -1,4 +1,4 @@
--- What expressions give, by what they are: values of their types, and places that hold such values.
+-- What expressions give, by their judgments: values of their types, and places that hold such values.
 use Rattle.std.specs.Prelude.{◌≡◌, ℕ, List, [], ◌∷◌, ◌++◌, length, Option, Some, None}
 use Rattle.golf_data.specs.declared.value.Value.{Value}
 use Rattle.golf_check_types.specs.declared.types.Base.{Base}
@@ -18,12 +18,12 @@ use Rattle.golf_meaning_source.specs.Exprs.{Location, read, store}
 use Rattle.golf_meaning_typing.specs.Sound.{Sound, Yields, NamesFit, IsOf}
 
 module _ (taking : Taking) where
-  -- so many values
+  -- gives n values
   abbrev pub Many : ℕ → Gives → Type 0
   Many n f = (w : World) → Sound taking (λ vs. length vs ≡ n) (f w)
 
-  -- a place of this type, told by so many values: it is read, and a value of the type is stored, after which the names
-  -- have values of their types still
+  -- a place of this type, named by `told` values: it can be read, and a value of the type can be stored, after which
+  -- the names still have values of their types
   pub record Placed (ds : List Local) (env : Env) (u : ValueType) (place : Location) (tells : Gives) : Type 0 where
     pub told : ℕ
     pub parts : Many told tells
@@ -37,7 +37,7 @@ module _ (taking : Taking) where
   Receives (Some b) f = Many 1 f
 
   module _ (types : Types) (t : Tables) (ds : List Local) (f : FileScope) (env : Env) where
-    -- what is given as the value of an expression, its place, and what tells the place, by what the expression is
+    -- the value of an expression, its place and the operands that name the place fit the expression's judgment
     abbrev pub Meets : Operand → Gives → Location → Gives → Type 0
     Meets (operand.Value (Some e)) v p q = Yields taking (value_type e) v
     Meets (operand.Outcome (Some e)) v p q = Yields taking (value_type e) v

@@ -18,15 +18,15 @@ use Rattle.golf_meaning_flat.specs.Worlds.{Misfit, Halt, World, Part}
 use Rattle.golf_meaning_source.specs.Names.{Env}
 use Rattle.golf_meaning_source.specs.Operations.{Taking, Gives, is_unit, is_nilable, all_fit}
 
--- No rule is lacking at a halt; and it is unfit by a kind only where kinds are looked at: in an answer if it is strict,
--- and else where a value is used.
+-- No rule is lacking at a halt. A halt is unfit by a kind only where kinds are looked at: in an answer if the taking is
+-- strict, and otherwise where a value is used.
 abbrev pub HaltSound : Bool → Halt → Type 0
 HaltSound strict (Halt.Unfit Misfit.OfAnswer) = strict ≡ true
 HaltSound strict (Halt.Unfit Misfit.OfKind) = strict ≡ false
 HaltSound strict (Halt.Unfit Misfit.OfRule) = ⊥
 HaltSound strict h = Unit {0}
 
--- a value of this type, by its kind
+-- whether a value is of this type, by its kind
 abbrev pub is_of : ValueType → Value → Bool
 is_of ValueType.Int v = is_some (int_of v)
 is_of ValueType.Bool v = is_some (bool_of v)
@@ -41,12 +41,12 @@ is_of (ValueType.Slice e) v = is_nilable v
 is_of (ValueType.Chan e) v = is_nilable v
 
 module _ (taking : Taking) where
-  -- no rule is lacking; and of what it gives this holds
+  -- no rule is lacking, and K holds of the result
   abbrev pub Sound : {A : Type 0} → (A → Type 0) → Part A → Type 0
   Sound K (Part.Gives a w) = K a
   Sound K (Part.Stops h os) = HaltSound taking.strict h
 
-  -- a value of this type, if kinds are looked at in answers
+  -- the value is of this type; this is asked only if kinds are looked at in answers
   abbrev pub IsOf : ValueType → Value → Type 0
   IsOf u v = taking.strict ≡ true → is_of u v ≡ true
 
@@ -60,17 +60,17 @@ module _ (taking : Taking) where
   One u (v ∷ []) = IsOf u v
   One u (v ∷ (x ∷ vs)) = ⊥
 
-  -- in every world it gives one value of this type
+  -- gives one value of this type in every world
   abbrev pub Yields : ValueType → Gives → Type 0
   Yields u f = (w : World) → Sound (One u) (f w)
 
-  -- what is given as this gives one value of its type; nil is of each type that takes it
+  -- gives one value of the given type; nil is of each type that has nil
   abbrev pub YieldsBy : Given → Gives → Type 0
   YieldsBy (given_as.Typed e) f = Yields (value_type e) f
   YieldsBy given_as.Nil f = (u : ValueType) → IsNilable u → Yields u f
   YieldsBy given_as.Unknown f = ⊥
 
-  -- an operand that is a value
+  -- the operand is a value
   abbrev pub Shown : Operand → Gives → Type 0
   Shown (operand.Value (Some e)) f = Yields (value_type e) f
   Shown (operand.Outcome (Some e)) f = Yields (value_type e) f
@@ -82,7 +82,7 @@ module _ (taking : Taking) where
   Held None v = ⊥
   Held (Some e) v = IsOf (value_type e) v
 
-  -- the names have values of the types of the locals, which are known
+  -- the environment has the names of the locals, with values of their types, which are known
   abbrev pub NamesFit : List Local → Env → Type 0
   NamesFit [] [] = Unit {0}
   NamesFit [] (x ∷ xs) = ⊥
@@ -90,7 +90,7 @@ module _ (taking : Taking) where
   NamesFit (d ∷ ds) (x ∷ xs) = (x.name ≡ d.name) × Held d.of_type x.value × NamesFit ds xs
 
   -- The names of a file mean what the types of the code say, and an answer to a call is taken to have a value exactly
-  -- when its function gives one.
+  -- when the function gives one.
   pub record FileTaken (types : Types) (t : Tables) (f : FileScope) : Type 0 where
     pub fits : FileFits types t f
     pub counts : (k : ℕ) (callee : Signature) → slice_get types.functions k ≡ Some callee

@@ -1,6 +1,9 @@
-//! The meaning of a file that breaks no rule of types lacks no rule: that of its expressions,
-//! conditions, statements and functions. If kinds are looked at in answers, it is unfit by an answer
-//! alone; if not, by how many values an answer has, or by the kind of a value where it is used.
+//! The meaning of a file that breaks no typing rule lacks no rule: that of its expressions, conditions, statements and
+//! functions.
+//!
+//! Answers can be taken with or without a look at the kinds of their values. With it, a meaning is unfit only by an
+//! answer. Without it, a meaning is unfit only by the number of values of an answer, or by the kind of a value where it
+//! is used.
 #![tactic(auto)]
 
 ghost use Rattle.golf_meaning_source.specs.Operations.{Taking};
@@ -9,51 +12,54 @@ ghost use Rattle.golf_meaning_typing.specs.Laws.{OperatorsFit, StatementsFit};
 ghost use Rattle.golf_meaning_typing.specs.FileLaws.{FilesFit};
 ghost use Rattle.golf_meaning_typing.specs.WholeFileLaws.{FilesSound};
 
-/// An operator whose operands break no rule gives one value, of its type if kinds are looked at in
-/// answers.
+/// States that an operator whose operands break no rule gives one value. If kinds are looked at in answers, the value
+/// is of the operator's type.
 pub fn operators_fit()
     ensures { (taking : Taking) → OperatorsFit taking }
 {}
 
-/// A name that stands as a value and breaks no rule gives one value of its type.
+/// States that a name that is used as a value and breaks no rule gives one value of its type.
 pub fn names_give()
     ensures { (taking : Taking) → NamesGive taking }
 {}
 
-/// A condition that breaks no rule is one truth value.
+/// States that a condition that breaks no rule gives one truth value.
 pub fn conditions_decide()
     ensures { (taking : Taking) → ConditionsDecide taking }
 {}
 
-/// An expression that breaks no rule gives what it is, in every world: a value of its type, the
-/// receiver of what is called, or nothing; and a place that it names is read and stored with values
-/// of its type.
+/// States that an expression that breaks no rule gives, in every world, what its judgment says.
+///
+/// That is a value of its type, the receiver of a method, or nothing. A place that it names is read and stored with
+/// values of its type.
 pub fn expressions_fit()
     ensures { (taking : Taking) → ExpressionsFit taking }
 {}
 
-/// A well-formed statement that breaks no rule lacks no rule, from names with values of their types
-/// and in every world; after it the names have values of their types, and `break` and `continue`
-/// come only if the scope lets them.
+/// States that a well-formed statement that breaks no rule lacks no rule, in every world.
+///
+/// The names must have values of their types before it, and they have them after it. `break` and `continue` come only
+/// if the scope allows them.
 pub fn statements_fit()
     ensures { (taking : Taking) → StatementsFit taking }
 {}
 
-/// With arguments of the types of its receiver and parameters, the meaning of a function or method
-/// that breaks no rule lacks no rule, for all answers and however many turns each loop may take.
+/// States that the meaning of a function or method that breaks no rule lacks no rule, for all answers and all bounds.
+/// The arguments must be of the types of receiver and parameters.
 pub fn functions_fit()
     ensures { (taking : Taking) → FunctionsFit taking }
 {}
 
-/// So it is for each function and method of a well-formed file that breaks no rule, and whose names fit.
+/// States this for each function and method of a well-formed file that breaks no rule and whose names fit.
 pub fn files_fit()
     ensures { FilesFit }
 {}
 
-/// With arguments of the types of its receiver and parameters, for all answers and however many
-/// turns each loop may take, no rule is lacking where the meaning of a function ends. If kinds are
-/// looked at in answers, it is unfit only if an answer does not fit its operation; if not, it is
-/// unfit only by how many values an answer has, or by the kind of a value where it is used.
+/// States that the meaning of each function and method of a well-formed file that breaks no rule is sound.
+///
+/// The arguments must be of the types of receiver and parameters. For all answers and all bounds no rule is lacking. If
+/// kinds are looked at in answers, the meaning is unfit only if an answer does not fit its operation. If not, it is
+/// unfit only by the number of values of an answer, or by the kind of a value where it is used.
 pub fn meanings_sound()
     ensures { FilesSound }
 {}

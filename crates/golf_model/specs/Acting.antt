@@ -1,4 +1,5 @@
--- The goroutine whose turn it is, and the usual ways in which its turn goes.
+-- The goroutine whose turn it is, and the usual outcomes of its turn as lists of changes. The empty list means that no
+-- rule fits.
 use Rattle.std.specs.Prelude.{ℕ, ◌+◌, zero, suc, Bool, true, false, List, [], ◌∷◌, Option, Some, None, ℤ}
 use Rattle.golf_data.specs.declared.value.Value.{Value}
 use Rattle.golf_data.specs.declared.value.Object.{Object}
@@ -12,8 +13,8 @@ use Rattle.golf_model.specs.Views.{FrameView, GoroutineView}
 use Rattle.golf_model.specs.Waking.{fault, unwinding}
 use Rattle.golf_model.specs.Changes.{Change}
 
--- a goroutine with a frame, in its turn: its number, innermost frame, the frames below, the line where it was started,
--- and the line of its instruction
+-- a goroutine with a frame, in its turn: its number, its innermost frame, the frames below, the line where it was
+-- started, and the line of its instruction
 pub record Actor : Type 0 where
   pub number : ℕ
   pub frame : FrameView
@@ -25,7 +26,7 @@ pub record Actor : Type 0 where
 abbrev pub with_frames : Actor → List FrameView → GoroutineView
 with_frames a frames = record { frames = frames; mode = Mode.Running; started = a.started }
 
--- its innermost frame becomes this one
+-- the goroutine with this innermost frame in place of its own
 abbrev pub standing : Actor → FrameView → GoroutineView
 standing a f = with_frames a (f ∷ a.callers)
 
@@ -45,7 +46,7 @@ goes a operands = stands a (next a.frame operands)
 abbrev pub jumps : Actor → ℕ → List Value → List Change
 jumps a target operands = stands a (record a.frame { at = target; operands = operands })
 
--- it goes on with one value more, if there is one; else no rule fits
+-- it goes on with one more value, if there is one; else no rule fits
 abbrev pub leaves : Actor → List Value → Option Value → List Change
 leaves a operands None = []
 leaves a operands (Some v) = goes a (v ∷ operands)
@@ -62,7 +63,7 @@ dies a kind = Change.Finish (Ending.Panicked kind (record { 0 = a.number }) a.li
 abbrev pub blocks : Actor → FrameView → WaitKind → List Wait → List Change
 blocks a f kind waits = Change.Block a.number kind a.line waits (standing a f) ∷ []
 
--- what is there is acted on; else no rule fits
+-- acts on the value, if there is one; else no rule fits
 abbrev pub on_some : {X : Type 0} → (X → List Change) → Option X → List Change
 on_some act None = []
 on_some act (Some x) = act x
@@ -83,7 +84,7 @@ taking_three act (z ∷ []) = []
 taking_three act (z ∷ y ∷ []) = []
 taking_three act (z ∷ y ∷ x ∷ rest) = act x y z rest
 
--- takes so many operands as a list in source order; with fewer no rule fits
+-- takes n operands, as a list in source order; with fewer no rule fits
 abbrev pub taking_from : ℕ → List Value → (List Value → List Value → List Change) → List Value → List Change
 taking_from zero taken act rest = act taken rest
 taking_from (suc n) taken act [] = []
@@ -92,12 +93,12 @@ taking_from (suc n) taken act (v ∷ rest) = taking_from n (v ∷ taken) act res
 abbrev pub taking : ℕ → (List Value → List Value → List Change) → List Value → List Change
 taking n act operands = taking_from n [] act operands
 
--- a test chooses
+-- the first list of changes if the test holds, else the second
 abbrev pub choose : Bool → List Change → List Change → List Change
 choose true first second = first
 choose false first second = second
 
--- an operation on an object: nil panics, and what is no reference fits no rule
+-- acts on the object of a reference; nil panics, and for any other value no rule fits
 abbrev pub at_reference : Actor → (ℕ → List Change) → Value → List Change
 at_reference a act (Value.Int n) = []
 at_reference a act (Value.Bool b) = []
@@ -106,7 +107,7 @@ at_reference a act Value.Unit = []
 at_reference a act Value.Nil = panics a PanicKind.NilPointer
 at_reference a act (Value.Ref o) = act o.0
 
--- the same if nil has a rule of its own
+-- the same, with a given outcome for nil
 abbrev pub at_reference_or : List Change → (ℕ → List Change) → Value → List Change
 at_reference_or nil act (Value.Int n) = []
 at_reference_or nil act (Value.Bool b) = []
@@ -115,7 +116,7 @@ at_reference_or nil act Value.Unit = []
 at_reference_or nil act Value.Nil = nil
 at_reference_or nil act (Value.Ref o) = act o.0
 
--- an operation on an object of one kind; no rule fits another kind
+-- acts on an object of one kind; for another kind no rule fits
 abbrev pub at_struct : (List Value → List Change) → Option Object → List Change
 at_struct act None = []
 at_struct act (Some (Object.Struct fields)) = act fields

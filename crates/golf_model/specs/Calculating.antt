@@ -43,7 +43,7 @@ doubles a = taking_one (λ v rest. goes a (v ∷ v ∷ rest)) a.frame.operands
 abbrev pub doubles_two : Actor → List Change
 doubles_two a = taking_two (λ x y rest. goes a (y ∷ x ∷ y ∷ x ∷ rest)) a.frame.operands
 
--- an integer from an integer
+-- an operation that gives an integer from one integer, and one on truth values
 abbrev pub negates : Actor → List Change
 negates a = taking_one (λ x rest. on_some (λ n. goes a (Value.Int (int_wrapping_neg w64 n) ∷ rest)) (int_of x))
     a.frame.operands
@@ -51,26 +51,26 @@ negates a = taking_one (λ x rest. on_some (λ n. goes a (Value.Int (int_wrappin
 abbrev pub inverts : Actor → List Change
 inverts a = taking_one (λ x rest. on_some (λ b. goes a (Value.Bool (not b) ∷ rest)) (bool_of x)) a.frame.operands
 
--- two integers, to act on
+-- takes two integers and acts on them
 abbrev pub two_ints : (ℤ → ℤ → List Value → List Change) → List Value → List Change
 two_ints act operands = taking_two (λ x y rest. on_some (λ m. on_some (λ n. act m n rest) (int_of y)) (int_of x))
     operands
 
--- an integer from two
+-- an operation that gives an integer from two integers
 abbrev pub computes : (ℤ → ℤ → ℤ) → Actor → List Change
 computes op a = two_ints (λ m n rest. goes a (Value.Int (op m n) ∷ rest)) a.frame.operands
 
--- the same, if a zero divisor panics
+-- the same, except that a zero divisor panics
 abbrev pub divides : (ℤ → ℤ → ℤ) → Actor → List Change
 divides op a = two_ints (λ m n rest. choose (is_zero n) (panics a PanicKind.DivideByZero)
     (goes a (Value.Int (op m n) ∷ rest))) a.frame.operands
 
--- a truth value from two integers
+-- a comparison that gives a truth value from two integers
 abbrev pub compares : (ℤ → ℤ → Bool) → Actor → List Change
 compares test a = two_ints (λ m n rest. goes a (Value.Bool (test m n) ∷ rest)) a.frame.operands
 
 -- sums, differences, products and quotients wrap at 64 bits; a quotient is cut off toward zero, and a remainder has the
--- sign of the first
+-- sign of the dividend
 abbrev pub sum : ℤ → ℤ → ℤ
 sum m n = int_wrapping_add w64 m n
 

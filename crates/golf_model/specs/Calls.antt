@@ -15,33 +15,33 @@ use Rattle.golf_model.specs.Waking.{unwinding}
 use Rattle.golf_model.specs.Changes.{Change}
 use Rattle.golf_model.specs.Acting.{Actor, with_frames, next, stands, goes, dies, on_some, taking_one, taking, choose}
 
--- the most frames of a goroutine (profile)
+-- the most frames of a goroutine (this runtime's rule)
 abbrev pub most_frames : ℕ
 most_frames = 10000
 
--- whether one frame more is too many
+-- whether one more frame is too many
 abbrev pub is_full : List FrameView → Bool
 is_full frames = nat_le most_frames (length frames)
 
--- one more frame on these, or the stack overflows
+-- adds a frame on top of these; if they are too many already, the stack overflows
 abbrev pub enters : Actor → List FrameView → FrameView → List Change
 enters a frames f = choose (is_full frames) (dies a PanicKind.StackOverflow)
     (Change.Become a.number (with_frames a (f ∷ frames)) ∷ [])
 
--- calls the function with so many arguments
+-- calls function f with n arguments
 abbrev pub calls : Code → Actor → ℕ → ℕ → List Change
 calls code a f n =
     taking n (λ arguments rest. on_some (enters a (next a.frame rest ∷ a.callers)) (call_frame code f arguments false))
     a.frame.operands
 
--- starts a goroutine on the function with so many arguments
+-- starts a goroutine on function f with n arguments
 abbrev pub spawns : Code → Actor → ℕ → ℕ → List Change
 spawns code a f n =
     taking n (λ arguments rest. on_some (λ x. Change.Spawn
     (record { frames = x ∷ []; mode = Mode.Running; started = a.line }) ∷ goes a rest)
     (call_frame code f arguments true)) a.frame.operands
 
--- defers a call of the function with so many arguments
+-- defers a call of function f with n arguments
 abbrev pub defers : Actor → ℕ → ℕ → List Change
 defers a f n =
     taking n (λ arguments rest. stands a (record
@@ -52,7 +52,7 @@ defers a f n =
           ∷ a.frame.deferred;
     })) a.frame.operands
 
--- a goroutine without a frame has ended; goroutine 0 waits for its queue
+-- a goroutine without frames has ended; goroutine 0 stays and waits for its queue
 abbrev pub ends : Actor → List Change
 ends a = choose (a.number == 0) (Change.Become 0 (with_frames a []) ∷ []) (Change.Leave a.number ∷ [])
 
@@ -60,24 +60,24 @@ ends a = choose (a.number == 0) (Change.Become 0 (with_frames a []) ∷ []) (Cha
 abbrev pub ends_returning : Actor → List Change
 ends_returning a = ends a ++ choose (a.number == 1) (Change.Finish Ending.Returned ∷ []) []
 
--- the value of a frame goes to its caller, unless it was a deferred or first frame
+-- the value of a frame goes to its caller, unless the frame discards it
 abbrev pub handed_back : Bool → Option Value → FrameView → FrameView
 handed_back true v f = f
 handed_back false None f = f
 handed_back false (Some v) f = record f { operands = v ∷ f.operands }
 
--- the innermost frame is gone by returning
+-- the innermost frame returns and is removed
 abbrev pub returns_to : Actor → Option Value → List FrameView → List Change
 returns_to a v [] = ends_returning a
 returns_to a v (f ∷ fs) = Change.Become a.number (with_frames a (handed_back a.frame.discards v f ∷ fs)) ∷ []
 
--- the innermost frame is gone by unwinding: its caller unwinds in place of whatever it was doing, and the program ends
--- with the last frame
+-- the innermost frame unwinds and is removed: its caller now unwinds, whatever it was doing, and the program ends when
+-- the last frame is removed
 abbrev pub unwinds_to : Actor → Fault → List FrameView → List Change
 unwinds_to a x [] = ends a ++ (Change.Finish (Ending.Panicked x.kind (record { 0 = a.number }) x.line) ∷ [])
 unwinds_to a x (f ∷ fs) = Change.Become a.number (with_frames a (unwinding x f ∷ fs)) ∷ []
 
--- without deferred calls a return removes the frame; with them the frame is returning
+-- without deferred calls a return removes the frame; with deferred calls the frame is marked as returning
 abbrev pub returns_by : Actor → Option Value → List Value → List Deferred → List Change
 returns_by a v rest [] = returns_to a v a.callers
 returns_by a v rest (d ∷ ds) = stands a (record
@@ -91,7 +91,7 @@ returns a = returns_by a None a.frame.operands a.frame.deferred
 abbrev pub returns_value : Actor → List Change
 returns_value a = taking_one (λ v rest. returns_by a (Some v) rest a.frame.deferred) a.frame.operands
 
--- begins the last deferred call and takes it off the list
+-- begins the latest deferred call and removes it from the list
 abbrev pub begins_deferred : Code → Actor → Deferred → List Deferred → List Change
 begins_deferred code a d ds = on_some (enters a (record a.frame { deferred = ds } ∷ a.callers))
     (call_frame code d.function d.arguments true)

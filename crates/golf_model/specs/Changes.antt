@@ -1,4 +1,4 @@
--- The changes that a turn is made of, and what each does to a state.
+-- The changes that make up a turn, and the effect of each on a state.
 use Rattle.std.specs.Prelude.{ℕ, ◌+◌, Bool, true, false, not, List, [], ◌∷◌, ◌++◌, Option, Some, None, ◌==◌, slice_set}
 use Rattle.golf_theory.specs.Maps.{find, put, add, insert, only, map_values}
 use Rattle.golf_data.specs.declared.value.Value.{Value}
@@ -13,16 +13,16 @@ use Rattle.golf_model.specs.State.{State}
 use Rattle.golf_model.specs.Waking.{Waking, woken_by, released}
 
 pub data Change : Type 0 where
-  -- the next object number is given to this object
+  -- the object gets the next object number
   Make : (x : Object) → Change
   -- the object of this number becomes this one
   Replace : (o : ℕ) (x : Object) → Change
   SetGlobal : (i : ℕ) (v : Value) → Change
   -- the goroutine of this number becomes this one
   Become : (g : ℕ) (r : GoroutineView) → Change
-  -- the goroutine becomes this one, blocked: it takes the next ticket
+  -- the goroutine becomes this one, blocked, and takes the next ticket
   Block : (g : ℕ) (kind : WaitKind) (line : ℕ) (waits : List Wait) (r : GoroutineView) → Change
-  -- the next goroutine number is given to this goroutine
+  -- the goroutine gets the next goroutine number
   Spawn : (r : GoroutineView) → Change
   -- the goroutine has ended
   Leave : (g : ℕ) → Change
@@ -35,7 +35,7 @@ pub data Change : Type 0 where
   Output : (bytes : List ℕ) → Change
   -- all goroutines that wait on the object are woken
   WakeAll : (o : ℕ) (how : Waking) → Change
-  -- a goroutine is passed on from a condition to its mutex
+  -- a goroutine that waits on a condition is passed on to the condition's mutex
   PassOn : (g m : ℕ) → Change
 
 abbrev pub make : Object → State → State
@@ -50,7 +50,7 @@ set_global i v s = record s { globals = slice_set s.globals i v }
 abbrev pub become : ℕ → GoroutineView → State → State
 become g r s = record s { goroutines = put g r s.goroutines }
 
--- each goroutine that blocks takes the next ticket, also if it waits on nothing (profile)
+-- each goroutine that blocks takes the next ticket, even if it waits on nothing (this runtime's rule)
 abbrev pub block : ℕ → WaitKind → ℕ → List Wait → GoroutineView → State → State
 block g kind line waits r s =
     record s {
@@ -86,17 +86,17 @@ output bytes s = record s { output = s.output ++ bytes }
 abbrev pub wake_all : ℕ → Waking → State → State
 wake_all o how s = record s { goroutines = map_values (λ g. woken_by how o) s.goroutines }
 
--- the one wait on the condition becomes a wait for the mutex
+-- the one wait, on the condition, becomes a wait for the mutex
 abbrev pub moved_waits : ℕ → List Wait → List Wait
 moved_waits m [] = []
 moved_waits m (w ∷ ws) = record w { object = record { 0 = m }; side = Side.Lock } ∷ []
 
--- with the ticket; kind and line stay
+-- the mode with the moved wait and the ticket; kind and line stay
 abbrev pub moved : ℕ → ℕ → Mode → Mode
 moved m ticket Mode.Running = Mode.Running
 moved m ticket (Mode.Blocked kind line waits old) = Mode.Blocked kind line (moved_waits m waits) ticket
 
--- it waits for the mutex from now on, with the next ticket
+-- the goroutine waits for the mutex from now on, with the next ticket
 abbrev pub move_wait : ℕ → ℕ → GoroutineView → State → State
 move_wait g m r s =
     record s {
@@ -104,8 +104,8 @@ move_wait g m r s =
       next_ticket = s.next_ticket + 1;
     }
 
--- an unlocked mutex becomes locked and the goroutine runs; a locked one is what it waits for from now on (package sync,
--- `Cond.Wait`: it "locks c.L before returning"; the order is the profile's)
+-- an unlocked mutex becomes locked and the goroutine runs; for a locked one the goroutine waits from now on (package
+-- sync, `Cond.Wait`: it "locks c.L before returning"; the order is this runtime's rule)
 abbrev pub pass_on_by : Bool → ℕ → ℕ → GoroutineView → State → State
 pass_on_by false g m r s = replace m (Object.Mutex true) (become g (released r) s)
 pass_on_by true g m r s = move_wait g m r s

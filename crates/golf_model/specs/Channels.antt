@@ -19,7 +19,7 @@ use Rattle.golf_model.specs.Acting.{at_reference_or, at_channel}
 abbrev pub served : Waiter → List Value → Change
 served w vs = Change.Become w.number (resumed w.wait vs w.goroutine)
 
--- a value is appended if there is room; else the sender blocks
+-- the value is appended if the buffer has room; else the sender blocks
 abbrev pub buffers : Actor → FrameView → ℕ → Value → Channel → List Change
 buffers a after o v c =
     choose (nat_lt (length c.buffer) c.capacity)
@@ -43,11 +43,11 @@ sends a s =
     taking_two (λ c v rest. at_reference_or (blocks a (next a.frame rest) WaitKind.SendNil [])
     (sends_on a (next a.frame rest) v s) c) a.frame.operands
 
--- the receiver's frame with what it is given on top
+-- the receiver's frame with the received values on top
 abbrev pub given : FrameView → List Value → FrameView
 given after vs = record after { operands = vs ++ after.operands }
 
--- the value that a waiting sender has to send, and the sender going on
+-- the value that a waiting sender has to send, and the change by which the sender goes on
 abbrev pub sent_by : Option Waiter → List Value
 sent_by None = []
 sent_by (Some w) = w.wait.value ∷ []
@@ -56,7 +56,8 @@ abbrev pub sender_served : Option Waiter → List Change
 sender_served None = []
 sender_served (Some w) = served w [] ∷ []
 
--- an empty channel: the first sender's value; else the zero value if it is closed; else the receiver blocks
+-- the buffer is empty: the receiver gets the first sender's value; else the zero value of a closed channel; else it
+-- blocks
 abbrev pub receives_unbuffered : Actor → FrameView → Bool → ℕ → Channel → Option Waiter → List Change
 receives_unbuffered a after with_ok o c None =
     choose c.closed (stands a (given after (received with_ok c.zero false)))
@@ -64,14 +65,14 @@ receives_unbuffered a after with_ok o c None =
 receives_unbuffered a after with_ok o c (Some w) = stands a (given after (received with_ok w.wait.value true))
     ++ (served w [] ∷ [])
 
--- the first buffered value; the first sender's value takes the free place
+-- the receiver gets the first buffered value, and the first sender's value takes the free place
 abbrev pub receives_from : Actor → FrameView → Bool → ℕ → Channel → List Value → Option Waiter → List Change
 receives_from a after with_ok o c [] w = receives_unbuffered a after with_ok o c w
 receives_from a after with_ok o c (v ∷ vs) w =
     Change.Replace o (Object.Chan (record c { buffer = vs ++ sent_by w }))
     ∷ (stands a (given after (received with_ok v true)) ++ sender_served w)
 
--- a receive from channel o, after which the receiver has this frame with what it is given
+-- a receive from channel o, after which the receiver has this frame with the received values
 abbrev pub receives_on : Actor → FrameView → Bool → State → ℕ → List Change
 receives_on a after with_ok s o =
     at_channel (λ c. receives_from a after with_ok o c c.buffer (first o Side.Send s.goroutines)) (find o s.objects)
@@ -82,14 +83,14 @@ receives with_ok a s =
     taking_one (λ c rest. at_reference_or (blocks a (next a.frame rest) WaitKind.ReceiveNil [])
     (receives_on a (next a.frame rest) with_ok s) c) a.frame.operands
 
--- a nil channel panics
+-- a closed channel panics; an open one becomes closed and wakes all its waiters
 abbrev pub closes_open : Actor → List Value → ℕ → Channel → List Change
 closes_open a rest o c =
     choose c.closed (panics a PanicKind.CloseClosed)
     (Change.Replace o (Object.Chan (record c { closed = true }))
     ∷ (goes a rest ++ (Change.WakeAll o (Waking.Closing c.zero) ∷ [])))
 
--- `c ->`
+-- `c ->`; a nil channel panics
 abbrev pub closes : Actor → State → List Change
 closes a s =
     taking_one (λ c rest. at_reference_or (panics a PanicKind.CloseNil)

@@ -25,7 +25,7 @@ abbrev pub gets_mutex : Actor → State → List Change
 gets_mutex a s = taking_one (λ c rest. at_reference a (λ o. at_condition (λ m. goes a (m ∷ rest)) (find o s.objects)) c)
     a.frame.operands
 
--- the mutex is unlocked as by its holder, and the goroutine blocks on the condition
+-- the goroutine unlocks the mutex as its holder, and blocks on the condition
 abbrev pub awaits_by : Actor → List Value → State → ℕ → ℕ → Bool → List Change
 awaits_by a rest s o m false = dies a PanicKind.UnlockUnlocked
 awaits_by a rest s o m true = hands_over m (first m Side.Lock s.goroutines)
@@ -38,7 +38,7 @@ awaits a s =
     (λ m. at_reference a (λ p. at_mutex (awaits_by a rest s o p) (find p s.objects)) m) (find o s.objects)) c)
     a.frame.operands
 
--- each of the waiters is passed on to the mutex, in this order
+-- each of the waiters is passed on to the mutex, in the order of the list
 abbrev pub passes_on : ℕ → List Waiter → List Change
 passes_on m [] = []
 passes_on m (w ∷ ws) = Change.PassOn w.number m ∷ passes_on m ws
@@ -47,7 +47,7 @@ abbrev pub first_only : Option Waiter → List Waiter
 first_only None = []
 first_only (Some w) = w ∷ []
 
--- if nobody is passed on the mutex is not looked at; else it is a mutex, or no rule fits
+-- without a waiter the mutex is not looked at; with one it must be a mutex, or no rule fits
 abbrev pub notifies : Actor → List Value → State → List Waiter → Value → List Change
 notifies a rest s [] m = goes a rest
 notifies a rest s (w ∷ ws) m = at_reference_or []
@@ -59,7 +59,7 @@ signals a s =
     taking_one (λ c rest. at_reference a (λ o. at_condition
     (notifies a rest s (first_only (first o Side.Cond s.goroutines))) (find o s.objects)) c) a.frame.operands
 
--- `c ->`; each waiter is passed on, by rising ticket (profile)
+-- `c ->`; each waiter is passed on, by rising ticket (this runtime's rule)
 abbrev pub broadcasts : Actor → State → List Change
 broadcasts a s =
     taking_one (λ c rest. at_reference a (λ o. at_condition (notifies a rest s (waiters o Side.Cond s.goroutines))

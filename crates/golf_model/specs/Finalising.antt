@@ -10,18 +10,18 @@ use Rattle.golf_model.specs.State.{State, call_frame}
 use Rattle.golf_model.specs.Changes.{Change}
 use Rattle.golf_model.specs.Acting.{Actor, goes, dies, on_some, taking_one, at_reference, at_reference_or, at_struct}
 
--- an object that has a finaliser already is a fatal error
+-- the object gets a finaliser; a second one is a fatal error
 abbrev pub finalises_by : Actor → List Value → ℕ → ℕ → Option ℕ → List Change
 finalises_by a rest f o None = Change.SetFinaliser o f ∷ goes a rest
 finalises_by a rest f o (Some old) = dies a PanicKind.FinalizerSet
 
--- `p ->`; the function becomes the finaliser of p's struct, and nil panics (profile)
+-- `p ->`; the function becomes the finaliser of p's struct, and nil panics (this runtime's rule)
 abbrev pub finalises : Actor → ℕ → State → List Change
 finalises a f s =
     taking_one (λ p rest. at_reference a (λ o. at_struct (λ fields. finalises_by a rest f o (find o s.finalisers))
     (find o s.objects)) p) a.frame.operands
 
--- `p ->`; p's struct loses its finaliser; does nothing if there is none, or if p is nil (profile)
+-- `p ->`; p's struct loses its finaliser; nothing happens without a finaliser, or if p is nil (this runtime's rule)
 abbrev pub unfinalises : Actor → State → List Change
 unfinalises a s =
     taking_one (λ p rest. at_reference_or (goes a rest)

@@ -1,4 +1,4 @@
--- What holds in every continuation, and the states that moves lead to.
+-- What holds in every continuation, and the states that moves reach.
 use Rattle.std.specs.Prelude.{◌≡◌, ℕ, ◌+◌, ◌≤◌, Bool, List, [], map, Option, None}
 use Rattle.golf_theory.specs.Maps.{Entry, IsRising, AllBelow}
 use Rattle.golf_theory.specs.Membership.{Every}
@@ -16,28 +16,28 @@ use Rattle.golf_model.specs.Collecting.{sets_finalisers, plain_collect, real_col
 use Rattle.golf_model.specs.Running.{Event, run, stops_by, finaliser_calls}
 use Rattle.golf_model.specs.Reporting.{entries, without}
 
--- whatever happens, the goroutine stands as it stands now: with these frames, this mode, its waits and its ticket
+-- the goroutine stays as it is now whatever happens: the same frames, mode, waits and ticket
 abbrev pub Still : Code → State → ℕ → Type 0
 Still code s g = (r : GoroutineView) × Entry s.goroutines g r
     × ((events : List Event) → Entry (run code s events).goroutines g r)
 
--- what can be seen right before a collection: the live objects, and the dead goroutines with their waits and lines
+-- the sight right before a collection: the live objects, and the dead goroutines with their waits and lines
 pub record Sight : Type 0 where
   pub live : List ℕ
   pub dead : List Reported
 
--- what can be seen of a run
+-- everything that can be seen of a run
 pub record Seen : Type 0 where
   pub output : List ℕ
   pub ending : Option Ending
   pub calls : List Queued
   pub stops : List Sight
 
--- without these goroutines
+-- the sight of a state, without these goroutines
 abbrev pub sight : List ℕ → State → Sight
 sight gone p = record { live = live_objects p; dead = entries p (without (dead p) gone) }
 
--- what the events show from this state on; of the dead goroutines those alone that are not in the list
+-- what the events show from this state on; dead goroutines in the list are left out
 abbrev pub futures : Code → State → List Event → List ℕ → Seen
 futures code s events gone = record {
   output = (run code s events).output;
@@ -46,7 +46,7 @@ futures code s events gone = record {
   stops = map (sight gone) (stops_by plain_collect code s events);
 }
 
--- the states that moves lead to from the opening state; a turn or a collection moves a state without an ending, and
+-- the states that moves reach from the opening state: a turn or a collection moves a state without an ending, and
 -- output can be emptied at any time
 pub data Leads (code : Code) : State → Type 0 where
   Start : Leads code (start code)
@@ -58,7 +58,7 @@ pub data Leads (code : Code) : State → Type 0 where
 abbrev pub UpTo : ℕ → List ℕ → Type 0
 UpTo n os = Every (λ o. o ≤ n) os
 
--- numbers were given in order, and no reference goes above the last object
+-- numbers were given in order, and no reference is above the last object's number
 pub record Numbered (s : State) : Type 0 where
   pub objects_rise : IsRising s.objects
   pub objects_below : AllBelow (s.last_object + 1) s.objects

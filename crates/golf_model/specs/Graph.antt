@@ -10,7 +10,7 @@ use Rattle.golf_base.specs.declared.ids.GoroutineId.{GoroutineId}
 use Rattle.golf_model.specs.declared.graph.GraphParts.{GraphParts}
 use Rattle.golf_model.specs.Sleepers.{Sleeper}
 
--- places below it are nodes, the others sleepers
+-- the number of nodes and of sleepers; places below the first are nodes, the others sleepers
 abbrev pub node_count : GraphParts → ℕ
 node_count g = length g.children
 
@@ -34,23 +34,23 @@ sleeper_waits g s = unwrap_or (option_map (λ x. x.waits) (slice_get g.sleepers 
 abbrev pub sleeper_references : GraphParts → ℕ → List ℕ
 sleeper_references g s = unwrap_or (option_map (λ x. x.references) (slice_get g.sleepers s)) []
 
--- one place justifies another one: a child of a node, a sleeper that waits on a node, a reference of a sleeper
+-- one place justifies another: a node its children and the sleepers that wait on it, a sleeper its references
 pub data Justifies (g : GraphParts) (from to : ℕ) : Type 0 where
   child : In to (children_of g from) → Justifies g from to
   wakes : (s : ℕ) → to ≡ sleeper_place g s → In from (sleeper_waits g s) → Justifies g from to
   refers : (s : ℕ) → from ≡ sleeper_place g s → In to (sleeper_references g s) → Justifies g from to
 
--- the least closed set: a list ends with the place in which each entry is a root, or justified by an earlier one
+-- the least closed set: the place ends a list in which each entry is a root, or an earlier entry justifies it
 abbrev pub Least : GraphParts → ℕ → Type 0
 Least g = Reached (λ p. In p g.roots) (Justifies g)
 
--- the same test, computed
+-- the relation as a test
 abbrev pub justifies : GraphParts → ℕ → ℕ → Bool
 justifies g from to =
     is_in to (children_of g from) || ((nat_le (node_count g) to && is_in from (sleeper_waits g (to - node_count g)))
     || (nat_le (node_count g) from && is_in to (sleeper_references g (from - node_count g))))
 
--- a root, or justified by what is in the list already
+-- the place is a root, or a place in the list justifies it
 abbrev pub is_justified_next : GraphParts → List ℕ → ℕ → Bool
 is_justified_next g got p = is_in p g.roots || any_of (λ q. justifies g q p) got
 
@@ -66,7 +66,7 @@ abbrev pub all_references : List Sleeper → List ℕ
 all_references [] = []
 all_references (x ∷ xs) = x.references ++ all_references xs
 
--- every place that can be justified
+-- all places that can be in the least closed set
 abbrev pub named_places : GraphParts → List ℕ
 named_places g = g.roots ++ (all_children g.children
     ++ (places_from (node_count g) g.sleepers ++ all_references g.sleepers))
@@ -80,11 +80,11 @@ abbrev pub NumbersRise : ℕ → List ObjectId → Type 0
 NumbersRise k [] = Unit {0}
 NumbersRise k (o ∷ os) = (k ≤ o.0) × NumbersRise (o.0 + 1) os
 
--- they are nodes
+-- each of these places is a node
 abbrev pub AreNodes : GraphParts → List ℕ → Type 0
 AreNodes g ps = Every (λ p. p < node_count g) ps
 
--- every place that is named is a node, and the numbers of the objects rise
+-- every named place is a node, and the numbers of the objects rise
 pub record IsInRange (g : GraphParts) : Type 0 where
   pub numbered : length g.numbers ≡ node_count g
   pub flagged : length g.finalised ≡ node_count g

@@ -1,6 +1,6 @@
 -- The live set, by root growth (Saioc, Lee, Møller, Chabbi, "Dynamic Partial Deadlock Detection and Recovery via
--- Garbage Collection", 2025): a blocked goroutine is live once an object that it waits on is. That the contents of
--- objects with a finaliser, the finaliser queue and goroutine 0 are live is the profile's.
+-- Garbage Collection", 2025): a blocked goroutine is live once an object that it waits on is live. Three kinds of root
+-- are this runtime's rule: the contents of finalised objects, the finaliser queue, and goroutine 0.
 use Rattle.std.specs.Prelude.{◌≡◌, ℕ, Bool, true, false, not, ◌&&◌, ◌||◌, List, [], ◌∷◌, ◌++◌, map, filter, ◌==◌}
 use Rattle.golf_theory.specs.Maps.{Entry, keys, keys_where}
 use Rattle.golf_theory.specs.Membership.{In, is_in, any_of}
@@ -19,7 +19,7 @@ pub data Node : Type 0 where
   AnObject : (o : ℕ) → Node
   AGoroutine : (g : ℕ) → Node
 
--- what is live at once
+-- the roots: the nodes that are live at once
 pub data LiveRoot (s : State) : Node → Type 0 where
   Global : (o : ℕ) → In o (refs s.globals) → LiveRoot s (Node.AnObject o)
   InQueue : (o : ℕ) → In o (queue_refs s.queue) → LiveRoot s (Node.AnObject o)
@@ -30,7 +30,7 @@ pub data LiveRoot (s : State) : Node → Type 0 where
       → LiveRoot s (Node.AGoroutine g)
   FinaliserGoroutine : LiveRoot s (Node.AGoroutine 0)
 
--- what one live node makes live
+-- one live node makes another one live
 pub data LiveStep (s : State) : Node → Node → Type 0 where
   InObject : (p o : ℕ) (x : Object) → Entry s.objects p x → In o (object_refs x)
       → LiveStep s (Node.AnObject p) (Node.AnObject o)
@@ -40,7 +40,7 @@ pub data LiveStep (s : State) : Node → Node → Type 0 where
   Awakened : (o g : ℕ) (r : GoroutineView) → Entry s.goroutines g r → In o (waited (waits_of r.mode))
       → LiveStep s (Node.AnObject o) (Node.AGoroutine g)
 
--- a list ends with the node in which each entry is live at once, or made live by an earlier one
+-- the node is live: it ends a list in which each entry is a root, or an earlier entry makes it live
 abbrev pub Live : State → Node → Type 0
 Live s = Reached (LiveRoot s) (LiveStep s)
 
@@ -54,7 +54,7 @@ has_goroutine [] h = false
 has_goroutine (Node.AnObject p ∷ xs) h = has_goroutine xs h
 has_goroutine (Node.AGoroutine g ∷ xs) h = (h == g) || has_goroutine xs h
 
--- it runs, or waits on an object that is live already
+-- the goroutine runs, or it waits on an object that is live already
 abbrev pub is_awakened : (ℕ → Bool) → GoroutineView → Bool
 is_awakened live r = is_running r.mode || any_of live (waited (waits_of r.mode))
 
@@ -62,7 +62,7 @@ abbrev pub awakes : (ℕ → Bool) → ℕ → List (ℕ × GoroutineView) → B
 awakes live g [] = false
 awakes live g (e ∷ es) = ((g == e.0) && is_awakened live e.1) || awakes live g es
 
--- live at once, or made live by what is in the list already
+-- the node is a root, or a node in the list makes it live
 abbrev pub is_live_next : State → List Node → Node → Bool
 is_live_next s got (Node.AnObject o) =
     is_in o (refs s.globals) || (is_in o (queue_refs s.queue)
@@ -71,7 +71,7 @@ is_live_next s got (Node.AnObject o) =
     || is_in o (goroutine_refs_where (has_goroutine got) s.goroutines))))
 is_live_next s got (Node.AGoroutine g) = (g == 0) || awakes (has_object got) g s.goroutines
 
--- every object that is named, and every goroutine
+-- every object to which something refers, and every goroutine
 abbrev pub named_objects : State → List ℕ
 named_objects s =
     refs s.globals ++ (queue_refs s.queue ++
@@ -84,11 +84,11 @@ nodes s = map Node.AnObject (named_objects s) ++ (Node.AGoroutine 0 ∷ map Node
 unfoldable pub live_list : State → List Node
 live_list s = least (is_live_next s) (nodes s)
 
--- the live ones of the objects, in rising order
+-- the live objects of the state, in rising order
 abbrev pub live_objects : State → List ℕ
 live_objects s = filter (has_object (live_list s)) (keys s.objects)
 
--- blocked and outside these
+-- the goroutine is blocked and not in the list
 abbrev pub is_dead : List Node → ℕ → GoroutineView → Bool
 is_dead live g r = not (is_running r.mode) && not (has_goroutine live g)
 
@@ -96,6 +96,6 @@ is_dead live g r = not (is_running r.mode) && not (has_goroutine live g)
 abbrev pub dead : State → List ℕ
 dead s = keys_where (is_dead (live_list s)) s.goroutines
 
--- a goroutine is dead
+-- the goroutine is blocked and not live
 abbrev pub Dead : State → ℕ → Type 0
 Dead s g = (r : GoroutineView) × Entry s.goroutines g r × (is_running r.mode ≡ false) × (Live s (Node.AGoroutine g) → ⊥)

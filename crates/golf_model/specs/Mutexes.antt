@@ -33,7 +33,7 @@ abbrev pub locks : Actor → State → List Change
 locks a s = taking_one (λ m rest. at_reference a (λ o. at_mutex (locks_by a rest o) (find o s.objects)) m)
     a.frame.operands
 
--- a mutex stays locked and its first waiter runs; with no waiter it becomes unlocked (profile)
+-- a mutex stays locked and its first waiter runs; with no waiter it becomes unlocked (this runtime's rule)
 abbrev pub hands_over : ℕ → Option Waiter → List Change
 hands_over o None = Change.Replace o (Object.Mutex false) ∷ []
 hands_over o (Some w) = runs w ∷ []
@@ -47,7 +47,7 @@ abbrev pub unlocks : Actor → State → List Change
 unlocks a s = taking_one (λ m rest. at_reference a (λ o. at_mutex (unlocks_by a rest s o) (find o s.objects)) m)
     a.frame.operands
 
--- the counter becomes n: below 0 panics, and the counter stays (profile); 0 wakes all who wait
+-- the counter becomes n, and at 0 all waiters are woken; below 0 it panics and the counter stays (this runtime's rule)
 abbrev pub counts : Actor → List Value → ℕ → ℤ → List Change
 counts a rest o n =
     choose (int_lt n (pos 0)) (panics a PanicKind.NegativeGroup)

@@ -1,4 +1,4 @@
--- States in which every reference is one to an object that is there.
+-- States in which every reference is to an object that exists.
 use Rattle.std.specs.Prelude.{ℕ}
 use Rattle.golf_theory.specs.Maps.{Entry, keys}
 use Rattle.golf_theory.specs.Membership.{In, Every}
@@ -8,11 +8,11 @@ use Rattle.golf_model.specs.Values.{refs}
 use Rattle.golf_model.specs.State.{State}
 use Rattle.golf_model.specs.Refs.{object_refs, goroutine_refs, queue_refs}
 
--- the object is there
+-- the object exists
 abbrev pub Present : State → ℕ → Type 0
 Present s o = In o (keys s.objects)
 
--- globals, queue, objects and goroutines refer to objects that are there, and what has a finaliser is there
+-- globals, queue, objects and goroutines refer only to objects that exist, and each object with a finaliser exists
 pub record IsWhole (s : State) : Type 0 where
   pub globals : Every (Present s) (refs s.globals)
   pub queue : Every (Present s) (queue_refs s.queue)

@@ -29,7 +29,7 @@ abbrev pub readers_next : Option ℕ → ℕ → List (ℕ × GoroutineView) →
 readers_next below o [] = 0
 readers_next below o (e ∷ es) = one_if (reads_next below o e.1) + readers_next below o es
 
--- each reader with a ticket below that of every writer runs, and the count is their number
+-- each reader with a ticket below that of every writer runs, and the count is the number of these readers
 abbrev pub to_readers : ℕ → Option ℕ → List (ℕ × GoroutineView) → List Change
 to_readers o below gs = counted o (pos (readers_next below o gs)) ∷ Change.WakeAll o (Waking.ToReaders below) ∷ []
 
@@ -37,14 +37,14 @@ to_readers o below gs = counted o (pos (readers_next below o gs)) ∷ Change.Wak
 abbrev pub to_writer : ℕ → Waiter → List Change
 to_writer o w = counted o (negsuc 0) ∷ runs w ∷ []
 
--- whoever waits first is served (profile)
+-- the earliest waiter is served, a writer or all readers before the first writer (this runtime's rule)
 abbrev pub serves_first : ℕ → List (ℕ × GoroutineView) → Option Waiter → Option Waiter → List Change
 serves_first o gs None r = to_readers o None gs
 serves_first o gs (Some w) None = to_writer o w
 serves_first o gs (Some w) (Some r) = choose (nat_lt (waiter_ticket r) (waiter_ticket w))
     (to_readers o (Some (waiter_ticket w)) gs) (to_writer o w)
 
--- a free mutex is handed on; if nobody waits the count is 0
+-- a free mutex is handed on; without waiters the count becomes 0
 abbrev pub serves : ℕ → List (ℕ × GoroutineView) → List Change
 serves o gs = serves_first o gs (first o Side.Write gs) (first o Side.Read gs)
 
@@ -61,17 +61,17 @@ abbrev pub write_unlocks_by : Actor → List Value → State → ℕ → ℤ →
 write_unlocks_by a rest s o n = choose (is_minus_one n) (goes a rest ++ serves o s.goroutines)
     (dies a PanicKind.UnlockUnlockedRw)
 
--- `rw ->`; without a writer that holds it, a fatal error; else it is served
+-- `rw ->`; it is a fatal error if no writer holds the mutex; else the next waiters are served
 abbrev pub write_unlocks : Actor → State → List Change
 write_unlocks a s = taking_one (λ m rest. at_reference a
     (λ o. at_rw (write_unlocks_by a rest s o) (find o s.objects)) m) a.frame.operands
 
--- the most readers that hold it at a time (profile)
+-- the most readers that can hold the mutex at the same time (this runtime's rule)
 abbrev pub most_readers : ℕ
 most_readers = 1073741823
 
--- a mutex that a writer holds or waits for blocks its readers; past the limit it is a fatal error; else the count rises
--- by 1
+-- a reader blocks if a writer holds the mutex or waits for it; past the limit of readers it is a fatal error; else the
+-- count rises by 1
 abbrev pub read_locks_by : Actor → List Value → State → ℕ → ℤ → List Change
 read_locks_by a rest s o n =
     choose (is_minus_one n || is_some (first o Side.Write s.goroutines))
@@ -83,7 +83,7 @@ abbrev pub read_locks : Actor → State → List Change
 read_locks a s = taking_one (λ m rest. at_reference a (λ o. at_rw (read_locks_by a rest s o) (find o s.objects)) m)
     a.frame.operands
 
--- the last reader's unlock serves it
+-- when the last reader unlocks, the next waiters are served
 abbrev pub read_leaves : ℕ → ℤ → State → List Change
 read_leaves o n s = choose (is_zero n) (serves o s.goroutines) (counted o n ∷ [])
 
@@ -91,7 +91,7 @@ abbrev pub read_unlocks_by : Actor → List Value → State → ℕ → ℤ → 
 read_unlocks_by a rest s o n = choose (int_lt (pos 0) n) (goes a rest ++ read_leaves o (n -ℤ pos 1) s)
     (dies a PanicKind.RUnlockUnlocked)
 
--- `rw ->`; without readers that hold it, a fatal error
+-- `rw ->`; it is a fatal error if no reader holds the mutex
 abbrev pub read_unlocks : Actor → State → List Change
 read_unlocks a s = taking_one (λ m rest. at_reference a (λ o. at_rw (read_unlocks_by a rest s o) (find o s.objects)) m)
     a.frame.operands

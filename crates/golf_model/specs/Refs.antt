@@ -1,4 +1,4 @@
--- What objects and goroutines refer to.
+-- The references of objects and goroutines.
 use Rattle.std.specs.Prelude.{ℕ, Bool, true, false, List, [], ◌∷◌, ◌++◌, Option, Some, None}
 use Rattle.golf_theory.specs.Maps.{keys}
 use Rattle.golf_theory.specs.Membership.{is_in}
@@ -46,12 +46,12 @@ abbrev pub frames_refs : List FrameView → List ℕ
 frames_refs [] = []
 frames_refs (f ∷ fs) = frame_refs f ++ frames_refs fs
 
--- the objects that are waited on
+-- the objects that a goroutine with these waits waits on
 abbrev pub waited : List Wait → List ℕ
 waited [] = []
 waited (w ∷ ws) = w.object.0 ∷ waited ws
 
--- the objects that are waited on, and the values that are waited to be sent
+-- the objects of the waits, and the references in the values to be sent
 abbrev pub wait_refs : List Wait → List ℕ
 wait_refs [] = []
 wait_refs (w ∷ ws) = w.object.0 ∷ (value_refs w.value ++ wait_refs ws)
@@ -73,12 +73,12 @@ abbrev pub refs_if : Bool → List ℕ → List ℕ
 refs_if true xs = xs
 refs_if false xs = []
 
--- the references in those objects that pass the test
+-- the references in the objects that pass the test
 abbrev pub refs_where : (ℕ → Bool) → List (ℕ × Object) → List ℕ
 refs_where test [] = []
 refs_where test (e ∷ es) = refs_if (test e.0) (object_refs e.1) ++ refs_where test es
 
--- the references in those goroutines that pass the test
+-- the references in the goroutines that pass the test
 abbrev pub goroutine_refs_where : (ℕ → Bool) → List (ℕ × GoroutineView) → List ℕ
 goroutine_refs_where test [] = []
 goroutine_refs_where test (e ∷ es) = refs_if (test e.0) (goroutine_refs e.1) ++ goroutine_refs_where test es

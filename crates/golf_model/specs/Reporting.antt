@@ -1,4 +1,4 @@
--- What collections report.
+-- The reports of collections, and the book of all collections so far.
 use Rattle.std.specs.Prelude.{ℕ, ◌+◌, Bool, true, false, not, List, [], ◌∷◌, ◌++◌, map, filter, length, Option, Some}
 use Rattle.std.specs.Prelude.{None}
 use Rattle.golf_theory.specs.Maps.{find, keys}
@@ -22,7 +22,7 @@ goroutine_id g = record { 0 = g }
 abbrev pub numbers : List GoroutineId → List ℕ
 numbers ids = map (λ g. g.0) ids
 
--- how it is blocked, at which line, and where it was started
+-- the entry of a blocked goroutine: its kind of wait, the line where it blocked, and the line where it was started
 abbrev pub entry_by : ℕ → ℕ → Mode → List Entry
 entry_by g started Mode.Running = []
 entry_by g started (Mode.Blocked kind line waits ticket) =
@@ -37,32 +37,32 @@ abbrev pub entries : State → List ℕ → List Entry
 entries s [] = []
 entries s (g ∷ gs) = entry_of g (find g s.goroutines) ++ entries s gs
 
--- those of the first list that the second has not
+-- the members of the first list that are not in the second
 abbrev pub without : List ℕ → List ℕ → List ℕ
 without xs ys = filter (λ x. not (is_in x ys)) xs
 
--- no collection yet
+-- the book before the first collection
 abbrev pub new_book : Book
 new_book = record { collections = 0; reported = []; reclaimed = [] }
 
--- the dead goroutines of a stop that no earlier one reported
+-- the dead goroutines of a stop that no earlier stop reported
 abbrev pub new_dead : Book → State → List ℕ
 new_dead book p = without (dead p) (numbers book.reported)
 
--- those that this stop removes
+-- the goroutines that this stop removes
 abbrev pub new_gone : Bool → Bool → Book → State → List ℕ
 new_gone true sets_finalisers book p = without (unkept p sets_finalisers) (numbers book.reclaimed)
 new_gone false sets_finalisers book p = []
 
--- all that were removed by then
+-- all goroutines that were removed up to and with this stop
 abbrev pub all_gone : Bool → Bool → Book → State → List ℕ
 all_gone recover sets_finalisers book p = numbers book.reclaimed ++ new_gone recover sets_finalisers book p
 
--- the retained ones of the objects, in rising order
+-- the objects that are retained, in rising order
 abbrev pub retained_objects : State → List ℕ → List ℕ
 retained_objects p gone = filter (λ o. is_in o (retained p gone)) (keys p.objects)
 
--- the book with one collection more
+-- the book after one more collection
 abbrev pub book_after : Bool → Bool → Book → State → Book
 book_after recover sets_finalisers book p = record {
   collections = book.collections + 1;
@@ -70,7 +70,7 @@ book_after recover sets_finalisers book p = record {
   reclaimed = book.reclaimed ++ map goroutine_id (new_gone recover sets_finalisers book p);
 }
 
--- the report of a collection, on the state right before it and the book so far
+-- the report of a collection, from the state right before it and the book so far
 abbrev pub report : Bool → Bool → Book → State → Report
 report recover sets_finalisers book p = record {
   number = book.collections + 1;
@@ -95,11 +95,11 @@ book_of ps recover sets_finalisers = reports_from recover sets_finalisers new_bo
 abbrev pub real_run : Code → List Event → Bool → State
 real_run code es recover = run_by (λ s. real_collect s recover (sets_finalisers code)) code (start code) es
 
--- the entries that goroutine 0 took from the queue in it, in order
+-- the entries that goroutine 0 took from the queue in that run, in order
 abbrev pub real_calls : Code → List Event → Bool → List Queued
 real_calls code es recover = calls_by (λ s. real_collect s recover (sets_finalisers code)) code (start code) es
 
--- its reports, each on the state right before it and the goroutines that earlier ones reported
+-- the reports of that run, each from the state right before its collection and the book so far
 abbrev pub real_reports : Code → List Event → Bool → List Report
 real_reports code es recover =
     book_of (stops_by (λ s. real_collect s recover (sets_finalisers code)) code (start code) es) recover

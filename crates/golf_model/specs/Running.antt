@@ -16,13 +16,13 @@ pub data Event : Type 0 where
 abbrev pub has_ended : State → Bool
 has_ended s = is_some (ending s)
 
--- a run whose collections are those of the function
+-- a run in which a collection does what the given function says
 module _ (collect : State → State) (code : Code) where
   abbrev pub collected_if : Bool → State → State
   collected_if true s = collect s
   collected_if false s = s
 
-  -- a turn, and after it the collection that its instruction asks for; a state with an ending stays
+  -- a turn, and then the collection that its instruction asks for; a state with an ending stays
   abbrev pub happens_in : Bool → State → Event → State
   happens_in true s e = s
   happens_in false s (Event.Turn c) = collected_if (wants_collection code s c) (step code s c)
@@ -69,7 +69,7 @@ module _ (collect : State → State) (code : Code) where
   calls_by s [] = []
   calls_by s (e ∷ es) = call_in (has_ended s) s e ++ calls_by (happens_by s e) es
 
--- the plain machine's run, in which a collection frees and removes nothing
+-- a run of the plain machine, in which a collection frees and removes nothing
 abbrev pub happens : Code → State → Event → State
 happens = happens_by plain_collect
 

@@ -24,11 +24,11 @@ pub record Offer : Type 0 where
   pub value : Value
   pub target : ℕ
 
--- offers, and the operands below them
+-- the cases taken so far with their operands, and the operands below them
 abbrev pub Taken : Type 0
 Taken = List Offer × List Value
 
--- the case's own operands lie below those of the later cases
+-- one more case is taken; its operands lie below those of the later cases
 abbrev pub take_receive : SelectCase → Taken → Option Taken
 take_receive k (os, []) = None
 take_receive k (os, c ∷ rest) = Some (
@@ -80,7 +80,7 @@ abbrev pub all_on_channels : State → List Offer → Bool
 all_on_channels s [] = true
 all_on_channels s (x ∷ xs) = is_nil_or_channel s x.channel && all_on_channels s xs
 
--- whether a send or a receive would not block
+-- whether a send, or a receive, on this channel can proceed at once
 abbrev pub can_send : ℕ → List (ℕ × GoroutineView) → Channel → Bool
 can_send o gs c = c.closed || (is_some (first o Side.Receive gs) || nat_lt (length c.buffer) c.capacity)
 
@@ -92,7 +92,7 @@ can_proceed CaseKind.Send o gs c = can_send o gs c
 can_proceed CaseKind.Take o gs c = can_receive o gs c
 can_proceed CaseKind.TakeOk o gs c = can_receive o gs c
 
--- the same of an object, which is a channel
+-- the same test for an object; only a channel passes it
 abbrev pub is_ready_at : CaseKind → ℕ → List (ℕ × GoroutineView) → Option Object → Bool
 is_ready_at kind o gs None = false
 is_ready_at kind o gs (Some (Object.Struct fields)) = false
@@ -124,7 +124,7 @@ abbrev pub ready : State → List Offer → List Offer
 ready s [] = []
 ready s (x ∷ xs) = kept_if (is_ready s x) x (ready s xs)
 
--- a case is done as the operation alone would be, and the goroutine goes on at its target
+-- the goroutine does the operation of the case, and goes on at the case's target
 abbrev pub proceeds_by : Actor → FrameView → CaseKind → Value → State → ℕ → List Change
 proceeds_by a after CaseKind.Send v s o = sends_on a after v s o
 proceeds_by a after CaseKind.Take v s o = receives_on a after false s o
@@ -134,7 +134,7 @@ abbrev pub proceeds : Actor → List Value → State → Offer → List Change
 proceeds a rest s x = at_reference_or []
     (proceeds_by a (record a.frame { at = x.target; operands = rest }) x.kind x.value s) x.channel
 
--- what a goroutine waits on for a case: nothing on nil
+-- the wait of a goroutine for a case; a case on nil has none
 abbrev pub wait_of : Offer → CaseKind → ℕ → Wait
 wait_of x CaseKind.Send o = send_wait o x.value (Some x.target)
 wait_of x CaseKind.Take o = receive_wait o (Some x.target) false
@@ -156,7 +156,7 @@ abbrev pub select_kind : List Offer → WaitKind
 select_kind [] = WaitKind.SelectNone
 select_kind (x ∷ xs) = WaitKind.Select
 
--- with none ready: `default`, else it blocks
+-- no case is ready: the goroutine goes on at `default`, or blocks if there is none
 abbrev pub selects_none : Actor → List Value → List Offer → Option ℕ → List Change
 selects_none a rest xs None = blocks a (next a.frame rest) (select_kind xs) (offered_waits xs)
 selects_none a rest xs (Some target) = jumps a target rest
@@ -165,17 +165,17 @@ abbrev pub selects_one : Actor → List Value → State → List Offer → Optio
 selects_one a rest s xs otherwise None = selects_none a rest xs otherwise
 selects_one a rest s xs otherwise (Some x) = proceeds a rest s x
 
--- of the ready cases, the one at this place, counted round (Go specification: "a single one that can proceed is chosen
--- via a uniform pseudo-random selection"; profile: the schedule chooses)
+-- the ready case at the chosen place, counted modulo their number (Go specification: "a single one that can proceed is
+-- chosen via a uniform pseudo-random selection"; here the schedule chooses, which is this runtime's rule)
 abbrev pub chosen : ℕ → List Offer → Option Offer
 chosen choice xs = slice_get xs (choice % length xs)
 
--- if a case is on what is neither nil nor a channel, no rule fits
+-- if the channel of a case is neither nil nor a channel, no rule fits
 abbrev pub selects_from : Actor → State → ℕ → Option ℕ → Option Taken → List Change
 selects_from a s choice otherwise None = []
 selects_from a s choice otherwise (Some t) =
     choose (all_on_channels s t.0) (selects_one a t.1 s t.0 otherwise (chosen choice (ready s t.0))) []
 
--- takes the operands of all cases
+-- `select`: takes the operands of all cases, and does a ready case, `default`, or blocks
 abbrev pub selects : Actor → State → ℕ → List SelectCase → Option ℕ → List Change
 selects a s choice cases otherwise = selects_from a s choice otherwise (offers_of cases a.frame.operands)

@@ -1,4 +1,4 @@
--- Blocked goroutines that may be awakened.
+-- Blocked goroutines that may be woken.
 use Rattle.std.specs.Prelude.{ℕ, List, [], ◌∷◌}
 use Rattle.golf_base.specs.declared.ids.GoroutineId.{GoroutineId}
 

@@ -1,5 +1,5 @@
--- The state of the plain machine, which goroutines can run, how it has ended, and where a run begins. What is marked
--- (profile) is this project's own choice, if Go's documents leave one or say nothing.
+-- The state of the plain machine: which goroutines can run, how a run has ended, and where it begins. The remark "this
+-- runtime's rule" marks a rule that is this runtime's own, because Go's documents leave a choice or say nothing.
 use Rattle.std.specs.Prelude.{ℕ, ◌-◌, Bool, true, false, not, ◌&&◌, ◌||◌, pos, List, [], ◌∷◌, ◌++◌, length, replicate}
 use Rattle.std.specs.Prelude.{Option, Some, None, option_map, option_to_list, ◌==◌, slice_get}
 use Rattle.golf_theory.specs.Maps.{keys_where}
@@ -16,8 +16,8 @@ use Rattle.golf_model.specs.Values.{zeros_of}
 use Rattle.golf_data.specs.Masks.{stays_under}
 use Rattle.golf_data.specs.Slots.{cleared_slots}
 
--- everything that a run can depend on; the three maps have their entries in rising order of number, and goroutine 0 is
--- always there
+-- everything on which a run depends; the three maps have their entries in rising order of number, and goroutine 0
+-- always exists
 pub record State : Type 0 where
   pub globals : List Value
   pub objects : List (ℕ × Object)
@@ -38,8 +38,8 @@ abbrev pub not_empty : {X : Type 0} → List X → Bool
 not_empty [] = false
 not_empty (x ∷ xs) = true
 
--- whether a goroutine can run; goroutine 0, which runs finalisers, wants a frame or an entry of the queue to begin with
--- (package runtime, `SetFinalizer`: "a single goroutine runs all finalizers for a program, sequentially")
+-- whether a goroutine can run; goroutine 0, which runs finalisers, needs a frame or an entry in the queue (package
+-- runtime, `SetFinalizer`: "a single goroutine runs all finalizers for a program, sequentially")
 abbrev pub can_run : List Queued → ℕ → GoroutineView → Bool
 can_run queue g r = is_running r.mode && (not (g == 0) || (not_empty r.frames || not_empty queue))
 
@@ -56,8 +56,8 @@ ending_of None false = Some Ending.Asleep
 abbrev pub ending : State → Option Ending
 ending s = ending_of s.recorded (not_empty (runnable s))
 
--- the arguments stand in the first slots, and the others hold 0 before they are stored; an argument that is not needed
--- is cleared (profile)
+-- the arguments lie in the first slots, and the others hold 0 until a store; an argument that is not needed is cleared
+-- (this runtime's rule)
 abbrev pub slots_of : Function → List Value → List Value
 slots_of fn arguments = cleared_slots (stays_under (slice_get fn.live 0))
     (arguments ++ replicate (fn.slots - length arguments) (Value.Int (pos 0)))
@@ -86,8 +86,8 @@ first_goroutines code =
     ∷ (1, record { frames = option_to_list (call_frame code 0 [] true); mode = Mode.Running; started = code.main_line })
     ∷ []
 
--- the opening state of a code; objects are numbered from 1 and goroutines on from 2, and no number is used again
--- (profile)
+-- the opening state of a code; objects are numbered from 1 and further goroutines from 2, and no number is used again
+-- (this runtime's rule)
 abbrev pub start : Code → State
 start code = record {
   globals = zeros_of code.globals;

@@ -13,7 +13,7 @@ use Rattle.golf_model.specs.Changes.{Change}
 use Rattle.golf_model.specs.Acting.{Actor, goes, leaves, panics, on_some, taking_one, taking_two, taking_three, choose}
 use Rattle.golf_model.specs.Acting.{at_reference, at_reference_or, at_struct, at_slice}
 
--- a new object, and the reference to it on these operands
+-- a new object, with the reference to it on top of these operands
 abbrev pub makes : Actor → Object → List Value → State → List Change
 makes a x rest s = Change.Make x ∷ goes a (reference (s.last_object + 1) ∷ rest)
 
@@ -39,11 +39,11 @@ sets_field a i s =
     taking_two (λ p v rest. at_reference a (λ o. at_struct (field_set a i v rest o) (find o s.objects)) p)
     a.frame.operands
 
--- the most elements of a slice, and the greatest capacity of a channel (profile)
+-- the most elements of a slice, and the greatest capacity of a channel (this runtime's rule)
 abbrev pub most_elements : ℕ
 most_elements = 65536
 
--- a size that is negative or too great
+-- whether a size is negative or too great
 abbrev pub is_bad_size : ℤ → Bool
 is_bad_size n = int_lt n (pos 0) || int_lt (pos most_elements) n
 
@@ -63,12 +63,12 @@ makes_channel a zero s =
     taking_one (λ x rest. on_some (λ n. choose (is_bad_size n) (panics a PanicKind.ChanSize)
     (makes a (Object.Chan (new_channel (unsigned_abs n) zero)) rest s)) (int_of x)) a.frame.operands
 
--- the element at an index, which is none if the index is out of range
+-- the element at an index, or none if the index is out of range
 abbrev pub element : List Value → ℤ → Option Value
 element xs (pos i) = slice_get xs i
 element xs (negsuc i) = None
 
--- an index that is out of range panics
+-- acts on the element; an index out of range panics
 abbrev pub within : Actor → ℤ → ℕ → (Value → List Change) → Option Value → List Change
 within a i length act None = panics a (PanicKind.Index i length)
 within a i length act (Some v) = act v
@@ -91,7 +91,7 @@ sets_element a s =
     taking_three (λ x y v rest. on_some (λ i. at_reference_or (panics a (PanicKind.Index i 0))
     (λ o. at_slice (element_set a i v rest o) (find o s.objects)) x) (int_of y)) a.frame.operands
 
--- elements of a slice, buffered values of a channel
+-- the number of elements of a slice, or of buffered values of a channel
 abbrev pub length_of : Object → Option ℕ
 length_of (Object.Struct fields) = None
 length_of (Object.Slice elements) = Some (length elements)

@@ -1,4 +1,4 @@
--- One turn of the plain machine: the changes that it is made of, and the state after it.
+-- One turn of the plain machine: its list of changes, and the state after it.
 use Rattle.std.specs.Prelude.{◌≡◌, ℕ, ◌-◌, ◌/◌, ◌%◌, Bool, true, false, not, ◌||◌, cond, pos, List, [], ◌∷◌, length}
 use Rattle.std.specs.Prelude.{Option, Some, None, option_and_then, ◌==◌, slice_get, int_lt, int_le}
 use Rattle.golf_theory.specs.Maps.{find}
@@ -28,17 +28,17 @@ use Rattle.golf_model.specs.Calls.{calls, spawns, defers, returns, returns_value
 use Rattle.golf_model.specs.Finalising.{finalises, unfinalises, begins_queued}
 use Rattle.golf_model.specs.Clearing.{clearing}
 
--- takes so many operands and prints the line
+-- takes n operands and prints them as a line
 abbrev pub prints : Code → Actor → ℕ → List Change
 prints code a n =
     taking n (λ vs rest. on_some (λ bytes. Change.Output bytes ∷ goes a rest) (line_bytes code.texts vs))
     a.frame.operands
 
--- `text ->`; panics with it
+-- `text ->`; panics with the text
 abbrev pub panics_with : Actor → List Change
 panics_with a = taking_one (λ x rest. on_some (λ k. panics a (PanicKind.Custom k)) (text_of x)) a.frame.operands
 
--- the changes of one instruction; a `select` takes the ready case at the place `choice`, counted round
+-- the changes of one instruction; a `select` takes the ready case at place `choice`, counted modulo their number
 abbrev pub changes : Code → Instr → Actor → ℕ → State → List Change
 changes code (Instr.Int n) a choice s = pushes a (Value.Int n)
 changes code (Instr.Bool b) a choice s = pushes a (Value.Bool b)
@@ -112,7 +112,7 @@ abbrev pub line_number : Option CodeLine → ℕ
 line_number None = 0
 line_number (Some l) = l.line
 
--- the line of the return of a returning frame, which stands one place past it
+-- the line of the return of a returning frame, whose position is one past the return
 abbrev pub return_line : Code → FrameView → ℕ
 return_line code f = line_number (line_at code f.function (f.at - 1))
 
@@ -120,7 +120,7 @@ return_line code f = line_number (line_at code f.function (f.at - 1))
 abbrev pub acting : ℕ → GoroutineView → FrameView → List FrameView → ℕ → Actor
 acting g r f callers line = record { number = g; frame = f; callers = callers; started = r.started; line = line }
 
--- the changes of an instruction with its line; past the end no rule fits
+-- the changes of an instruction at its line; past the end no rule fits
 abbrev pub performs : Code → ℕ → GoroutineView → FrameView → List FrameView → ℕ → State → Option CodeLine → List Change
 performs code g r f callers choice s None = []
 performs code g r f callers choice s (Some l) = changes code l.instr (acting g r f callers l.line) choice s
@@ -134,7 +134,7 @@ frame_changes code g r f callers choice s (Leaving.Returning v) =
 frame_changes code g r f callers choice s (Leaving.Unwinding x) =
     leaves_unwinding code (acting g r f callers x.line) x f.deferred
 
--- the turn of a goroutine with these frames; without one, goroutine 0 goes to its queue
+-- the turn of a goroutine with these frames; goroutine 0 without frames takes an entry of its queue
 abbrev pub goroutine_changes : Code → ℕ → GoroutineView → ℕ → State → List FrameView → List Change
 goroutine_changes code g r choice s [] = cond (g == 0) (begins_queued code r s.queue) []
 goroutine_changes code g r choice s (f ∷ callers) = frame_changes code g r f callers choice s f.leaving
@@ -143,12 +143,13 @@ abbrev pub turn_of : Code → ℕ → ℕ → State → Option GoroutineView →
 turn_of code g choice s None = []
 turn_of code g choice s (Some r) = goroutine_changes code g r choice s r.frames
 
--- the changes of the turn of this goroutine; none: the state is stuck
+-- the changes of the turn of this goroutine; if there are none the state is stuck
 abbrev pub turn_changes : Code → ℕ → State → Option ℕ → List Change
 turn_changes code choice s None = []
 turn_changes code choice s (Some g) = turn_of code g choice s (find g s.goroutines)
 
--- of the goroutines that can run, in rising order, the one at the place of the number, counted round (profile)
+-- the goroutine that takes the turn: of those that can run, the one at place c, counted modulo their number (this
+-- runtime's rule)
 abbrev pub whose_turn : State → ℕ → Option ℕ
 whose_turn s c = slice_get (runnable s) (c % length (runnable s))
 
@@ -181,7 +182,7 @@ wants_collection code s c = goroutine_collects code (option_and_then (λ g. find
 abbrev pub turned : Code → State → ℕ → State
 turned code s c = apply_all (turn_changes code (c / length (runnable s)) s (whose_turn s c)) s
 
--- whether a rule fits the turn of this number: it has changes
+-- whether a rule fits the turn of this number
 abbrev pub moves_on : Code → State → ℕ → Bool
 moves_on code s c = not_empty (turn_changes code (c / length (runnable s)) s (whose_turn s c))
 
@@ -189,7 +190,7 @@ moves_on code s c = not_empty (turn_changes code (c / length (runnable s)) s (wh
 abbrev pub clears_nothing : Code → State → ℕ → Bool
 clears_nothing code s c = wants_collection code s c || not (moves_on code s c)
 
--- what is cleared after it
+-- the changes that clear slots after the turn of this number
 abbrev pub cleared_after : Code → State → ℕ → List Change
 cleared_after code s c = clearing code (clears_nothing code s c) (whose_turn s c) (turned code s c)
 

@@ -1,4 +1,4 @@
--- Values: the objects that they refer to, what they hold, when they are equal, and how they print.
+-- Values: their references, their contents, their equality, and how they print.
 use Rattle.std.specs.Prelude.{ℕ, Bool, true, false, List, [], ◌∷◌, ◌++◌, Option, Some, None, ◌==◌, slice_get, ℤ, pos}
 use Rattle.std.specs.Prelude.{negsuc}
 use Rattle.std.specs.Fmt.{signed_decimal}
@@ -22,7 +22,7 @@ abbrev pub refs : List Value → List ℕ
 refs [] = []
 refs (v ∷ vs) = value_refs v ++ refs vs
 
--- no zero value is a reference; one that a code names is read as nil
+-- the value, except that a reference is read as nil: no zero value is a reference
 abbrev pub zero_of : Value → Value
 zero_of (Value.Int n) = Value.Int n
 zero_of (Value.Bool b) = Value.Bool b
@@ -36,7 +36,7 @@ abbrev pub zeros_of : List Value → List Value
 zeros_of [] = []
 zeros_of (v ∷ vs) = zero_of v ∷ zeros_of vs
 
--- the integer that a value is
+-- the integer of a value; none for another kind
 abbrev pub int_of : Value → Option ℤ
 int_of (Value.Int n) = Some n
 int_of (Value.Bool b) = None
@@ -45,7 +45,7 @@ int_of Value.Unit = None
 int_of Value.Nil = None
 int_of (Value.Ref o) = None
 
--- the truth value that a value is
+-- the truth value of a value; none for another kind
 abbrev pub bool_of : Value → Option Bool
 bool_of (Value.Int n) = None
 bool_of (Value.Bool b) = Some b
@@ -54,7 +54,7 @@ bool_of Value.Unit = None
 bool_of Value.Nil = None
 bool_of (Value.Ref o) = None
 
--- the text that a value is, by its place in the code's table
+-- the text of a value, by its place in the code's table; none for another kind
 abbrev pub text_of : Value → Option ℕ
 text_of (Value.Int n) = None
 text_of (Value.Bool b) = None
@@ -63,7 +63,7 @@ text_of Value.Unit = None
 text_of Value.Nil = None
 text_of (Value.Ref o) = None
 
--- equal integers
+-- whether two integers are equal
 abbrev pub same_int : ℤ → ℤ → Bool
 same_int (pos m) (pos n) = m == n
 same_int (pos m) (negsuc n) = false
@@ -75,7 +75,7 @@ same_bool true b = b
 same_bool false true = false
 same_bool false false = true
 
--- an integer is compared with an integer, and so for the other kinds; nil and references are of one kind
+-- values are compared with values of their own kind only; nil and references are of one kind
 abbrev pub equals_int : ℤ → Value → Option Bool
 equals_int n (Value.Int m) = Some (same_int n m)
 equals_int n (Value.Bool b) = None
@@ -124,7 +124,7 @@ equals_reference o Value.Unit = None
 equals_reference o Value.Nil = Some false
 equals_reference o (Value.Ref p) = Some (o == p.0)
 
--- `==` of two values of one kind: the same content; a text is its place in the table, which has each text once (Go
+-- `==` of two values of one kind; texts are compared by their places in the table, which has each text once (Go
 -- specification, "Comparison operators")
 abbrev pub equality : Value → Value → Option Bool
 equality (Value.Int n) v = equals_int n v
@@ -148,18 +148,18 @@ bytes_of texts Value.Unit = None
 bytes_of texts Value.Nil = None
 bytes_of texts (Value.Ref o) = None
 
--- one piece before the others
+-- the first piece followed by the second, if both exist
 abbrev pub before : Option (List ℕ) → Option (List ℕ) → Option (List ℕ)
 before None rest = None
 before (Some xs) None = None
 before (Some xs) (Some ys) = Some (xs ++ ys)
 
--- each operand with a space before it, and a newline
+-- each operand with a space before it, and then a newline
 abbrev pub spaced_bytes : List (List ℕ) → List Value → Option (List ℕ)
 spaced_bytes texts [] = Some (10 ∷ [])
 spaced_bytes texts (v ∷ vs) = before (Some (32 ∷ [])) (before (bytes_of texts v) (spaced_bytes texts vs))
 
--- a printed line: the operands with one space between, and a newline (package fmt, `Println`)
+-- a printed line: the operands with one space between them, and a newline (package fmt, `Println`)
 abbrev pub line_bytes : List (List ℕ) → List Value → Option (List ℕ)
 line_bytes texts [] = Some (10 ∷ [])
 line_bytes texts (v ∷ vs) = before (bytes_of texts v) (spaced_bytes texts vs)

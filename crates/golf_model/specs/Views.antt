@@ -1,5 +1,4 @@
--- Goroutines and frames as the plain machine holds them: what is on top stands first, and an operand stack is its items
--- alone.
+-- Goroutines and frames as the plain machine holds them: the top comes first, and an operand stack is only its items.
 use Rattle.std.specs.Prelude.{ℕ, Bool, List, map, reverse}
 use Rattle.golf_data.specs.declared.value.Value.{Value}
 use Rattle.golf_data.specs.declared.goroutine.Frame.{Frame}
@@ -8,7 +7,7 @@ use Rattle.golf_data.specs.declared.goroutine.Leaving.{Leaving}
 use Rattle.golf_data.specs.declared.goroutine.Mode.{Mode}
 use Rattle.golf_data.specs.declared.goroutine.Goroutine.{Goroutine}
 
--- a call that has not returned; the top operand and the latest deferred call stand first
+-- a call that has not returned; the top operand and the latest deferred call come first
 pub record FrameView : Type 0 where
   pub function : ℕ
   pub at : ℕ
@@ -18,7 +17,7 @@ pub record FrameView : Type 0 where
   pub leaving : Leaving
   pub discards : Bool
 
--- a goroutine; its innermost frame stands first
+-- a goroutine; its innermost frame comes first
 pub record GoroutineView : Type 0 where
   pub frames : List FrameView
   pub mode : Mode

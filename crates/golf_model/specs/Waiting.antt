@@ -1,4 +1,4 @@
--- Who waits on an object, and who of them comes first.
+-- The goroutines that wait on an object, and which of them comes first.
 use Rattle.std.specs.Prelude.{ℕ, Bool, false, cond, ◌&&◌, List, [], ◌∷◌, Option, Some, None, option_map, ◌==◌, nat_lt}
 use Rattle.golf_data.specs.declared.value.Value.{Value}
 use Rattle.golf_data.specs.declared.goroutine.Mode.{Mode}
@@ -6,7 +6,7 @@ use Rattle.golf_data.specs.declared.goroutine.Side.{Side}
 use Rattle.golf_data.specs.declared.goroutine.Wait.{Wait}
 use Rattle.golf_model.specs.Views.{GoroutineView}
 
--- what a goroutine waits on, in source order of the cases
+-- the waits of a goroutine, in source order of the cases
 abbrev pub waits_of : Mode → List Wait
 waits_of Mode.Running = []
 waits_of (Mode.Blocked kind line waits ticket) = waits
@@ -42,7 +42,7 @@ abbrev pub wait_on : ℕ → List Wait → Option Wait
 wait_on o [] = None
 wait_on o (w ∷ ws) = cond (w.object.0 == o) (Some w) (wait_on o ws)
 
--- a goroutine that waits on an object, with its first fitting wait
+-- a goroutine that waits on an object, with its first wait that fits
 pub record Waiter : Type 0 where
   pub number : ℕ
   pub goroutine : GoroutineView
@@ -51,24 +51,24 @@ pub record Waiter : Type 0 where
 abbrev pub waiter_ticket : Waiter → ℕ
 waiter_ticket w = ticket_of w.goroutine.mode
 
--- the goroutine as a waiter, if it is one
+-- the goroutine as a waiter, if it waits on the object with that side
 abbrev pub waiter_of : ℕ → Side → ℕ × GoroutineView → Option Waiter
 waiter_of o side e = option_map (λ w. record { number = e.0; goroutine = e.1; wait = w })
     (wait_for o side (waits_of e.1.mode))
 
--- the one with the earlier ticket
+-- the waiter with the earlier ticket
 abbrev pub earlier : Option Waiter → Option Waiter → Option Waiter
 earlier None w = w
 earlier (Some v) None = Some v
 earlier (Some v) (Some w) = cond (nat_lt (waiter_ticket w) (waiter_ticket v)) (Some w) (Some v)
 
--- the goroutine of least ticket among those that wait on the object with that side: waiters are served by rising ticket
--- (profile)
+-- the waiter with the least ticket on the object with that side: waiters are served in rising order of ticket (this
+-- runtime's rule)
 abbrev pub first : ℕ → Side → List (ℕ × GoroutineView) → Option Waiter
 first o side [] = None
 first o side (e ∷ es) = earlier (waiter_of o side e) (first o side es)
 
--- the waiter at its place by rising ticket
+-- the list with the waiter inserted by rising ticket
 abbrev pub by_ticket : Waiter → List Waiter → List Waiter
 by_ticket w [] = w ∷ []
 by_ticket w (v ∷ vs) = cond (nat_lt (waiter_ticket v) (waiter_ticket w)) (v ∷ by_ticket w vs) (w ∷ v ∷ vs)
@@ -77,7 +77,7 @@ abbrev pub enter : Option Waiter → List Waiter → List Waiter
 enter None ws = ws
 enter (Some w) ws = by_ticket w ws
 
--- all who wait on the object with that side, by rising ticket
+-- all goroutines that wait on the object with that side, by rising ticket
 abbrev pub waiters : ℕ → Side → List (ℕ × GoroutineView) → List Waiter
 waiters o side [] = []
 waiters o side (e ∷ es) = enter (waiter_of o side e) (waiters o side es)

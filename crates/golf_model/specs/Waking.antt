@@ -17,11 +17,11 @@ fault kind line = record { kind = kind; line = line }
 abbrev pub unwinding : Fault → FrameView → FrameView
 unwinding x f = record f { operands = []; leaving = Leaving.Unwinding x }
 
--- the frame goes on if the wait says, with these values on top of its operands
+-- the frame goes on at the wait's target, if there is one, with these values on top of its operands
 abbrev pub resumed_frame : Wait → List Value → FrameView → FrameView
 resumed_frame w vs f = record f { at = unwrap_or w.target f.at; operands = vs ++ f.operands }
 
--- the innermost frame is changed
+-- the frames with the innermost one changed
 abbrev pub on_top : (FrameView → FrameView) → List FrameView → List FrameView
 on_top change [] = []
 on_top change (f ∷ fs) = change f ∷ fs
@@ -30,7 +30,7 @@ on_top change (f ∷ fs) = change f ∷ fs
 abbrev pub resumed : Wait → List Value → GoroutineView → GoroutineView
 resumed w vs r = record r { frames = on_top (resumed_frame w vs) r.frames; mode = Mode.Running }
 
--- a goroutine that goes on where it stands, and is given nothing
+-- a goroutine that goes on where it stands, and gets no value
 abbrev pub released : GoroutineView → GoroutineView
 released r = record r { mode = Mode.Running }
 
@@ -38,19 +38,19 @@ released r = record r { mode = Mode.Running }
 abbrev pub unwound : Fault → GoroutineView → GoroutineView
 unwound x r = record r { frames = on_top (unwinding x) r.frames; mode = Mode.Running }
 
--- what a receive leaves, the top value first: the value, and whether it was sent if that is asked for (Go
+-- the values that a receive leaves, the top one first: the value, and if it is asked for whether the value was sent (Go
 -- specification, "Receive operator")
 abbrev pub received : Bool → Value → Bool → List Value
 received true v sent = Value.Bool sent ∷ v ∷ []
 received false v sent = v ∷ []
 
--- what wakes all goroutines that wait on an object
+-- the events that wake all goroutines that wait on an object
 pub data Waking : Type 0 where
-  -- a channel was closed; its zero value
+  -- a channel was closed; the field is its zero value
   Closing : (zero : Value) → Waking
   -- a wait group is at zero
   AtZero : Waking
-  -- a reader and writer mutex is handed to its readers: to those with a ticket below this one, or to all
+  -- a reader and writer mutex is handed to its readers: those with a ticket below this one, or all
   ToReaders : (below : Option ℕ) → Waking
 
 -- a receiver gets the zero value and false; a sender unwinds at the line where it blocked (Go specification, "Close")
@@ -63,7 +63,7 @@ closed_for zero w Side.Read r = r
 closed_for zero w Side.Write r = r
 closed_for zero w Side.Cond r = r
 
--- a `select` that both sends and receives there goes by its first case on that channel (profile)
+-- a `select` that both sends and receives there is woken by its first case on that channel (this runtime's rule)
 abbrev pub closed_on : Value → Option Wait → GoroutineView → GoroutineView
 closed_on zero None r = r
 closed_on zero (Some w) r = closed_for zero w w.side r
@@ -76,11 +76,11 @@ abbrev pub is_below : Option ℕ → ℕ → Bool
 is_below None t = true
 is_below (Some n) t = nat_lt t n
 
--- the readers who are served: those with a ticket below that of every writer (profile)
+-- the readers that are served: those with a ticket below that of every writer (this runtime's rule)
 abbrev pub reads_next : Option ℕ → ℕ → GoroutineView → Option Wait
 reads_next below o r = cond (is_below below (ticket_of r.mode)) (wait_for o Side.Read (waits_of r.mode)) None
 
--- what becomes of a goroutine if all who wait on the object are woken
+-- the goroutine after all that wait on the object were woken
 abbrev pub woken_by : Waking → ℕ → GoroutineView → GoroutineView
 woken_by (Waking.Closing zero) o r = closed_on zero (wait_on o (waits_of r.mode)) r
 woken_by Waking.AtZero o r = released_by (wait_for o Side.Group (waits_of r.mode)) r

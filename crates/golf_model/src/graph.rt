@@ -1,4 +1,5 @@
-//! The dense graph that a collection marks.
+//! The dense graph that a collection marks. Its places are the nodes, from 0, and then the sleepers.
+//! A node is an object; a sleeper is a blocked goroutine that may be woken.
 
 ghost use Rattle.std.specs.Prelude.{◌≡◌, ◌<◌, [], slice_get, Some, IfOk};
 ghost use Rattle.golf_rows.specs.Rows.{IsInverseBelow};
@@ -11,7 +12,7 @@ use golf_rows::{FlatRows, inverse};
 use std::alloc::Global;
 use std::marker::Model;
 
-/// What a graph is made of. A node is an object, by its place.
+/// The parts of a graph. A node is an object, named by its place.
 #[derive(Debug)]
 pub struct GraphParts {
     /// For each node its object's number, rising.
@@ -20,12 +21,12 @@ pub struct GraphParts {
     pub children: FlatRows,
     /// For each node whether its object has a finaliser.
     pub finalised: List<bool>,
-    /// The nodes that are marked at once.
+    /// The roots: the nodes that are marked first.
     pub roots: List<u32>,
     pub sleepers: Sleepers,
 }
 
-/// A graph whose places are the nodes, from 0, and after them the sleepers.
+/// A graph whose places are the nodes, from 0, and after them the sleepers. All its parts are in range.
 #[derive(Debug)]
 pub struct Graph {
     parts: GraphParts,
@@ -43,7 +44,7 @@ impl Model for Graph {
 }
 
 impl Graph {
-    /// The graph of these parts.
+    /// Returns the graph of these parts.
     pub fn new(parts: GraphParts) -> Graph
         requires { IsInRange parts }
         ensures { result ≡ parts }
@@ -51,7 +52,7 @@ impl Graph {
         Graph { parts }
     }
 
-    /// The graph of the same nodes with these roots, and no sleeper.
+    /// Returns the graph of the same nodes with these roots and without sleepers.
     pub fn without_sleepers(mut self, alloc: Global, roots: List<u32>) -> Graph
         requires { AreNodes self roots }
         ensures { result ≡ record self { roots = roots; sleepers = [] } }
@@ -62,7 +63,7 @@ impl Graph {
         self
     }
 
-    /// How many nodes there are.
+    /// Returns how many nodes there are.
     pub fn nodes(&self) -> u32
         ensures count { result ≡ node_count self.now }
         ensures in_range { IsInRange self.now }
@@ -70,14 +71,14 @@ impl Graph {
         self.parts.children.len() as u32
     }
 
-    /// How many sleepers there are.
+    /// Returns how many sleepers there are.
     pub fn sleepers(&self) -> u32
         ensures { result ≡ sleeper_count self.now }
     {
         self.parts.sleepers.len() as u32
     }
 
-    /// The nodes that this one refers to.
+    /// Returns the nodes that this node refers to.
     pub fn children(&self, node: u32) -> &[u32]
         requires { node < node_count self.now }
         ensures { result.now ≡ children_of self.now node }
@@ -85,14 +86,14 @@ impl Graph {
         self.parts.children.row(node as usize)
     }
 
-    /// The nodes that are marked at once.
+    /// Returns the roots: the nodes that are marked first.
     pub fn roots(&self) -> &[u32]
         ensures { result.now ≡ self.now.roots }
     {
         self.parts.roots.as_slice()
     }
 
-    /// The number of this node's object.
+    /// Returns the number of this node's object.
     pub fn number_of(&self, node: u32) -> ObjectId
         requires { node < node_count self.now }
         ensures { slice_get self.now.numbers node ≡ Some result }
@@ -100,7 +101,7 @@ impl Graph {
         self.parts.numbers.as_slice()[node as usize]
     }
 
-    /// Whether this node's object has a finaliser.
+    /// Returns whether this node's object has a finaliser.
     pub fn finalised(&self, node: u32) -> bool
         requires { node < node_count self.now }
         ensures { slice_get self.now.finalised node ≡ Some result }
@@ -108,7 +109,7 @@ impl Graph {
         self.parts.finalised.as_slice()[node as usize]
     }
 
-    /// Which goroutine this sleeper is.
+    /// Returns the goroutine of this sleeper.
     pub fn goroutine_of(&self, sleeper: u32) -> GoroutineId
         requires { sleeper < sleeper_count self.now }
         ensures { goroutine_at self.now sleeper ≡ Some result }
@@ -116,7 +117,7 @@ impl Graph {
         self.parts.sleepers.goroutine(sleeper as usize)
     }
 
-    /// The nodes that this sleeper waits on.
+    /// Returns the nodes that this sleeper waits on.
     pub fn waits(&self, sleeper: u32) -> &[u32]
         requires { sleeper < sleeper_count self.now }
         ensures { result.now ≡ sleeper_waits self.now sleeper }
@@ -124,7 +125,7 @@ impl Graph {
         self.parts.sleepers.waits(sleeper as usize)
     }
 
-    /// For each node the sleepers that wait on it.
+    /// Returns for each node the sleepers that wait on it.
     ///
     /// `Memory` also comes if all sleepers together wait on 2^32 nodes or more.
     pub fn waiters(&self, alloc: Global) -> Result<FlatRows, Memory>
@@ -134,7 +135,7 @@ impl Graph {
         Ok(rows)
     }
 
-    /// For each node the nodes that refer to it.
+    /// Returns for each node the nodes that refer to it.
     ///
     /// `Memory` also comes if all nodes together refer to 2^32 nodes or more.
     pub fn parents(&self, alloc: Global) -> Result<FlatRows, Memory>
@@ -144,7 +145,7 @@ impl Graph {
         Ok(rows)
     }
 
-    /// The nodes that this sleeper refers to.
+    /// Returns the nodes that this sleeper refers to.
     pub fn references(&self, sleeper: u32) -> &[u32]
         requires { sleeper < sleeper_count self.now }
         ensures { result.now ≡ sleeper_references self.now sleeper }
@@ -153,7 +154,7 @@ impl Graph {
     }
 }
 
-/// Which places of a graph are marked.
+/// The marked places of a graph.
 #[derive(Debug)]
 pub struct Marked {
     /// For each node whether it is marked.
@@ -164,7 +165,7 @@ pub struct Marked {
     pub awake: List<bool>,
 }
 
-// These are written out once here, so that no other crate goes through the fields where it lets a graph go.
+// These drops are written out once here, so that no other crate has to prove the drop of each field.
 impl Drop for GraphParts {
     fn drop(self) {
         let GraphParts {

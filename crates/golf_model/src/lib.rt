@@ -1,5 +1,7 @@
-//! The definitions of the plain machine, which frees and reclaims nothing: its states, turns, runs
-//! and collections, the live set, reports and futures; and the dense graph that a collection marks.
+//! The definitions of the plain machine, and the dense graph that a collection marks.
+//!
+//! The plain machine frees no object and reclaims no goroutine. `specs/` defines its states, turns,
+//! runs and collections, the live set, the dead goroutines, reports and futures.
 #![tactic(auto)]
 
 mod graph;

@@ -1,4 +1,6 @@
-//! Blocked goroutines that may be awakened.
+//! Blocked goroutines that may be woken: the sleepers of a graph.
+//!
+//! The invariant: there is one row of waits and one row of references for each goroutine.
 
 ghost use Rattle.std.specs.Prelude.{◌≡◌, ◌<◌, ◌++◌, ◌∷◌, [], OnErr, OnOk, Some, length, map, option_map, slice_get};
 
@@ -7,7 +9,7 @@ use golf_rows::FlatRows;
 use std::alloc::Global;
 use std::marker::Model;
 
-/// Blocked goroutines that may be awakened, each with the nodes that it waits on and those that it
+/// Blocked goroutines that may be woken. Each has the nodes that it waits on and the nodes that it
 /// refers to. Contracts see the list of the sleepers.
 #[derive(Debug)]
 pub struct Sleepers {
@@ -38,7 +40,7 @@ impl Drop for Sleepers {
 }
 
 impl Sleepers {
-    /// No sleeper. It takes no memory.
+    /// Returns no sleepers. It takes no memory.
     pub fn new(alloc: Global) -> Sleepers
         ensures { result ≡ [] }
     {
@@ -49,16 +51,17 @@ impl Sleepers {
         }
     }
 
-    /// How many sleepers there are.
+    /// Returns how many sleepers there are.
     pub fn len(&self) -> usize
         ensures { result ≡ length self.now }
     {
         self.goroutines.len()
     }
 
-    /// Adds a sleeper at the end or, on an `Err`, nothing.
+    /// Adds a sleeper at the end. On `Err` the sleepers are unchanged.
     ///
-    /// `Memory` also comes if all sleepers together wait on 2^32 nodes or more, or refer to as many.
+    /// `Memory` also comes if all sleepers together wait on 2^32 nodes or more, or refer to 2^32
+    /// nodes or more.
     pub fn push(
         &mut self,
         goroutine: GoroutineId,
@@ -83,7 +86,7 @@ impl Sleepers {
         Ok(())
     }
 
-    /// Which goroutine the sleeper at a place is.
+    /// Returns the goroutine of the sleeper at a place.
     pub fn goroutine(&self, at: usize) -> GoroutineId
         requires { at < length self.now }
         ensures { option_map (λ x. x.goroutine) (slice_get self.now at) ≡ Some result }
@@ -91,7 +94,7 @@ impl Sleepers {
         self.goroutines.as_slice()[at]
     }
 
-    /// The nodes that the sleeper at a place waits on.
+    /// Returns the nodes that the sleeper at a place waits on.
     pub fn waits(&self, at: usize) -> &[u32]
         requires { at < length self.now }
         ensures { option_map (λ x. x.waits) (slice_get self.now at) ≡ Some result.now }
@@ -99,14 +102,14 @@ impl Sleepers {
         self.waits.row(at)
     }
 
-    /// For each sleeper the nodes that it waits on.
+    /// Returns for each sleeper the nodes that it waits on.
     pub fn all_waits(&self) -> &FlatRows
         ensures { result.now ≡ map (λ x. x.waits) self.now }
     {
         &self.waits
     }
 
-    /// The nodes that the sleeper at a place refers to.
+    /// Returns the nodes that the sleeper at a place refers to.
     pub fn references(&self, at: usize) -> &[u32]
         requires { at < length self.now }
         ensures { option_map (λ x. x.references) (slice_get self.now at) ≡ Some result.now }

@@ -1,4 +1,4 @@
--- Sets given by tests, and states that lack what fails a test.
+-- Sets given by tests, and states without the members that fail a test.
 use Rattle.std.specs.Prelude.{◌≡◌, ℕ, ◌<◌, ◌≤◌, Bool, true}
 use Rattle.golf_model.specs.State.{State}
 
@@ -6,7 +6,7 @@ use Rattle.golf_model.specs.State.{State}
 abbrev pub Passes : (ℕ → Bool) → ℕ → Type 0
 Passes test n = test n ≡ true
 
--- numbers that are not given yet pass both tests
+-- numbers that are not given yet pass the tests
 pub record KeepsFresh (stays kept : ℕ → Bool) (s : State) : Type 0 where
   pub objects : (o : ℕ) → s.last_object < o → kept o ≡ true
   pub goroutines : (g : ℕ) → s.next_goroutine ≤ g → stays g ≡ true

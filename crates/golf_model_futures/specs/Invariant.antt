@@ -15,8 +15,8 @@ use Rattle.golf_model.specs.Reaching.{reach, sources}
 use Rattle.golf_model.specs.Refs.{object_refs, deferred_refs, leaving_refs, frames_refs, wait_refs, goroutine_refs}
 use Rattle.golf_model.specs.Refs.{queue_refs, waited}
 
--- globals, the queue, finalised objects, the set's objects and the set's goroutines refer to objects of the set alone;
--- who runs, and who waits on an object of the set, is in the set, and so are goroutine 0 and every number not given yet
+-- references from globals, the queue, finalised objects and members of the sets are to members only; each goroutine
+-- that runs or waits on a member is a member, and so are goroutine 0 and each number that is not given yet
 pub record Closed (s : State) (O G : ℕ → Type 0) : Type 0 where
   pub globals : Every O (refs s.globals)
   pub queue : Every O (queue_refs s.queue)
@@ -29,19 +29,19 @@ pub record Closed (s : State) (O G : ℕ → Type 0) : Type 0 where
   pub new_objects : (o : ℕ) → s.last_object < o → O o
   pub new_goroutines : (g : ℕ) → s.next_goroutine ≤ g → G g
 
--- what is outside the sets stands as it stood
+-- outside the sets the two states agree
 pub record Confined (O G : ℕ → Type 0) (s t : State) : Type 0 where
   pub objects : AgreeOutside O s.objects t.objects
   pub finalisers : AgreeOutside O s.finalisers t.finalisers
   pub goroutines : AgreeOutside G s.goroutines t.goroutines
 
--- what a waking hands out refers to the set alone
+-- a waking gives only references to members
 abbrev pub GoodWaking : (ℕ → Type 0) → Waking → Type 0
 GoodWaking O (Waking.Closing zero) = Every O (value_refs zero)
 GoodWaking O Waking.AtZero = Unit {0}
 GoodWaking O (Waking.ToReaders below) = Unit {0}
 
--- a change that concerns members of the sets alone, and stores references to members alone; a finaliser is set for an
+-- the change concerns only members of the sets and stores only references to members; it sets a finaliser only for an
 -- object of the third set
 abbrev pub Good : (ℕ → Type 0) → (ℕ → Type 0) → (ℕ → Type 0) → Change → Type 0
 Good O G F (Change.Make x) = Every O (object_refs x)
@@ -59,7 +59,7 @@ Good O G F (Change.Output bytes) = Unit {0}
 Good O G F (Change.WakeAll o how) = O o × GoodWaking O how
 Good O G F (Change.PassOn g m) = G g × O m
 
--- none
+-- the empty set
 abbrev pub Nothing : ℕ → Type 0
 Nothing n = ⊥
 
@@ -67,8 +67,8 @@ Nothing n = ⊥
 abbrev pub AllGood : (ℕ → Type 0) → (ℕ → Type 0) → List Change → Type 0
 AllGood O G cs = Every (Good O G Nothing) cs
 
--- the sets and the last object number after a change: an object that was made joins its set, and no second finaliser is
--- set
+-- the sets and the last object number after a change: a new object joins its set, and after a finaliser no further one
+-- may be set
 abbrev pub objects_after : Change → (ℕ → Type 0) → ℕ → ℕ → Type 0
 objects_after (Change.Make x) O n = λ o. O o ⊎ (o ≡ n + 1)
 objects_after _ O n = O
@@ -81,19 +81,19 @@ abbrev pub finalisable_after : Change → (ℕ → Type 0) → ℕ → Type 0
 finalisable_after (Change.SetFinaliser o f) F = Nothing
 finalisable_after _ F = F
 
--- each change is good for what holds after those before it; n is the last object number
+-- each change is good for the sets after the changes before it; n is the last object number
 abbrev pub Sound : (ℕ → Type 0) → (ℕ → Type 0) → (ℕ → Type 0) → ℕ → List Change → Type 0
 Sound O G F n [] = Unit {0}
 Sound O G F n (c ∷ cs) = Good O G F c × Sound (objects_after c O n) G (finalisable_after c F) (last_after c n) cs
 
--- the parts of a frame refer to members alone
+-- the parts of a frame refer only to members
 pub record FrameIn (O : ℕ → Type 0) (f : FrameView) : Type 0 where
   pub slots : Every O (refs f.slots)
   pub operands : Every O (refs f.operands)
   pub deferred : Every O (deferred_refs f.deferred)
   pub leaving : Every O (leaving_refs f.leaving)
 
--- the acting goroutine is a member, and refers to members alone
+-- the acting goroutine is a member, and refers only to members
 pub record ActorIn (O G : ℕ → Type 0) (a : Actor) : Type 0 where
   pub number : G a.number
   pub frame : FrameIn O a.frame

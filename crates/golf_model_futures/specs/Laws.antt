@@ -22,29 +22,28 @@ use Rattle.golf_model_futures.specs.Cutting.{Passes, KeepsFresh}
 abbrev pub DeadAreStill : Type 0
 DeadAreStill = (code : Code) (s : State) (g : ℕ) → Numbered s → Dead s g → Still code s g
 
--- every state that moves lead to has its numbers in order, and no reference above the last object
+-- every state that moves reach has its numbers in order, and no reference above the last object's number
 abbrev pub LeadsNumber : Type 0
 LeadsNumber = (code : Code) (s : State) → Leads code s → Numbered s
 
--- the live nodes, with all numbers that are not given yet, are closed
+-- the live nodes, together with all numbers that are not given yet, are closed
 abbrev pub LiveIsClosed : Type 0
 LiveIsClosed = (s : State) → Numbered s → Closed s (λ o. Live s (Node.AnObject o) ⊎ (s.last_object < o))
     (λ g. Live s (Node.AGoroutine g) ⊎ (s.next_goroutine ≤ g))
 
--- a change that concerns members alone keeps closed sets closed, and leaves what is outside them as it was
+-- a change that concerns only members keeps closed sets closed, and leaves everything else as it was
 abbrev pub ChangesKeep : Type 0
 ChangesKeep = (s : State) (c : Change) (kept stays : ℕ → Bool) → Closed s (Passes kept) (Passes stays)
     → Good (Passes kept) (Passes stays) Nothing c
     → Closed (apply c s) (Passes kept) (Passes stays) × Confined (Passes kept) (Passes stays) s (apply c s)
 
--- an instruction moves what its goroutine refers to: its changes concern members of every closed pair of sets that the
--- goroutine belongs to
+-- the changes of an instruction concern only members of each closed pair of sets that its goroutine belongs to
 abbrev pub InstructionsMoveMembers : Type 0
 InstructionsMoveMembers = (code : Code) (s : State) (kept stays : ℕ → Bool) → Closed s (Passes kept) (Passes stays)
     → (a : Actor) → ActorIn (Passes kept) (Passes stays) a → (i : Instr) (choice : ℕ)
     → Sound (Passes kept) (Passes stays) (Unfinalised s) s.last_object (changes code i a choice s)
 
--- an instruction has the same changes in a state that lacks what is outside such sets
+-- an instruction has the same changes in a state without the objects and goroutines outside such sets
 abbrev pub InstructionsSame : Type 0
 InstructionsSame = (code : Code) (s : State) (kept stays : ℕ → Bool) → Closed s (Passes kept) (Passes stays)
     → (a : Actor) → ActorIn (Passes kept) (Passes stays) a → (i : Instr) (choice : ℕ)
@@ -55,7 +54,7 @@ abbrev pub CollectionsKeep : Type 0
 CollectionsKeep = (s : State) (kept stays : ℕ → Bool) → Closed s (Passes kept) (Passes stays)
     → Closed (plain_collect s) (λ o. Passes kept o ⊎ Queueing s o) (Passes stays)
 
--- a turn keeps closed sets closed, and leaves what is outside them as it was
+-- a turn keeps closed sets closed, and leaves everything else as it was
 abbrev pub TurnsKeep : Type 0
 TurnsKeep = (code : Code) (s : State) (k : ℕ) (kept stays : ℕ → Bool) → Closed s (Passes kept) (Passes stays)
     → Closed (step code s k) (Passes kept) (Passes stays) × Confined (Passes kept) (Passes stays) s (step code s k)
@@ -66,8 +65,8 @@ TurnsCut = (code : Code) (s : State) (k : ℕ) (kept stays : ℕ → Bool) → C
     → KeepsFresh stays kept s
     → step code (cut stays kept s) k ≡ cut stays kept (step code s k)
 
--- recovery cannot be seen: after a collection that removes goroutines and frees objects every continuation shows what
--- it shows after the plain one, but for the removed goroutines
+-- recovery cannot be seen: after a collection that removes goroutines and frees objects each continuation shows the
+-- same as after the plain collection, except for the removed goroutines
 abbrev pub RecoveryUnseen : Type 0
 RecoveryUnseen = (code : Code) (s : State) (recover : Bool) (events : List Event) → Leads code s
     → futures code (real_collect s recover (sets_finalisers code)) events (removed s recover (sets_finalisers code))
@@ -78,8 +77,8 @@ abbrev pub ReportedAreStill : Type 0
 ReportedAreStill = (code : Code) (events : List Event) (p : State) (g : ℕ) → In p (stops code events) → In g (dead p)
     → Still code p g
 
--- a run whose collections remove goroutines and free objects prints what the run prints in which they do neither, ends
--- as it does, calls the same finalisers on the same objects in the same order, and its reports are those of that run's
+-- a real run, whose collections remove goroutines and free objects, agrees with the plain run. It prints the same, ends
+-- alike, calls the same finalisers on the same objects in the same order, and its reports are those of the plain run's
 -- book
 abbrev pub RealRunsAgree : Type 0
 RealRunsAgree = (code : Code) (events : List Event) (recover : Bool)
@@ -88,19 +87,17 @@ RealRunsAgree = (code : Code) (events : List Event) (recover : Bool)
     × (real_reports code events recover ≡ book_of (stops code events) recover (sets_finalisers code))
     × (real_calls code events recover ≡ finaliser_calls code (start code) events)
 
--- the book of a run reports each goroutine that a stop finds blocked outside the live set once, at the first such stop,
--- and nobody else
+-- the book of a run reports exactly the goroutines that some stop finds dead, each once, at the first such stop
 abbrev pub BookTellsOfEach : Type 0
 BookTellsOfEach = (code : Code) (events : List Event) (recover : Bool)
     → TellsOfEach [] (stops code events) (book_of (stops code events) recover (sets_finalisers code))
 
--- in every state of a plain run, and right before each of its collections, each reference is one to an object that is
--- there
+-- in every state of a plain run, and right before each of its collections, each reference is to an object that exists
 abbrev pub ReferencesPresent : Type 0
 ReferencesPresent = (code : Code) (events : List Event) → IsWhole (run code (start code) events)
     × ((p : State) → In p (stops code events) → IsWhole p)
 
--- what was printed before a run changes nothing of it
+-- output from before a run changes nothing in the run
 abbrev pub PrintingApart : Type 0
 PrintingApart = (code : Code) (w : List ℕ) (s : State) (events : List Event)
     → run code (prefixed w s) events ≡ prefixed w (run code s events)

@@ -1,4 +1,4 @@
--- What the reports of a run tell.
+-- The goroutines that the reports of a run name.
 use Rattle.std.specs.Prelude.{◌≡◌, ℕ, List, [], ◌∷◌, ◌++◌, map}
 use Rattle.golf_data.specs.declared.report.Report.{Report}
 use Rattle.golf_model.specs.State.{State}
@@ -9,8 +9,8 @@ use Rattle.golf_model.specs.Reporting.{without}
 abbrev pub named : Report → List ℕ
 named r = map (λ e. e.goroutine.0) r.reported
 
--- there is one report for each stop, and it names, in rising number, those who are dead right before it and whom no
--- earlier report named
+-- there is one report for each stop; it names, in rising order, the goroutines that are dead right before the stop and
+-- that no earlier report named
 abbrev pub TellsOfEach : List ℕ → List State → List Report → Type 0
 TellsOfEach told [] [] = Unit {0}
 TellsOfEach told [] (r ∷ rs) = ⊥

@@ -1,7 +1,8 @@
-//! Laws of the plain machine: what every change, every instruction, every turn, every collection and
-//! every run keeps.
+//! Laws of the plain machine: what every change, instruction, turn, collection and run keeps.
 //!
-//! Each function here has one law as its contract. The statements and the invariants stand in
+//! The main word is `Closed`: a set of objects and a set of goroutines that a run does not leave.
+//!
+//! Each function here has one law as its contract. The statements and the invariants are in
 //! `specs/`, the proofs in `proofs/`.
 #![tactic(auto)]
 
@@ -23,79 +24,90 @@ ghost use Rattle.golf_model_futures.specs.Laws.{
   TurnsKeep,
 };
 
-/// A blocked goroutine outside the live set takes no step in any continuation: for every code, every
-/// state whose numbers were given in order and every list of turns and collections, it stands as it
-/// stood, with its frames, its waits and its ticket.
+/// States that a blocked goroutine outside the live set takes no step in any continuation.
+///
+/// This holds for every code, every state with its numbers in order, and every list of turns and
+/// collections. The goroutine keeps its frames, its waits and its ticket.
 pub fn dead_are_still()
     ensures { DeadAreStill }
 {}
 
-/// Every state that moves lead to from the opening state of any code has its numbers in order and no
-/// reference above the last object.
+/// States that every state that moves reach has its numbers in order and no reference above the
+/// last object's number. Moves start from the opening state of any code.
 pub fn leads_number()
     ensures { LeadsNumber }
 {}
 
-/// The live set is closed under all rules by which a run can bring something to life.
+/// States that the live set, with all numbers that are not given yet, is closed.
 pub fn live_is_closed()
     ensures { LiveIsClosed }
 {}
 
-/// Each change that concerns members of closed sets alone keeps them closed and leaves the rest.
+/// States that a change that concerns only members of closed sets keeps them closed and leaves the
+/// rest.
 pub fn changes_keep()
     ensures { ChangesKeep }
 {}
 
-/// Each instruction moves what its goroutine refers to, and has the same changes in a state that
-/// lacks what its goroutine cannot come to.
+/// States two laws of instructions. The changes of an instruction concern only members of each
+/// closed set that its goroutine belongs to. The instruction has the same changes in a state
+/// without the rest.
 pub fn instruction_laws()
     ensures moves { InstructionsMoveMembers }
     ensures same { InstructionsSame }
 {}
 
-/// A collection keeps closed sets closed, once the objects that it queues have joined them.
+/// States that a collection keeps closed sets closed, once the objects that it queues have joined
+/// them.
 pub fn collections_keep()
     ensures { CollectionsKeep }
 {}
 
-/// A turn keeps closed sets closed, leaves the rest, and goes the same way if the rest is cut.
+/// States that a turn keeps closed sets closed, leaves the rest, and is the same turn if the rest
+/// is cut.
 pub fn turn_laws()
     ensures keep { TurnsKeep }
     ensures same { TurnsCut }
 {}
 
-/// Recovery cannot be seen: in every state that moves lead to, a collection that removes the dead
-/// goroutines which are not kept, and frees all that the others cannot come to, leaves every
-/// continuation its output, its ending, its finaliser calls, and at each later collection its live
-/// objects and its dead goroutines, but for the removed ones.
+/// States that recovery cannot be seen, in every state that moves reach.
+///
+/// A collection with recovery removes dead goroutines that are not kept, and frees the objects that
+/// the others do not reach. Every continuation then shows what it shows after a plain collection:
+/// its output, its ending, its finaliser calls, and at each later collection the live objects and
+/// the dead goroutines, except for the removed ones.
 pub fn recovery_unseen()
     ensures { RecoveryUnseen }
 {}
 
-/// Whoever is dead right before a collection of a run takes no step in any continuation from there.
+/// States that a goroutine that is dead right before a collection takes no step in any
+/// continuation.
 pub fn reported_are_still()
     ensures { ReportedAreStill }
 {}
 
-/// With recovery or without, a run prints what the run prints in which nothing is freed and nobody is
-/// removed, it ends as that run does, it calls the same finalisers on the same objects in the same
-/// order, and its reports are those of that run's book.
+/// States that a real run agrees with the plain run, which frees and removes nothing.
+///
+/// Both print the same and end alike, and call the same finalisers on the same objects in the same
+/// order. The reports of the real run are those of the plain run's book. This holds with and
+/// without recovery.
 pub fn real_runs_agree()
     ensures { RealRunsAgree }
 {}
 
-/// The book of a run reports each goroutine that a collection finds blocked outside the live set
-/// once, at the first collection that finds it, in rising number, and nobody else.
+/// States which goroutines the book of a run reports: each goroutine that a collection finds
+/// blocked outside the live set, once, at the first such collection, in rising order of number. It
+/// names no other.
 pub fn book_tells_of_each()
     ensures { BookTellsOfEach }
 {}
 
-/// In every state of a run each reference is one to an object that is there.
+/// States that in every state of a run each reference is to an object that exists.
 pub fn references_are_present()
     ensures { ReferencesPresent }
 {}
 
-/// What was printed before a run changes nothing of it.
+/// States that output from before a run changes nothing in the run.
 pub fn printing_is_apart()
     ensures { PrintingApart }
 {}

@@ -1,4 +1,4 @@
--- The laws of the states that moves lead to, as statements.
+-- The laws of the states that moves reach, as statements.
 use Rattle.std.specs.Prelude.{ℕ, Bool, List}
 use Rattle.golf_theory.specs.Maps.{IsRising}
 use Rattle.golf_theory.specs.Membership.{In}
@@ -18,20 +18,20 @@ use Rattle.golf_model.specs.Presence.{IsWhole}
 use Rattle.golf_model_futures.specs.Telling.{named}
 use Rattle.golf_model_order.specs.Orderly.{IsOrderly, KeepsOrder, AllKeepOrder}
 
--- in every state that moves lead to each reference is one to an object that is there
+-- in every state that moves reach each reference is to an object that exists
 abbrev pub LeadsWhole : Type 0
 LeadsWhole = (code : Code) (s : State) → Leads code s → IsWhole s
 
--- a collection keeps that, whether it removes goroutines or not
+-- a collection keeps this, with and without recovery
 abbrev pub CollectionsKeepWhole : Type 0
 CollectionsKeepWhole = (s : State) (recover sets_finalisers : Bool) → Numbered s → IsWhole s
     → IsWhole (real_collect s recover sets_finalisers)
 
--- in every state that moves lead to goroutines are in order
+-- in every state that moves reach goroutines are in order
 abbrev pub LeadsOrderly : Type 0
 LeadsOrderly = (code : Code) (s : State) → Leads code s → IsOrderly s
 
--- each change of each instruction keeps goroutines in order, and so does a turn
+-- each change of each instruction keeps goroutines in order, and so do turns and collections
 abbrev pub ChangesKeepOrder : Type 0
 ChangesKeepOrder = (s : State) (c : Change) → KeepsOrder s.objects c → IsOrderly s → IsOrderly (apply c s)
 
@@ -46,11 +46,11 @@ abbrev pub CollectionsKeepOrder : Type 0
 CollectionsKeepOrder = (s : State) (recover sets_finalisers : Bool) → Numbered s → IsWhole s → IsOrderly s
     → IsOrderly (real_collect s recover sets_finalisers)
 
--- goroutine 0, which runs finalisers, is live, and so it is never dead
+-- goroutine 0, which runs finalisers, is live, so it is never dead
 abbrev pub FinaliserGoroutineLives : Type 0
 FinaliserGoroutineLives = (s : State) → Live s (Node.AGoroutine 0) × (In 0 (dead s) → ⊥)
 
--- no report of a run names it
+-- no report of a run names goroutine 0
 abbrev pub FinaliserGoroutineUnreported : Type 0
 FinaliserGoroutineUnreported = (code : Code) (events : List Event) (recover : Bool) (r : Report)
     → In r (real_reports code events recover) → In 0 (named r) → ⊥

@@ -1,8 +1,9 @@
-//! Laws of the states that moves lead to: turns, collections with recovery or without, and emptying
-//! of the output.
+//! Laws of the states that moves reach. A move is a turn, a collection with or without recovery, or
+//! the emptying of the output.
 //!
-//! Each function here has one law as its contract, or laws that belong together. The statements
-//! stand in `specs/`, the proofs in `proofs/`.
+//! The main words are `IsWhole`, each reference is to an object that exists, and `IsOrderly`, each
+//! blocked goroutine has a frame and its own ticket. The statements are in `specs/`, the proofs in
+//! `proofs/`.
 #![tactic(auto)]
 
 ghost use Rattle.golf_model_order.specs.Laws.{
@@ -17,25 +18,26 @@ ghost use Rattle.golf_model_order.specs.Laws.{
   TurnsKeepOrder,
 };
 
-/// In every state that moves lead to from the opening state of any code, each reference is one to an
-/// object that is there, and what has a finaliser is there.
+/// States that every state that moves reach is whole: each reference is to an object that exists,
+/// and so is each object with a finaliser. Moves start from the opening state of any code.
 pub fn leads_whole()
     ensures { LeadsWhole }
 {}
 
-/// A collection keeps that, whether it removes goroutines or not.
+/// States that a collection keeps a state whole, with and without recovery.
 pub fn collections_keep_whole()
     ensures { CollectionsKeepWhole }
 {}
 
-/// In every state that moves lead to from the opening state of any code, a blocked goroutine has a
-/// frame, tickets of blocked goroutines differ and lie below the next one, who waits on a condition
-/// waits on one whose mutex is there, and goroutine 0 is there.
+/// States that every state that moves reach is orderly.
+///
+/// A blocked goroutine has a frame. Tickets of blocked goroutines differ and lie below the next
+/// ticket. A condition on which a goroutine waits has a mutex that exists. Goroutine 0 exists.
 pub fn leads_orderly()
     ensures { LeadsOrderly }
 {}
 
-/// Each change, each instruction, each turn and each collection keeps that.
+/// States that each change, instruction, turn and collection keeps a state orderly.
 pub fn order_is_kept()
     ensures changes { ChangesKeepOrder }
     ensures instructions { InstructionsKeepOrder }
@@ -43,8 +45,8 @@ pub fn order_is_kept()
     ensures collections { CollectionsKeepOrder }
 {}
 
-/// Goroutine 0, which runs finalisers, is live in every state, is never dead, and no report of a run
-/// names it.
+/// States that goroutine 0, which runs finalisers, is live in every state and never dead. No report
+/// of a run names it.
 pub fn finaliser_goroutine_lives()
     ensures lives { FinaliserGoroutineLives }
     ensures unreported { FinaliserGoroutineUnreported }

@@ -1,6 +1,7 @@
-//! Typed code never gets stuck.
+//! Well-typed code never gets stuck: in each state that moves reach, and that has no ending, a rule
+//! fits.
 //!
-//! Each function here has one law as its contract. The statements stand in `specs/`, the proofs in
+//! Each function here has one law as its contract. The statements are in `specs/`, the proofs in
 //! `proofs/`.
 #![tactic(auto)]
 
@@ -13,33 +14,34 @@ ghost use Rattle.golf_model_progress.specs.Laws.{
   TypedStatesMoveOn,
 };
 
-/// The opening state of code that has shapes is well typed.
+/// States that the opening state of code that has shapes is well typed.
 pub fn start_is_typed()
     ensures { StartIsTyped }
 {}
 
-/// A turn keeps types.
+/// States that a turn keeps a state well typed.
 pub fn turns_keep_types()
     ensures { TurnsKeepTypes }
 {}
 
-/// A collection keeps types, whether it removes goroutines or not.
+/// States that a collection keeps a state well typed, with and without recovery.
 pub fn collections_keep_types()
     ensures { CollectionsKeepTypes }
 {}
 
-/// A well-typed state without an ending moves on: whoever's turn it is, a rule fits.
+/// States that a well-typed state without an ending moves on: a rule fits the turn of any
+/// goroutine.
 pub fn typed_states_move_on()
     ensures { TypedStatesMoveOn }
 {}
 
-/// Every state that turns, collections and emptying of the output lead to from the opening state of
-/// code that has shapes is well typed.
+/// States that every state that moves reach is well typed, if the code has shapes. Moves are turns,
+/// collections and the emptying of the output, from the opening state.
 pub fn leads_are_typed()
     ensures { LeadsTyped }
 {}
 
-/// No such state is stuck before its ending.
+/// States that no such state is stuck before its ending.
 pub fn never_stuck()
     ensures { NeverStuck }
 {}

@@ -1,4 +1,4 @@
--- The law of what changes keep, as a statement.
+-- The law of changes that fit types, as a statement.
 use Rattle.std.specs.Prelude.{ℕ, List}
 use Rattle.golf_model.specs.State.{State}
 use Rattle.golf_model.specs.Changes.{Change, apply_all}
@@ -6,7 +6,7 @@ use Rattle.golf_model_typing.specs.Types.{ValueType, Typing}
 use Rattle.golf_model_typing.specs.Grows.{Grows}
 use Rattle.golf_model_typing.specs.WellTyped.{WellTyped, ChangesFit}
 
--- changes that fit types leave a well-typed state, in which the objects that were made are known, and those that were
+-- changes that fit types leave a well-typed state, in which the new objects are known, and so are all objects that were
 -- known before
 abbrev pub ChangesKeepTypes : Type 0
 ChangesKeepTypes = (types : Typing) (known : List (ℕ × ValueType)) (cs : List Change) (s : State)

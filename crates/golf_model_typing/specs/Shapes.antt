@@ -1,4 +1,4 @@
--- Code that has shapes: what each instruction asks of the shape at its position, and what stands at the next ones.
+-- Code that has shapes: what each instruction asks of the shape at its position and of the next shapes.
 use Rattle.std.specs.Prelude.{◌≡◌, ◌⊎◌, ℕ, ◌+◌, ◌<◌, true, List, [], ◌∷◌, ◌++◌, length, Option, Some, None}
 use Rattle.std.specs.Prelude.{option_to_list, slice_get}
 use Rattle.golf_theory.specs.Membership.{In, Every}
@@ -23,24 +23,24 @@ abbrev pub pushed : List ValueType → List ValueType → List ValueType
 pushed [] rest = rest
 pushed (t ∷ ts) rest = pushed ts (t ∷ rest)
 
--- it goes on at a position with these operands, if at most these slots are assigned
+-- the code goes on at a position with these operands; the shape there asks only for these slots
 abbrev pub GoesOn : FunctionTypes → List ValueType → List ℕ → ℕ → Type 0
 GoesOn ft ts assigned k = (next : Shape) × (slice_get ft.shapes k ≡ Some next) × (next.operands ≡ ts)
     × Every (λ i. In i assigned) next.assigned
 
--- takes operands of these types, the top one first, and leaves some; it goes on at the next position
+-- takes operands of these types, the top one first, and leaves others; the code goes on at the next position
 abbrev pub Takes : FunctionTypes → ℕ → Shape → List ValueType → List ValueType → Type 0
 Takes ft k sh takes leaves = (rest : List ValueType) × (sh.operands ≡ takes ++ rest)
     × GoesOn ft (leaves ++ rest) sh.assigned (k + 1)
 
--- a call of a function of the code with its arguments, which leaves these
+-- a call of a function of the code with its arguments; it leaves these operands
 abbrev pub TakesArguments : Types → FunctionTypes → ℕ → Shape → ℕ → ℕ → (Signature → List ValueType) → Type 0
 TakesArguments types ft k sh f n leaves =
     (callee : Signature) × (rest : List ValueType) × (slice_get types.functions f ≡ Some callee)
     × (n ≡ length callee.params)
     × (sh.operands ≡ pushed callee.params rest) × GoesOn ft (leaves callee ++ rest) sh.assigned (k + 1)
 
--- what a case of a `select` takes, on top of these, and what it leaves at its target
+-- the operands that a case of a `select` takes, on top of these, and those that it leaves at its target
 abbrev pub case_takes : CaseKind → ValueType → List ValueType → List ValueType
 case_takes CaseKind.Send e rest = e ∷ ValueType.Chan e ∷ rest
 case_takes CaseKind.Take e rest = ValueType.Chan e ∷ rest
@@ -51,8 +51,8 @@ case_leaves CaseKind.Send e = []
 case_leaves CaseKind.Take e = e ∷ []
 case_leaves CaseKind.TakeOk e = ValueType.Bool ∷ e ∷ []
 
--- the operands of the cases were pushed in source order on top of `rest`; each case leads to its target, and so does
--- `default`
+-- the operands of the cases were pushed in source order on top of `rest`; the code can go on at the target of each case
+-- and of `default`
 abbrev pub CasesFit : FunctionTypes → List ℕ → List ValueType → List SelectCase → List ValueType → List ValueType
     → Type 0
 CasesFit ft assigned below [] rest operands = operands ≡ rest
@@ -64,14 +64,14 @@ abbrev pub DefaultFits : FunctionTypes → List ℕ → List ValueType → Optio
 DefaultFits ft assigned below None = Unit {0}
 DefaultFits ft assigned below (Some target) = GoesOn ft below assigned target
 
--- what `Println` takes
+-- the types that `Println` takes
 abbrev pub IsPrintable : ValueType → Type 0
 IsPrintable ValueType.Int = Unit {0}
 IsPrintable ValueType.Bool = Unit {0}
 IsPrintable ValueType.Text = Unit {0}
 IsPrintable _ = ⊥
 
--- what each instruction asks of the shape at its position, and of those where it goes on
+-- what each instruction asks of the shape at its position, and of the shapes where it goes on
 abbrev pub InstructionFits : Types → FunctionTypes → ℕ → Instr → Shape → Type 0
 InstructionFits types ft k (Instr.Int n) sh = Takes ft k sh [] (ValueType.Int ∷ [])
 InstructionFits types ft k (Instr.Bool b) sh = Takes ft k sh [] (ValueType.Bool ∷ [])
@@ -160,8 +160,8 @@ InstructionFits types ft k (Instr.SetFinalizer f) sh = (j : ℕ) × (sig : Signa
 InstructionFits types ft k Instr.ClearFinalizer sh = (j : ℕ) × Takes ft k sh (ValueType.Struct j ∷ []) []
 InstructionFits types ft k Instr.Panic sh = (rest : List ValueType) × (sh.operands ≡ ValueType.Text ∷ rest)
 
--- a body fits its types: it begins without operands and with its parameters alone, and each position that has a shape
--- has an instruction whose rule holds
+-- a body fits its types: it begins without operands and with only its parameters assigned, and each position that has a
+-- shape has an instruction whose rule holds
 pub record FunctionFits (types : Types) (fn : Function) (ft : FunctionTypes) : Type 0 where
   pub slots : fn.slots ≡ length (slot_types ft)
   pub begins : (sh : Shape) × (slice_get ft.shapes 0 ≡ Some sh) × (sh.operands ≡ [])
@@ -169,13 +169,13 @@ pub record FunctionFits (types : Types) (fn : Function) (ft : FunctionTypes) : T
   pub each : (k : ℕ) (sh : Shape) → slice_get ft.shapes k ≡ Some sh → (l : CodeLine) × (slice_get fn.body k ≡ Some l)
       × InstructionFits types ft k l.instr sh
 
--- the slots that shapes ask for stay under the masks of their positions
+-- the slots for which shapes ask stay under the masks of their positions
 abbrev pub MasksCover : Function → List Shape → Type 0
 MasksCover fn own = (k : ℕ) (sh : Shape) → slice_get own k ≡ Some sh
     → Every (λ i. stays_under (slice_get fn.live k) i ≡ true) sh.assigned
 
--- the code's tables are of the types, each function that is named has its body and its shapes, and function 0 takes no
--- arguments
+-- the tables of the code have the given types, each function of the types has a body that fits its shapes, and function
+-- 0 takes no arguments
 pub record HasShapes (code : Code) (types : Typing) : Type 0 where
   pub texts : types.of.texts ≡ length code.texts
   pub globals : ValuesFit types.of [] (zeros_of code.globals) types.of.globals

@@ -1,4 +1,4 @@
--- Types of what the machine holds, and what is of which type.
+-- Types of the values and objects that the machine holds.
 use Rattle.std.specs.Prelude.{◌≡◌, ℕ, ◌<◌, List, [], ◌∷◌, Option, Some, slice_get}
 use Rattle.golf_theory.specs.Maps.{find}
 use Rattle.golf_theory.specs.Membership.{Every}
@@ -35,20 +35,20 @@ IsNilable ValueType.Cond = Unit {0}
 IsNilable (ValueType.Slice e) = Unit {0}
 IsNilable (ValueType.Chan e) = Unit {0}
 
--- what is known at a position before its instruction: the types of the operands, the top one first, and which slots
+-- what is known at a position before its instruction: the types of the operands, the top one first, and the slots that
 -- hold a value of their type
 pub record Shape : Type 0 where
   pub operands : List ValueType
   pub assigned : List ℕ
 
--- a function as its callers see it, and its other slots: its parameters stand in the first slots, and each slot has one
+-- a function as its callers see it, and its other slots; the parameters are in the first slots, and each slot has one
 -- type
 pub record Signature : Type 0 where
   pub params : List ValueType
   pub locals : List ValueType
   pub result : Option ValueType
 
--- what the rules of instructions look at
+-- the types to which the rules of instructions refer
 pub record Types : Type 0 where
   pub structs : List (List ValueType)
   pub globals : List ValueType
@@ -56,7 +56,7 @@ pub record Types : Type 0 where
   -- how many texts the table has
   pub texts : ℕ
 
--- a function with one shape a position
+-- a function with one shape for each position
 pub record FunctionTypes : Type 0 where
   pub params : List ValueType
   pub locals : List ValueType
@@ -79,7 +79,7 @@ abbrev pub HasType : List (ℕ × ValueType) → ℕ → ValueType → Type 0
 HasType known o t = find o known ≡ Some t
 
 module _ (types : Types) (known : List (ℕ × ValueType)) where
-  -- a value of the type; a reference is to an object that is known to be of it
+  -- the value is of the type; a reference is to an object that is known to be of the type
   abbrev pub ValueFits : Value → ValueType → Type 0
   ValueFits (Value.Int n) t = t ≡ ValueType.Int
   ValueFits (Value.Bool b) t = t ≡ ValueType.Bool
@@ -98,7 +98,7 @@ module _ (types : Types) (known : List (ℕ × ValueType)) where
     pub buffer : Every (λ v. ValueFits v e) c.buffer
     pub zero : ValueFits c.zero e
 
-  -- an object to which references of the type lead
+  -- the object is of the type, which is the type of the references to it
   abbrev pub ObjectFits : Object → ValueType → Type 0
   ObjectFits (Object.Struct fields) t = (k : ℕ) × (ts : List ValueType) × (t ≡ ValueType.Struct k)
       × (slice_get types.structs k ≡ Some ts) × ValuesFit fields ts

@@ -1,5 +1,5 @@
--- Well-typed states: values, frames and waits are of the types of a code. What is known is the types of objects, by
--- their numbers.
+-- Well-typed states: values, frames and waits are of the types of a code. `known` gives the types of objects, by their
+-- numbers.
 use Rattle.std.specs.Prelude.{◌≡◌, ℕ, ◌+◌, ◌<◌, ◌≤◌, Bool, true, false, ◌||◌, List, [], ◌∷◌, ◌++◌, length, Option, Some}
 use Rattle.std.specs.Prelude.{None, option_to_list, unwrap_or, ◌==◌, slice_get}
 use Rattle.golf_theory.specs.Maps.{Entry, find, add}
@@ -20,12 +20,12 @@ use Rattle.golf_model_typing.specs.Types.{ValueType, Shape, Signature, FunctionT
 use Rattle.golf_model_typing.specs.Types.{ValueFits, ValuesFit, ObjectFits}
 use Rattle.golf_model_typing.specs.Shapes.{slot_types}
 
--- what a receive leaves, the top type first
+-- the types of the values that a receive leaves, the top one first
 abbrev pub received_types : Bool → ValueType → List ValueType
 received_types true e = ValueType.Bool ∷ e ∷ []
 received_types false e = e ∷ []
 
--- what a frame leaves its caller
+-- the types of the values that a frame leaves its caller
 abbrev pub gives : Bool → Option ValueType → List ValueType
 gives true result = []
 gives false result = option_to_list result
@@ -36,7 +36,7 @@ module _ (types : Typing) (known : List (ℕ × ValueType)) where
   SlotFits ts slots i = (t : ValueType) × (v : Value) × (slice_get ts i ≡ Some t) × (slice_get slots i ≡ Some v)
       × ValueFits types.of known v t
 
-  -- a frame at this position, which lacks the operands that it will be given
+  -- a frame at this position, without the operands that it will still be given
   pub record Stands (ft : FunctionTypes) (lacking : List ValueType) (at : ℕ)
       (operands slots : List Value) : Type 0 where
     pub shape : Shape
@@ -46,14 +46,14 @@ module _ (types : Typing) (known : List (ℕ × ValueType)) where
     pub held : ValuesFit types.of known operands rest
     pub assigned : Every (SlotFits (slot_types ft) slots) shape.assigned
 
-  -- what a frame returns
+  -- the value that a frame returns is of the result type
   abbrev pub ResultFits : Option Value → Option ValueType → Type 0
   ResultFits None None = Unit {0}
   ResultFits None (Some t) = ⊥
   ResultFits (Some v) None = ⊥
   ResultFits (Some v) (Some t) = ValueFits types.of known v t
 
-  -- a leaving frame stands nowhere, and asks nothing of operands and slots
+  -- a frame that is leaving has no shape, and nothing is asked of its operands and slots
   abbrev pub LeavingFits : FunctionTypes → List ValueType → ℕ → List Value → List Value → Leaving → Type 0
   LeavingFits ft lacking at operands slots Leaving.No = Stands ft lacking at operands slots
   LeavingFits ft lacking at operands slots (Leaving.Returning v) = ResultFits v ft.result
@@ -67,7 +67,7 @@ module _ (types : Typing) (known : List (ℕ × ValueType)) where
   abbrev pub DeferredFits : Deferred → Type 0
   DeferredFits d = CallFits d.function d.arguments
 
-  -- what holds of a frame wherever it stands
+  -- holds of a frame at any position
   pub record FrameBase (ft : FunctionTypes) (function : ℕ) (slots : List Value)
       (deferred : List Deferred) : Type 0 where
     pub typed : slice_get types.of.functions function ≡ Some (signature ft)
@@ -79,12 +79,12 @@ module _ (types : Typing) (known : List (ℕ × ValueType)) where
   FrameFits ft lacking f = FrameBase ft f.function f.slots f.deferred
       × LeavingFits ft lacking f.at f.operands f.slots f.leaving
 
-  -- each frame lacks what the one above it will leave
+  -- each frame lacks the operands that the frame above it will leave
   abbrev pub FramesFit : List ValueType → List FrameView → Type 0
   FramesFit lacking [] = Unit {0}
   FramesFit lacking (f ∷ fs) = (ft : FunctionTypes) × FrameFits ft lacking f × FramesFit (gives f.discards ft.result) fs
 
-  -- the frame would go on, once the wait is served
+  -- the frame can go on once the wait is served
   abbrev pub WaitFitsAt : FunctionTypes → FrameView → Wait → Side → Type 0
   WaitFitsAt ft f w Side.Receive = (e : ValueType) × HasType known w.object.0 (ValueType.Chan e)
       × LeavingFits ft (received_types w.with_ok e) (unwrap_or w.target f.at) f.operands f.slots f.leaving
@@ -104,14 +104,14 @@ module _ (types : Typing) (known : List (ℕ × ValueType)) where
   abbrev pub WaitFits : FunctionTypes → FrameView → Wait → Type 0
   WaitFits ft f w = WaitFitsAt ft f w w.side
 
-  -- a blocked goroutine's innermost frame lacks what it will be given, by each of its waits
+  -- for each wait, the innermost frame of a blocked goroutine lacks the values that this wait will give
   abbrev pub BlockedFits : List Wait → List FrameView → Type 0
   BlockedFits waits [] = ⊥
   BlockedFits waits (f ∷ fs) =
       (ft : FunctionTypes) × FrameBase ft f.function f.slots f.deferred × Every (WaitFits ft f) waits
       × FramesFit (gives f.discards ft.result) fs
 
-  -- a wait on a condition is the only one
+  -- a wait on a condition is the goroutine's only wait
   abbrev pub WaitsAlone : List Wait → Type 0
   WaitsAlone waits = Every (λ w. w.side ≡ Side.Cond → waits ≡ w ∷ []) waits
 
@@ -120,15 +120,15 @@ module _ (types : Typing) (known : List (ℕ × ValueType)) where
   ModeFits frames Mode.Running = FramesFit [] frames
   ModeFits frames (Mode.Blocked kind line waits ticket) = BlockedFits waits frames × WaitsAlone waits
 
-  -- goroutine 0 alone may have no frame
+  -- only goroutine 0 may have no frame
   abbrev pub GoroutineFits : ℕ → GoroutineView → Type 0
   GoroutineFits g r = ModeFits r.frames r.mode × ((g == 0) || not_empty r.frames ≡ true)
 
-  -- a function that may be called with the object
+  -- a function that can be called with the object
   abbrev pub FinaliserFits : ℕ → ℕ → Type 0
   FinaliserFits o f = CallFits f (Value.Ref (record { 0 = o }) ∷ [])
 
-  -- numbers that are not given yet are not known, and no object has one
+  -- all values fit their types; an object number that is not given yet is not known and has no object
   pub record WellTyped (s : State) : Type 0 where
     pub globals : ValuesFit types.of known s.globals types.of.globals
     pub objects : (o : ℕ) (t : ValueType) (x : Object) → HasType known o t → find o s.objects ≡ Some x
@@ -139,20 +139,20 @@ module _ (types : Typing) (known : List (ℕ × ValueType)) where
     pub below : (o : ℕ) (t : ValueType) → HasType known o t → o ≤ s.last_object
     pub fresh : (o : ℕ) → s.last_object < o → find o s.objects ≡ None
 
-  -- what a waking hands out is of the type of the object's elements
+  -- the value that a waking gives is of the type of the channel's elements
   abbrev pub WakingFits : ℕ → Waking → Type 0
   WakingFits o (Waking.Closing zero) = (e : ValueType) × HasType known o (ValueType.Chan e)
       × ValueFits types.of known zero e
   WakingFits o Waking.AtZero = Unit {0}
   WakingFits o (Waking.ToReaders below) = Unit {0}
 
-  -- a goroutine that goes on where it stands, and is given nothing
+  -- a goroutine that goes on where it stands, and gets no value
   abbrev pub LacksNothing : Mode → Type 0
   LacksNothing Mode.Running = Unit {0}
   LacksNothing (Mode.Blocked kind line [] ticket) = ⊥
   LacksNothing (Mode.Blocked kind line (w ∷ ws) ticket) = (w.side ≡ Side.Receive → ⊥) × (w.side ≡ Side.Send → ⊥)
 
-  -- a change that keeps types, of those that make no object
+  -- a change that keeps types and makes no object
   abbrev pub ChangeFits : State → Change → Type 0
   ChangeFits s (Change.Make x) = ⊥
   ChangeFits s (Change.Replace o x) = (t : ValueType) × HasType known o t × ObjectFits types.of known x t
@@ -171,7 +171,7 @@ module _ (types : Typing) (known : List (ℕ × ValueType)) where
   ChangeFits s (Change.PassOn g m) = HasType known m ValueType.Mutex
       × ((r : GoroutineView) → find g s.goroutines ≡ Some r → LacksNothing r.mode)
 
--- changes that keep types one after another; an object that is made becomes known
+-- changes that keep types, one after another; a new object becomes known
 abbrev pub ChangesFit : Typing → List (ℕ × ValueType) → State → List Change → Type 0
 ChangesFit types known s [] = Unit {0}
 ChangesFit types known s (Change.Make x ∷ cs) = (t : ValueType) × ObjectFits types.of known x t

@@ -1,4 +1,4 @@
--- Why a file is not run, and what its reading answers (profile).
+-- The reasons for which a file is refused, and the answers of its reading (profile).
 use Rattle.std.specs.Prelude.{◌≡◌, ℕ, List, Result, Ok, Err}
 use Rattle.golf_data.specs.declared.code.Code.{Code}
 use Rattle.golf_lex_tokens.specs.declared.token.Token.{Token}
@@ -54,19 +54,19 @@ pub record HasCode (bytes : List ℕ) (code : Code) : Type 0 where
   pub is : code ≡ CodeOf file
   pub only : IsOnly bytes file
 
--- the bytes are refused so; out of memory, nothing is told
+-- the bytes have the fault that the refusal names; `Memory` says nothing of them
 abbrev pub IsRefusedBy : List ℕ → Refusal → Type 0
 IsRefusedBy bytes (refusals.Lexical line byte) = IsUnlexed bytes line byte
 IsRefusedBy bytes (refusals.Syntax line) = IsUnparsed bytes line
 IsRefusedBy bytes (refusals.Untyped line rule) = IsUntyped bytes line rule
 IsRefusedBy bytes refusals.Memory = Unit {0}
 
--- the code of the file, or why it has none
+-- the code of the file, or the reason for which it has none
 abbrev pub WasRead : List ℕ → Result Code Refusal → Type 0
 WasRead bytes (Ok code) = HasCode bytes code
 WasRead bytes (Err refusal) = IsRefusedBy bytes refusal
 
--- ---- on the way there
+-- ---- the stages of reading
 
 -- the tree that reads the tokens, or the line of the fault
 abbrev pub Parses : List Token → Result File Refusal → Type 0
@@ -76,7 +76,7 @@ Parses tokens (Err (refusals.Syntax line)) = ((file : File) → ReadsTokens toke
 Parses tokens (Err (refusals.Untyped line rule)) = ⊥
 Parses tokens (Err refusals.Memory) = Unit {0}
 
--- the tree that reads the bytes, or why there is none
+-- the tree that reads the bytes, or the reason for which there is none
 abbrev pub WasParsed : List ℕ → Result File Refusal → Type 0
 WasParsed bytes (Ok file) = HasTree bytes file
 WasParsed bytes (Err (refusals.Lexical line byte)) = IsUnlexed bytes line byte
@@ -94,8 +94,8 @@ Keeps file (Err (refusals.Syntax line)) = ⊥
 Keeps file (Err (refusals.Untyped line rule)) = IsFirst rule line (Broken file)
 Keeps file (Err refusals.Memory) = Unit {0}
 
--- the tree of the bytes, which alone is typed, with the scope of its names and the facts of its parts; or why there is
--- none
+-- The tree of the bytes, with the scope of its names and the facts of its parts. No other tree of the bytes is typed.
+-- Or the reason for which there is no tree.
 abbrev pub WasTyped : List ℕ → Result Checked Refusal → Type 0
 WasTyped bytes (Ok checked) = HasTypedTree bytes checked.file × IsOnly bytes checked.file
     × (checked.scope ≡ scope_of checked.file) × (checked.facts ≡ facts_in checked.file)

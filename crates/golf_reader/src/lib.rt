@@ -1,8 +1,8 @@
-//! From the bytes of a file to its code, or to why it has none.
+//! From the bytes of a file to its code, or to the reason for which it has none.
 //!
 //! - `judge`: the typed tree of a file.
 //! - `read`: the code of a file.
-//! - `Refusal`: why a file is not run.
+//! - `Refusal`: the reason for which a file is refused.
 #![tactic(auto)]
 
 mod reading;

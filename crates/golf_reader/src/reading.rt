@@ -1,4 +1,7 @@
-//! Reads a file: its tokens, its tree, its types, its code.
+//! Reads a file: its tokens, its tree, its types and its code.
+//!
+//! A refusal names the first fault. A file that is refused for another reason than memory has no code at
+//! all.
 
 ghost use Rattle.std.specs.Prelude.{◌<◌, ◌-◌, ◌^◌, length, IfOk};
 ghost use Rattle.golf_data.specs.Places.{HasPlaces};
@@ -49,11 +52,11 @@ fn judged(alloc: Global, file: File) -> Result<Checked, Refusal>
     }
 }
 
-/// The tree of a file, with what the checker found of it.
+/// Returns the typed tree of a file, with the scope and the facts that the checker found.
 ///
 /// # Errors
 ///
-/// As those of `read`.
+/// As for `read`.
 pub fn judge(alloc: Global, bytes: &[u8]) -> Result<Checked, Refusal>
     requires { length bytes.now < 2 ^ 32 - 1 }
     ensures { WasTyped bytes.now result }
@@ -62,12 +65,12 @@ pub fn judge(alloc: Global, bytes: &[u8]) -> Result<Checked, Refusal>
     judged(alloc, file)
 }
 
-/// The code of a file.
+/// Returns the code of a file.
 ///
 /// # Errors
 ///
-/// `Refusal::Memory` comes if memory runs out, which no clause ties to a cause; each other refusal
-/// if the file is so, and nowhere else: a file that has code is refused for none of them.
+/// - `Refusal::Memory` if memory runs out. No clause ties it to a cause.
+/// - Any other refusal exactly when the file has that fault. A file that has code is never refused so.
 pub fn read(alloc: Global, bytes: &[u8]) -> Result<Code, Refusal>
     requires { length bytes.now < 2 ^ 27 }
     ensures answer { WasRead bytes.now result }

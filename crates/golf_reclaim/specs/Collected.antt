@@ -1,4 +1,4 @@
--- What a collection reports and notes, by the state right before it and the book so far.
+-- The report and the book of a collection, by the state before it and the book so far.
 use Rattle.std.specs.Prelude.{ℕ, ◌+◌, Bool, not, List, map, filter, length}
 use Rattle.golf_data.specs.declared.report.Book.{Book}
 use Rattle.golf_data.specs.declared.report.Report.{Report}
@@ -8,17 +8,17 @@ use Rattle.golf_model.specs.Collecting.{removed}
 use Rattle.golf_model.specs.Reporting.{goroutine_id, entries, without, retained_objects}
 use Rattle.golf_reclaim.specs.Noting.{stays_reported, noted}
 
--- the dead goroutines that do not stay reported, in rising number
+-- the dead goroutines that do not stay reported, in rising order of number
 abbrev pub new_in : Book → State → List ℕ
 new_in book s = filter (λ g. not (stays_reported book g)) (dead s)
 
--- the book after the collection: those who are new are reported, and those who are removed are noted as removed
+-- the book after the collection: the new dead goroutines are noted as reported, and the removed ones as removed
 abbrev pub noted_by : Bool → Bool → Book → State → Book
 noted_by recover sets_finalisers book s =
     noted (map goroutine_id (new_in book s)) (map goroutine_id (removed s recover sets_finalisers)) book
 
--- the report: it names who is new, and counts the live objects, the dead who stay, the removed, and the objects that
--- are left
+-- The report has an entry for each new dead goroutine. It counts the live objects, the dead goroutines that stay, the
+-- removed ones, and the objects that stay.
 abbrev pub report_of : Bool → Bool → Book → State → Report
 report_of recover sets_finalisers book s = record {
   number = book.collections + 1;

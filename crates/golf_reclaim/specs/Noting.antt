@@ -1,4 +1,4 @@
--- The book of a run: who in it stays reported, and what a collection adds.
+-- The book of a run: the goroutines that stay reported, and the change by a collection.
 use Rattle.std.specs.Prelude.{◌≡◌, ◌≤◌, ℕ, ◌+◌, Bool, true, false, cond, ◌||◌, List, ◌++◌, nat_lt}
 use Rattle.std.specs.List.Sorted.{IsNonDecreasingBy}
 use Rattle.golf_theory.specs.Counting.{times}
@@ -13,20 +13,20 @@ use Rattle.golf_model.specs.Reporting.{numbers}
 abbrev pub stays_reported : Book → ℕ → Bool
 stays_reported book g = nat_lt (times g (numbers book.reclaimed)) (times g (numbers book.reported))
 
--- the numbers of those who stay rise; each of them was reported once more than it was removed, and any other number as
--- often
+-- The numbers that stay reported rise. Each of them was reported once more than it was removed. Any other number was
+-- reported as often as it was removed.
 pub record HasStaying (reported reclaimed staying : List GoroutineId) : Type 0 where
   pub rises : IsNonDecreasingBy (λ (g : GoroutineId). g.0) staying
   pub counts : (g : ℕ) → times g (numbers reported) ≡ times g (numbers reclaimed) + cond (is_in g (numbers staying)) 1 0
 
--- the first are new to the book, the second stay reported or are new, and no number stands twice in either list
+-- `new` are new to the book, `gone` stay reported or are new, and no number is twice in either list
 pub record CanNote (new gone : List ℕ) (book : Book) : Type 0 where
   pub new_once : (g : ℕ) → times g new ≤ 1
   pub gone_once : (g : ℕ) → times g gone ≤ 1
   pub unreported : (g : ℕ) → In g new → stays_reported book g ≡ false
   pub reported : (g : ℕ) → In g gone → (stays_reported book g || is_in g new) ≡ true
 
--- the book with one collection more, which reported and removed these
+-- the book after one more collection, which reported `new` and removed `gone`
 abbrev pub noted : List GoroutineId → List GoroutineId → Book → Book
 noted new gone book = record {
   collections = book.collections + 1;

@@ -1,4 +1,6 @@
-//! A collection.
+//! A collection: it marks, reports, removes and frees, in one call.
+//!
+//! It takes all memory before it changes anything, so it happens whole or not at all.
 
 ghost use Rattle.std.specs.Prelude.{◌≡◌, ◌-◌, ◌<◌, ◌≤◌, ◌^◌, IfOk, OnErr, OnOk};
 ghost use Rattle.golf_model.specs.Collecting.{real_collect};
@@ -18,29 +20,36 @@ use golf_state::State;
 use std::alloc::Global;
 use std::thread::Threads;
 
-/// How a collection goes about its work.
+/// The options of a collection.
 #[derive(Clone, Copy, Debug, PartialEq, Eq)]
 pub struct CollectOptions {
-    /// How many markers mark, each in a thread of its own: 1 to 16.
+    /// How many markers there are, each in its own thread: 1 to 16.
     pub markers: u32,
-    /// Whether dead goroutines that the keep rule does not keep are removed.
+    /// Whether the collection removes dead goroutines that the keep rule does not keep.
     pub recover: bool,
     /// Whether the code can give an object a finaliser.
     pub sets_finalisers: bool,
 }
 
-/// Finds what is live, reports the dead goroutines that do not stay reported in the book, removes
-/// those that are not kept if it is asked to recover, queues the finalisers of objects that nothing
-/// else reaches, and frees what is left without a reference (package runtime, `SetFinalizer`; profile).
+/// Collects: reports dead goroutines, and frees unreachable objects (package runtime, `SetFinalizer`;
+/// profile). It does these steps:
 ///
-/// A goroutine stays reported if the book has reported it more often than removed it. The clauses
-/// `report` and `book` are about the state before the call. In every run no goroutine of that state was
-/// removed before: report and book are then those of the plain machine (`plain_report`, `plain_book`).
+/// - It finds the live objects and goroutines.
+/// - It reports the dead goroutines that do not stay reported in the book.
+/// - With `recover` it removes the dead goroutines that the keep rule does not keep.
+/// - It queues the finalisers of objects that no root reaches.
+/// - It frees the other objects that no root reaches.
 ///
-/// Two markings of `options.markers` markers each find what is live and what is left. Each marker passes
-/// `live_gate` before each of its turns of the first, and `rest_gate` of the second. All memory is taken before anything is changed: a call that answers `Memory` leaves state and
-/// book unchanged. The answer is `Memory` too if objects and blocked goroutines together are too
-/// many for a `u32`.
+/// A goroutine stays reported if the book has reported it more often than removed it. The clauses `report`
+/// and `book` are about the state before the call. In every run no goroutine of that state was removed
+/// before. Then report and book are those of the plain machine (`plain_report`, `plain_book`).
+///
+/// There are two markings by `options.markers` markers each: of the live places, and of the places that
+/// stay. Each marker passes `live_gate` before each of its turns of the first marking, and `rest_gate` in
+/// the second.
+///
+/// On `Err`, which is `Memory`, state and book are unchanged. That is also the answer if objects and
+/// blocked goroutines together are too many for a `u32`.
 pub fn collect<R: Threads + Sync, G: Gate + Sync, H: Gate + Sync>(
     rt: &R,
     alloc: Global,

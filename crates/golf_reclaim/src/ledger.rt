@@ -1,4 +1,6 @@
-//! The book of a run, and who in it stays reported.
+//! The book of a run, and the goroutines that stay reported in it.
+//!
+//! The invariant: a number is in `staying` exactly when the book has reported it once more than removed it.
 
 ghost use Rattle.std.specs.Prelude.{◌≡◌, ◌+◌, ◌-◌, ◌<◌, ◌^◌, ◌++◌, ℕ, [], IfOk, OnErr, OnOk, filter, length, not};
 ghost use Rattle.std.specs.List.Sorted.{IsNonDecreasingBy};
@@ -18,11 +20,12 @@ use golf_state::State;
 use std::alloc::Global;
 use std::marker::Model;
 
-/// What all collections of a run so far have reported and removed, seen as their book.
+/// The goroutines that all collections of a run so far have reported and removed. Contracts see it as the
+/// run's book.
 ///
-/// The numbers of those that stay reported stand beside it in rising order: a goroutine stays reported
-/// if the book has reported its number more often than it has removed it. A collection finds out by a
-/// binary search among them who is new, and goes through no earlier report.
+/// Beside the book it keeps the numbers that stay reported, in rising order. A goroutine stays reported if
+/// the book has reported its number more often than removed it. So a collection finds the new goroutines by
+/// a binary search, and reads no earlier report.
 #[derive(Debug, Drop)]
 pub struct Ledger {
     collections: u32,
@@ -43,7 +46,7 @@ impl Model for Ledger {
 }
 
 impl Ledger {
-    /// No collection yet, nothing reported, nothing removed. It takes no memory.
+    /// Returns the book before the first collection. It takes no memory.
     pub fn new(alloc: Global) -> Ledger
         ensures { result ≡ record { collections = 0; reported = []; reclaimed = [] } }
     {
@@ -55,28 +58,28 @@ impl Ledger {
         }
     }
 
-    /// How many collections there were.
+    /// Returns how many collections there were.
     pub fn collections(&self) -> u32
         ensures { result ≡ self.now.collections }
     {
         self.collections
     }
 
-    /// The goroutines that were reported, in that order.
+    /// Returns the goroutines that were reported, in the order of the reports.
     pub fn reported(&self) -> &[GoroutineId]
         ensures { result.now ≡ self.now.reported }
     {
         self.reported.as_slice()
     }
 
-    /// The goroutines that were removed, in that order.
+    /// Returns the goroutines that were removed, in the order of the removals.
     pub fn reclaimed(&self) -> &[GoroutineId]
         ensures { result.now ≡ self.now.reclaimed }
     {
         self.reclaimed.as_slice()
     }
 
-    /// Those of the goroutines that do not stay reported.
+    /// Returns those of the goroutines that do not stay reported.
     pub(crate) fn unreported(
         &self,
         alloc: Global,
@@ -89,8 +92,9 @@ impl Ledger {
         Ok(List::from_vec(new))
     }
 
-    /// Queues the finalisers of the objects that the marking leaves out, and notes a collection that
-    /// reported these goroutines and removed those, whose numbers rise. On `Memory` state and book are unchanged.
+    /// Notes a collection that reported the goroutines in `new` and removed those in `gone`, whose numbers
+    /// rise. It also queues the finalisers of the objects that are not marked. On `Err`, which is `Memory`,
+    /// state and book are unchanged.
     pub(crate) fn note(
         &mut self,
         alloc: Global,
@@ -121,7 +125,7 @@ impl Ledger {
     }
 }
 
-// Adds those of the goroutines that are none of the others, whose numbers rise.
+// Adds those of the goroutines that are not in the other list, whose numbers rise.
 fn add_unlisted(
     list: &mut Vec<GoroutineId>,
     goroutines: &[GoroutineId],
@@ -138,7 +142,7 @@ fn add_unlisted(
     Ok(())
 }
 
-// Those who stay reported, once these goroutines are reported and those removed.
+// The goroutines that stay reported after `new` are reported and `gone` are removed.
 fn staying_after(
     alloc: Global,
     staying: &[GoroutineId],

@@ -1,5 +1,8 @@
-//! One collection: which objects and goroutines are live, who is removed, what is freed, and what the
-//! report says.
+//! One collection: the live objects and goroutines, the removed goroutines, the freed objects, and the
+//! report.
+//!
+//! - `collect`: the whole collection.
+//! - `Ledger`: the book of all collections of a run.
 #![tactic(auto)]
 
 mod collection;

@@ -1,4 +1,4 @@
-//! What is live, who is removed, and what is left.
+//! The two markings of a collection: of the live places, and of the places that stay.
 
 ghost use Rattle.std.specs.Prelude.{◌≡◌, ◌<◌, ◌≤◌, ◌^◌, IfOk, length, map};
 ghost use Rattle.std.specs.List.Sorted.{IsNonDecreasingBy};
@@ -24,30 +24,30 @@ use golf_state::State;
 use std::alloc::Global;
 use std::thread::Threads;
 
-/// What the marking of the live graph tells.
+/// The result of the first marking.
 #[derive(Drop)]
 pub(crate) struct Found {
     /// The graph that was marked.
     pub(crate) live: Graph,
     /// How many objects are live.
     pub(crate) objects: u32,
-    /// The dead goroutines, in rising number.
+    /// The dead goroutines, in rising order of number.
     pub(crate) dead: List<GoroutineId>,
-    /// Those of them that are removed.
+    /// The dead goroutines that are removed.
     pub(crate) gone: List<GoroutineId>,
 }
 
-/// What the marking of what is reached tells.
+/// The result of the second marking.
 #[derive(Drop)]
 pub(crate) struct Rest {
     pub(crate) marked: Marked,
-    /// For each object whether it is left.
+    /// For each object whether it stays.
     pub(crate) keep: List<bool>,
-    /// How many are left.
+    /// How many objects stay.
     pub(crate) objects: u32,
 }
 
-// Marks a graph by so many markers.
+// Marks a graph by `markers` markers.
 fn mark<R: Threads + Sync, G: Gate + Sync>(
     rt: &R,
     alloc: Global,
@@ -63,7 +63,7 @@ fn mark<R: Threads + Sync, G: Gate + Sync>(
     Ok(ready.mark(rt, graph, gate))
 }
 
-/// Counts the live objects, and lists the dead goroutines and those that are removed.
+/// Marks the live graph. Counts the live objects, and lists the dead goroutines and those that are removed.
 pub(crate) fn find_dead<R: Threads + Sync, G: Gate + Sync>(
     rt: &R,
     alloc: Global,
@@ -94,8 +94,8 @@ pub(crate) fn find_dead<R: Threads + Sync, G: Gate + Sync>(
     })
 }
 
-/// The goroutines that are removed, by what the marking of the live graph tells: with recovery, those
-/// that are neither awake nor kept.
+/// Returns the goroutines that are removed, by the marking of the live graph: with recovery those that are
+/// neither awake nor kept, and else none.
 pub fn find_gone(
     alloc: Global,
     graph: &Graph,
@@ -113,7 +113,7 @@ pub fn find_gone(
     unflagged(alloc, graph, stays.as_slice())
 }
 
-/// Marks what is reached without these goroutines, whose numbers rise, and finds the objects that are left.
+/// Marks the graph without the goroutines in `gone`, whose numbers rise, and finds the objects that stay.
 pub(crate) fn find_retained<R: Threads + Sync, G: Gate + Sync>(
     rt: &R,
     alloc: Global,
@@ -143,7 +143,7 @@ pub(crate) fn find_retained<R: Threads + Sync, G: Gate + Sync>(
     })
 }
 
-// The goroutines of those sleepers whose flag is false.
+// The goroutines of the sleepers whose flag is false.
 fn unflagged(alloc: Global, graph: &Graph, flags: &[bool]) -> Result<List<GoroutineId>, Memory>
     requires { length flags.now ≡ sleeper_count graph.now }
     ensures goroutines { IfOk result (λ goroutines. goroutines ≡ left_out flags.now (map (λ x. x.goroutine) graph.now.sleepers)) }
@@ -158,7 +158,7 @@ fn unflagged(alloc: Global, graph: &Graph, flags: &[bool]) -> Result<List<Gorout
     Ok(goroutines)
 }
 
-// Place by place, whether one of the two flags is true.
+// For each place whether one of the two flags is true.
 fn either(alloc: Global, flags: &[bool], others: &[bool]) -> Result<List<bool>, Memory>
     requires { length flags.now ≡ length others.now }
     ensures flags { IfOk result (λ both. both ≡ either flags.now others.now) }
@@ -172,7 +172,7 @@ fn either(alloc: Global, flags: &[bool], others: &[bool]) -> Result<List<bool>, 
     Ok(both)
 }
 
-// For each node whether it is marked or finalised.
+// For each node whether it is marked or has a finaliser.
 fn retained(alloc: Global, graph: &Graph, marked: &[bool]) -> Result<List<bool>, Memory>
     requires { length marked.now ≡ node_count graph.now }
     ensures flags { IfOk result (λ keep. keep ≡ either marked.now graph.now.finalised) }

@@ -1,4 +1,6 @@
-//! What the report says of goroutines.
+//! The entries of a report.
+//!
+//! An entry names a goroutine, the kind and the line of its wait, and the line of its start.
 
 ghost use Rattle.std.specs.Prelude.{◌≡◌, ◌++◌, IfOk, OnOk};
 ghost use Rattle.golf_theory.specs.Maps.{find};
@@ -9,7 +11,7 @@ use golf_data::{Entry, Mode};
 use golf_state::State;
 use std::alloc::Global;
 
-/// What a report says of these goroutines; nothing of one that is not blocked.
+/// Returns the entries of a report on these goroutines. A goroutine that is not blocked has none.
 pub(crate) fn entries(
     alloc: Global,
     state: &State,
@@ -24,7 +26,7 @@ pub(crate) fn entries(
     Ok(list)
 }
 
-// Adds what a report says of this goroutine.
+// Adds the entry of this goroutine, if it is blocked.
 fn add_entry(state: &State, list: &mut List<Entry>, g: GoroutineId) -> Result<(), Memory>
     ensures { OnOk result (list.new ≡ list.old ++ entry_of g.0 (find g.0 state.now.goroutines)) }
 {

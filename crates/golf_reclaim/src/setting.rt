@@ -1,4 +1,6 @@
-//! Whether code can give an object a finaliser.
+//! Whether a code can set a finaliser.
+//!
+//! If it cannot, the keep rule keeps fewer goroutines.
 
 ghost use Rattle.std.specs.Prelude.{◌≡◌};
 ghost use Rattle.golf_theory.specs.Membership.{any_of};
@@ -26,7 +28,7 @@ fn sets_one(function: &Function) -> bool
     false
 }
 
-/// Whether an instruction of the code sets a finaliser, so that the code can give an object one.
+/// Returns whether an instruction of the code sets a finaliser. If not, no object ever gets one.
 pub fn sets_finalisers(code: &Code) -> bool
     ensures { result ≡ sets_finalisers_of code.now }
 {

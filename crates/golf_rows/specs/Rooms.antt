@@ -1,22 +1,22 @@
--- Rows of which each has room for so many members, and how often a number is a member.
+-- Rows with a fixed room each, and how often a number is a member.
 use Rattle.std.specs.Prelude.{ℕ, zero, suc, ◌+◌, ◌-◌, ◌≤◌, cond, eqb, List, [], ◌∷◌, ◌++◌, take, drop}
 use Rattle.golf_base.specs.Roomy.{Roomy}
 
--- how often a number stands in a list
+-- how often a number occurs in a list
 abbrev pub occurrences : ℕ → List ℕ → ℕ
 occurrences n [] = 0
 occurrences n (m ∷ ms) = cond (eqb m n) 1 0 + occurrences n ms
 
--- and in all rows
+-- how often a number occurs in all rows
 abbrev pub in_rows : ℕ → List (List ℕ) → ℕ
 in_rows n [] = 0
 in_rows n (row ∷ rows) = occurrences n row + in_rows n rows
 
--- an empty row with room for so many
+-- an empty row with room for n members
 abbrev pub room_for : ℕ → Roomy ℕ
 room_for n = record { items = []; spare = n }
 
--- how many members the row of a number can still take. Past the last one it takes none
+-- how many members the row of a number can still take; past the last row it is 0
 abbrev pub spare_at : List (Roomy ℕ) → ℕ → ℕ
 spare_at [] n = 0
 spare_at (row ∷ rows) zero = row.spare
@@ -28,7 +28,7 @@ given [] n member = []
 given (row ∷ rows) zero member = record { items = row.items ++ member ∷ []; spare = row.spare - 1 } ∷ rows
 given (row ∷ rows) (suc n) member = row ∷ given rows n member
 
--- the rows that stand one after another in one list, by where the room of each ends, and where its next member goes
+-- the rows that lie one after another in one list, given by where the room of each ends and where its next member goes
 abbrev pub roomy_from : ℕ → List ℕ → List ℕ → List ℕ → List (Roomy ℕ)
 roomy_from from [] nexts members = []
 roomy_from from (end ∷ ends) [] members = []

@@ -1,4 +1,7 @@
-//! Rows that stand one after another in one list.
+//! Rows that lie one after another in one list.
+//!
+//! The invariant: no row ends before the row before it, and none past the members. Members after
+//! the end of the last row belong to no row.
 
 ghost use Rattle.std.specs.Prelude.{◌≡◌, ◌+◌, ◌<◌, ◌++◌, ◌∷◌, [], IfOk, OnErr, OnOk, Some, length, slice_get};
 ghost use Rattle.std.specs.Prelude.{slice_index_or, take};
@@ -7,10 +10,10 @@ use golf_base::{List, Memory};
 use std::alloc::Global;
 use std::marker::Model;
 
-/// Rows of numbers, which are added at the end. Contracts see the list of the rows.
+/// Rows of numbers, added at the end. Contracts see the list of the rows.
 ///
-/// The members of all rows stand in one list, and beside it where each row ends: a row takes four
-/// bytes, and four for each member. There are fewer than 2^32 members.
+/// The members of all rows lie in one list, and a second list says where each row ends. A row takes
+/// four bytes, and four more for each member. There are fewer than 2^32 members.
 #[derive(Debug, Drop)]
 pub struct FlatRows {
     ends: List<u32>,
@@ -28,7 +31,7 @@ impl Model for FlatRows {
     ghost invariant = { λ r. AreEnds 0 r.ends (length r.members) };
 }
 
-// Where the row at a place begins: where the one before it ends.
+// Returns where the row at a place begins, which is where the row before it ends.
 #[inline(always)]
 fn start_of(ends: &[u32], at: usize) -> usize
     ensures { result ≡ slice_index_or (0 ∷ ends.now) at 0 }
@@ -42,7 +45,7 @@ fn start_of(ends: &[u32], at: usize) -> usize
     }
 }
 
-// Where so many members from a place on end, if a `u32` can say it.
+// Returns where `count` members from `start` on end, or `Memory` if a `u32` cannot hold the place.
 fn end_after(start: usize, count: usize) -> Result<u32, Memory>
     ensures { IfOk result (λ end. end ≡ start + count) }
 {
@@ -56,7 +59,7 @@ fn end_after(start: usize, count: usize) -> Result<u32, Memory>
 impl FlatRows {
     ghost use Rattle.golf_rows.specs.Ends.{rows_from, AreEnds};
 
-    /// The rows of these members that end there.
+    /// Returns the rows of these members. `ends` says where each of them ends.
     pub(crate) fn of(ends: List<u32>, members: List<u32>) -> FlatRows
         requires { AreEnds 0 ends (length members) }
         ensures { result ≡ rows_from 0 ends members }
@@ -64,7 +67,7 @@ impl FlatRows {
         FlatRows { ends, members }
     }
 
-    /// No row. It takes no memory.
+    /// Returns no rows. It takes no memory.
     pub fn new(alloc: Global) -> FlatRows
         ensures { result ≡ [] }
     {
@@ -74,14 +77,14 @@ impl FlatRows {
         }
     }
 
-    /// How many rows there are.
+    /// Returns how many rows there are.
     pub fn len(&self) -> usize
         ensures { result ≡ length self.now }
     {
         self.ends.len()
     }
 
-    /// The members of the row at a place.
+    /// Returns the members of the row at a place.
     #[inline(always)]
     pub fn row(&self, at: usize) -> &[u32]
         requires { at < length self.now }
@@ -93,7 +96,7 @@ impl FlatRows {
         row
     }
 
-    /// Adds a row at the end or, on an `Err`, nothing.
+    /// Adds a row at the end. On `Err` the rows are unchanged.
     ///
     /// `Memory` also comes if there would be 2^32 members or more.
     pub fn push(&mut self, row: &[u32]) -> Result<(), Memory>
@@ -108,7 +111,7 @@ impl FlatRows {
         Ok(())
     }
 
-    /// Takes the rows away from place `n` on.
+    /// Drops the rows from place `n` on.
     pub fn truncate(&mut self, n: usize)
         ensures { self.new ≡ take n self.old }
     {

@@ -1,4 +1,7 @@
-//! For each number the rows that have it as a member.
+//! The inverse of rows: for each number the rows that have it as a member.
+//!
+//! The members are counted first, and then filled into rows that have exactly the room that they
+//! need.
 
 ghost use Rattle.std.specs.Prelude.{◌≡◌, ◌+◌, ◌<◌, ◌^◌, ℕ, IfOk, OnOk, length, slice_index_or};
 ghost use Rattle.golf_theory.specs.Membership.{Every};
@@ -10,7 +13,7 @@ use crate::rooms::{RoomyRows, sum};
 use golf_base::{List, Memory};
 use std::alloc::Global;
 
-// Counts each member of a row once more.
+// Adds one to the count of each member of a row, once per occurrence.
 fn count_row(counts: &mut List<u32>, row: &[u32]) -> Result<(), Memory>
     requires { Every (λ n. n < length counts.old) row.now }
     ensures length { length counts.new ≡ length counts.old }
@@ -24,7 +27,7 @@ fn count_row(counts: &mut List<u32>, row: &[u32]) -> Result<(), Memory>
     Ok(())
 }
 
-// How often each number below `count` is a member.
+// Returns how often each number below `count` is a member.
 fn counts_of(alloc: Global, rows: &FlatRows, count: u32) -> Result<List<u32>, Memory>
     requires { Every (Every (λ n. n < count)) rows.now }
     ensures length { IfOk result (λ counts. length counts ≡ count) }
@@ -38,10 +41,10 @@ fn counts_of(alloc: Global, rows: &FlatRows, count: u32) -> Result<List<u32>, Me
     Ok(counts)
 }
 
-/// For each number below `count` the rows that have it as a member, by their places. All members are
-/// such numbers.
+/// Returns for each number below `count` the places of the rows that have it as a member. The
+/// caller knows that all members are below `count`.
 ///
-/// Members are counted first, so that each row of the answer takes just the room that it needs.
+/// Members are counted first, so that each row of the answer takes exactly the room that it needs.
 /// `Memory` also comes if there are 2^32 members or more.
 pub fn inverse(alloc: Global, rows: &FlatRows, count: u32) -> Result<FlatRows, Memory>
     requires below { Every (Every (λ n. n < count)) rows.now }

@@ -1,5 +1,5 @@
-//! Rows of numbers: for each number the members that name it, as for each node of a graph the
-//! goroutines that wait on it.
+//! Rows of numbers. The row of a number has the members that name it: for each node of a graph, for
+//! example, the goroutines that wait on it.
 #![tactic(auto)]
 
 mod flat;

@@ -1,4 +1,7 @@
-//! Rows that are filled, each up to its own room.
+//! Rows that are filled, each up to its own fixed room.
+//!
+//! The invariant: the next member of a row goes into the room of that row, and no room ends past
+//! the members.
 
 ghost use Rattle.std.specs.Prelude.{◌≡◌, ◌+◌, ◌<◌, ◌≤◌, ℕ, IfOk, length, map};
 ghost use Rattle.golf_theory.specs.Membership.{In};
@@ -10,8 +13,8 @@ use golf_base::{List, Memory};
 use std::alloc::Global;
 use std::marker::Model;
 
-/// Rows of numbers that stand in one list, each with room for so many members. Contracts see for each
-/// row its members and how many more it can take.
+/// Rows of numbers that lie in one list, each with a fixed room. Contracts see for each row its
+/// members and how many more it can take.
 #[derive(Drop)]
 pub(crate) struct RoomyRows {
     ends: List<u32>,
@@ -31,7 +34,7 @@ impl Model for RoomyRows {
     ghost invariant = { λ r. AreRooms 0 r.ends r.nexts (length r.members) × (length r.members < 2 ^ 32) };
 }
 
-/// The sum, if a `u32` can say it.
+/// Returns the sum, or `Memory` if a `u32` cannot hold it.
 pub(crate) fn sum(x: u32, y: u32) -> Result<u32, Memory>
     ensures { IfOk result (λ z. z ≡ x + y) }
 {
@@ -40,9 +43,9 @@ pub(crate) fn sum(x: u32, y: u32) -> Result<u32, Memory>
 }
 
 impl RoomyRows {
-    /// Empty rows, each with room for so many members.
+    /// Returns empty rows, each with the room given for it.
     ///
-    /// `Memory` also comes if they would have room for 2^32 members or more.
+    /// `Memory` also comes if all rooms together are 2^32 members or more.
     pub(crate) fn new(alloc: Global, rooms: &[u32]) -> Result<RoomyRows, Memory>
         ensures { IfOk result (λ rows. rows ≡ map room_for rooms.now) }
     {
@@ -63,7 +66,7 @@ impl RoomyRows {
         })
     }
 
-    // Adds a member to the row of a number, which has room for it.
+    // Adds a member to the row of a number. The caller knows that the row has room for it.
     fn add(&mut self, number: usize, member: u32)
         requires { 0 < spare_at self.old number }
         ensures { self.new ≡ given self.old number member }
@@ -73,7 +76,7 @@ impl RoomyRows {
         self.nexts.set(number, next + 1);
     }
 
-    /// Adds a member to the rows of these numbers, which have room for it.
+    /// Adds a member to the rows of these numbers. The caller knows that the rows have room for it.
     pub(crate) fn add_to_all(&mut self, member: u32, numbers: &[u32])
         requires { (n : ℕ) → occurrences n numbers.now ≤ spare_at self.old n }
         ensures length { length self.new ≡ length self.old }
@@ -85,7 +88,7 @@ impl RoomyRows {
         }
     }
 
-    /// The rows, which are full.
+    /// Returns the rows. The caller knows that they are full.
     pub(crate) fn into_flat(self) -> FlatRows
         requires { (n : ℕ) → spare_at self n ≡ 0 }
         ensures { result ≡ map (λ row. row.items) self }

@@ -16,4 +16,6 @@ mod Ending
 pub mod Prefixes
 mod Stepping
 mod Finishing
+mod TurnLines
+mod Tracings
 pub mod Reported

@@ -10,17 +10,17 @@ use Rattle.golf_run_texts.specs.Writes.{Write, emptied}
 use Rattle.golf_run.specs.declared.fault.RunFault.{RunFault}
 use Rattle.golf_run.specs.declared.fault.RunFault.TheVariants as faults
 
--- the state after the event's turn, if it is one, and with what it printed taken
+-- the state after the event's turn, if it is one, without its output
 abbrev pub turned : Code → Event → State → State
 turned code (Event.Turn c) s = emptied (step code s c)
 turned code Event.Collect s = s
 
--- what the turn prints
+-- the output of the turn
 abbrev pub prints : Code → Event → State → List ℕ
 prints code (Event.Turn c) s = (step code s c).output
 prints code Event.Collect s = []
 
--- the write of it
+-- the write of this output
 abbrev pub says : Code → Event → State → List Write
 says code (Event.Turn c) s = Write.ToOut (step code s c).output ∷ []
 says code Event.Collect s = []
@@ -30,8 +30,8 @@ abbrev pub collects : Code → Event → State → Bool
 collects code (Event.Turn c) s = wants_collection code s c
 collects code Event.Collect s = true
 
--- what the turn prints was written, and the state is the one after it; or the write failed in the middle; or memory ran
--- out, and nothing was written. Only turns fail.
+-- The output of the turn was written, and the state is the one after it. Or the write failed in the middle. Or memory
+-- ran out, and nothing was written. Only turns fail.
 abbrev pub HasTurned : Result Bool RunFault → Code → Event → State → State → Option (List ℕ) → Option (List ℕ) → ℕ → ℕ
     → Type 0
 HasTurned (Ok wants) code e s after out out' before now = (wants ≡ collects code e s) × (after ≡ turned code e s)

@@ -1,4 +1,4 @@
--- How the events of a run came out, and what they have written.
+-- The result of the events of a run, and their writes.
 use Rattle.std.specs.Prelude.{◌≡◌, Result, Ok, Err}
 use Rattle.golf_data.specs.declared.code.Code.{Code}
 use Rattle.golf_model.specs.State.{ending}
@@ -12,7 +12,7 @@ use Rattle.golf_run.specs.declared.fault.RunFault.TheVariants as faults
 use Rattle.golf_run.specs.declared.turns.Course.{Course}
 use Rattle.golf_run.specs.HasRun.{Sinks, GotWrites, IsSteady, WasCut, WasStopped}
 
--- all events came about, and what they write was written
+-- all events happened, and all their writes were done
 pub record WentThrough (course : Course) (code : Code) (options : RunOptions) (old new : Sinks) : Type 0 where
   pub ends : course.ending ≡ ending (last_of code options)
   pub line : last_line code.texts course.turns course.ending ≡ end_of code options
@@ -20,7 +20,7 @@ pub record WentThrough (course : Course) (code : Code) (options : RunOptions) (o
   pub got : GotWrites (event_writes_of code options) old new
   pub steady : IsSteady old new
 
--- what the answer says
+-- the meaning of the result
 abbrev pub HasGone : Result Course RunFault → Code → RunOptions → Sinks → Sinks → Type 0
 HasGone (Ok course) code options old new = WentThrough course code options old new
 HasGone (Err faults.Write) code options old new = WasCut (writes_of code options) old new

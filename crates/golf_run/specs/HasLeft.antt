@@ -4,7 +4,7 @@ use Rattle.golf_theory.specs.Membership.{In}
 use Rattle.golf_theory.specs.Maps.{keys}
 use Rattle.golf_model.specs.State.{State}
 
--- none of them is there, none is goroutine 0, and their numbers were given
+-- none of these goroutines is there, none is goroutine 0, and all their numbers were given
 pub record HasLeft (gone : List ℕ) (s : State) : Type 0 where
   pub absent : (g : ℕ) → In g (keys s.goroutines) → In g gone → ⊥
   pub not_zero : In 0 gone → ⊥

@@ -1,4 +1,4 @@
--- What a run has written, and when it did not go on.
+-- The writes that a run did, also if it stopped early.
 use Rattle.std.specs.Prelude.{◌≡◌, ℕ, List, [], ◌∷◌, ◌++◌, Option, Result, Ok, Err}
 use Rattle.std.specs.Io.KnownBytes.{Appends}
 use Rattle.golf_base.specs.Causes.{Rose}
@@ -10,7 +10,7 @@ use Rattle.golf_run_texts.specs.Writes.{Write, out_bytes, err_bytes, writes_of}
 use Rattle.golf_run.specs.declared.fault.RunFault.{RunFault}
 use Rattle.golf_run.specs.declared.fault.RunFault.TheVariants as faults
 
--- two sinks at a time: the bytes that were written, if they are told, and how often each has failed
+-- two sinks at one time: the bytes that were written, if they are known, and how often each sink has failed
 pub record Sinks : Type 0 where
   pub out : Option (List ℕ)
   pub out_faults : ℕ
@@ -20,18 +20,18 @@ pub record Sinks : Type 0 where
 abbrev pub sinks : Option (List ℕ) → ℕ → Option (List ℕ) → ℕ → Sinks
 sinks out out_faults err err_faults = record { out = out; out_faults = out_faults; err = err; err_faults = err_faults }
 
--- both sinks got these writes, and no more
+-- both sinks got exactly these writes
 abbrev pub GotWrites : List Write → Sinks → Sinks → Type 0
 GotWrites writes old new = Appends old.out new.out (out_bytes writes) × Appends old.err new.err (err_bytes writes)
 
--- a write to the same sink of a prefix of the bytes
+-- the first write is a prefix of the second one, to the same sink
 abbrev pub IsPrefixOf : Write → Write → Type 0
 IsPrefixOf (Write.ToOut prefix) (Write.ToOut bytes) = (rest : List ℕ) × (bytes ≡ prefix ++ rest)
 IsPrefixOf (Write.ToErr prefix) (Write.ToErr bytes) = (rest : List ℕ) × (bytes ≡ prefix ++ rest)
 IsPrefixOf (Write.ToOut prefix) (Write.ToErr bytes) = ⊥
 IsPrefixOf (Write.ToErr prefix) (Write.ToOut bytes) = ⊥
 
--- the sink of the write failed, and the other did not
+-- the sink of the write failed, and the other one did not
 abbrev pub HasFailed : Write → Sinks → Sinks → Type 0
 HasFailed (Write.ToOut bytes) old new = Rose old.out_faults new.out_faults × (new.err_faults ≡ old.err_faults)
 HasFailed (Write.ToErr bytes) old new = (new.out_faults ≡ old.out_faults) × Rose old.err_faults new.err_faults
@@ -41,7 +41,7 @@ pub record IsSteady (old new : Sinks) : Type 0 where
   pub out : new.out_faults ≡ old.out_faults
   pub err : new.err_faults ≡ old.err_faults
 
--- a write failed: those before it are whole, a prefix of it stands, and after it nothing was written
+-- a write failed: those before it are whole, a prefix of it is done, and nothing was written after it
 pub record WasCut (writes : List Write) (old new : Sinks) : Type 0 where
   pub done : List Write
   pub cut : Write
@@ -52,7 +52,7 @@ pub record WasCut (writes : List Write) (old new : Sinks) : Type 0 where
   pub got : GotWrites (done ++ prefix ∷ []) old new
   pub failed : HasFailed cut old new
 
--- the writes stopped between two of them: those before are whole, and after them nothing was written
+-- the writes stopped between two of them: those before are whole, and nothing was written after them
 pub record WasStopped (writes : List Write) (old new : Sinks) : Type 0 where
   pub done : List Write
   pub later : List Write
@@ -66,7 +66,7 @@ pub record GotWhole (answer : Status) (code : Code) (options : RunOptions) (old 
   pub out : Appends old.out new.out (out_of code options)
   pub err : Appends old.err new.err (err_of code options)
 
--- what the answer of a run says
+-- the meaning of the result of a run
 abbrev pub HasRun : Result Status RunFault → Code → RunOptions → Sinks → Sinks → Type 0
 HasRun (Ok status) code options old new = GotWhole status code options old new × IsSteady old new
 HasRun (Err faults.Write) code options old new = WasCut (writes_of code options) old new

@@ -1,4 +1,4 @@
--- What a run came to whose prints and reports were not written.
+-- The summary of a run that wrote nothing.
 use Rattle.std.specs.Prelude.{◌≡◌}
 use Rattle.golf_data.specs.declared.code.Code.{Code}
 use Rattle.golf_run_schedules.specs.declared.options.RunOptions.{RunOptions}

@@ -9,3 +9,7 @@ pub mod UnderWay
 pub mod HasGone
 pub mod IsRunSummary
 pub mod Laws
+pub mod TurnLines
+pub mod Before
+pub mod Tracing
+pub mod Traced

@@ -6,7 +6,7 @@ use Rattle.golf_run_texts.specs.Output.{joined}
 use Rattle.golf_run.specs.declared.fault.RunFault.{RunFault}
 use Rattle.golf_run.specs.declared.fault.RunFault.TheVariants as faults
 
--- a write failed in the middle of a line: those before it are whole, and a prefix of it stands
+-- a write failed in the middle of a line: the lines before it are whole, and a prefix of it is written
 pub record IsCutIn (lines : List (List ℕ)) (old new : Option (List ℕ)) : Type 0 where
   pub done : List (List ℕ)
   pub cut : List ℕ
@@ -24,7 +24,7 @@ pub record IsStoppedIn (lines : List (List ℕ)) (old new : Option (List ℕ)) :
   pub order : lines ≡ done ++ later
   pub got : Appends old new (joined done)
 
--- all lines were written; or a write failed in the middle of one; or memory ran out between two of them
+-- all lines were written; or a write failed in the middle of a line; or memory ran out between two lines
 abbrev pub HasWritten : {X : Type 0} → Result X RunFault → List (List ℕ) → Option (List ℕ) → Option (List ℕ) → ℕ → ℕ
     → Type 0
 HasWritten (Ok x) lines old new before now = Appends old new (joined lines) × (now ≡ before)

@@ -1,4 +1,4 @@
--- What one collection of a run tells, with recovery or without, of a code that sets finalisers or does not.
+-- The lines of one collection of a run, with recovery or without, of a code that sets finalisers or does not.
 use Rattle.std.specs.Prelude.{◌≡◌, ℕ, Bool, true, false, List, [], ◌∷◌, map, length, Option, Some, None, Result, Ok}
 use Rattle.std.specs.Prelude.{Err}
 use Rattle.std.specs.Io.KnownBytes.{Appends}
@@ -22,26 +22,26 @@ use Rattle.golf_run.specs.Lines.{IsCutIn, IsStoppedIn}
 unfoldable pub told : Bool → Bool → Book → State → Report
 told recover sets book s = report recover sets book s
 
--- its lines
+-- the lines of this collection
 unfoldable pub told_by : Bool → Bool → Bool → Book → State → List (List ℕ)
 told_by recover sets why book s = told_lines why (told recover sets book s) s
 
--- what was made of the state, if it was asked for
+-- the explanation of the state, if it is asked for
 abbrev pub ExplainsIf : Bool → State → Option Explanation → Type 0
 ExplainsIf false s o = o ≡ None
 ExplainsIf true s None = ⊥
 ExplainsIf true s (Some e) = Explains s e × IsReady e
 
--- the lines of it
+-- the lines of the explanation
 abbrev pub explained_lines : ℕ → Option Explanation → List (List ℕ)
 explained_lines number None = []
 explained_lines number (Some e) = certificate_line number e.places ∷ map reached_line (reached_from e.graph 0 e.asleep)
 
--- the book with that collection
+-- the book after this collection
 unfoldable pub noted : Bool → Bool → Book → State → Book
 noted recover sets book s = book_after recover sets book s
 
--- the numbers of a book, and those of its last report
+-- the totals: the counts of a book, and those of its last report
 abbrev pub totals_by : Book → Report → Totals
 totals_by book r = record {
   collections = book.collections;
@@ -51,16 +51,16 @@ totals_by book r = record {
   objects = r.objects;
 }
 
--- what all reports so far come to
+-- the totals of all reports so far
 unfoldable pub totalled : Bool → Bool → Book → State → Totals
 totalled recover sets book s = totals_by (noted recover sets book s) (told recover sets book s)
 
--- the state after it
+-- the state after this collection
 unfoldable pub collected : Bool → Bool → State → State
 collected recover sets s = real_collect s recover sets
 
--- the lines were written, the book has the report and the state is the one after; or a write failed in the middle of
--- one; or memory ran out between two of them
+-- The lines were written, the book has the report, and the state is the one after the collection. Or a write failed in
+-- the middle of a line. Or memory ran out between two lines.
 abbrev pub HasTold : Bool → Bool → Bool → Result Totals RunFault → State → State → Book → Book → Option (List ℕ)
     → Option (List ℕ) → ℕ → ℕ → Type 0
 HasTold recover sets why (Ok totals) s after book book' err err' before now =

@@ -19,28 +19,28 @@ use Rattle.golf_model_futures.specs.Printing.{prefixed}
 use Rattle.golf_run.specs.HasRun.{Sinks}
 use Rattle.golf_run.specs.HasLeft.{HasLeft}
 
--- the plain machine after these events
+-- the state of the plain machine after these events
 unfoldable pub at : Code → List Event → State
 at code es = run code (start code) es
 
--- the states right before its collections
+-- the states right before the collections of these events
 unfoldable pub stops_to : Code → List Event → List State
 stops_to code es = stops code es
 
--- their reports
+-- the reports of these collections
 unfoldable pub reports_to : Code → Bool → List Event → List Report
 reports_to code recover es = book_of (stops_to code es) recover (sets_finalisers code)
 
--- the book after them
+-- the book after these collections
 unfoldable pub book_to : Code → Bool → List Event → Book
 book_to code recover es = books recover (sets_finalisers code) new_book (stops_to code es)
 
--- the collection of a run: it queues finalisers and frees, and with recovery it removes goroutines
+-- the collection of a run: it queues finalisers and frees objects, and with recovery it removes goroutines
 abbrev pub collecting : Code → Bool → State → State
 collecting code recover s = real_collect s recover (sets_finalisers code)
 
--- the machine whose collections are these, after the events, the states right before its collections, and the book of
--- their reports
+-- the state of the real machine after these events, its states right before their collections, and the book of their
+-- reports
 unfoldable pub real_at : Code → Bool → List Event → State
 real_at code recover es = run_by (collecting code recover) code (start code) es
 
@@ -50,7 +50,7 @@ real_stops_to code recover es = stops_by (collecting code recover) code (start c
 unfoldable pub real_book_to : Code → Bool → List Event → Book
 real_book_to code recover es = books recover (sets_finalisers code) new_book (real_stops_to code recover es)
 
--- what the events write
+-- the writes of these events
 unfoldable pub writes_to : Code → Bool → Bool → List Event → List Write
 writes_to code recover why es = writes_from code recover (sets_finalisers code) why new_book (start code) es
 
@@ -60,18 +60,18 @@ stops_text recover sets why book [] = []
 stops_text recover sets why book (p ∷ ps) = joined (told_lines why (report recover sets book p) p)
     ++ stops_text recover sets why (book_after recover sets book p) ps
 
--- what the collections of the events tell
+-- the lines of the collections of these events
 unfoldable pub told_to : Code → Bool → Bool → List Event → List ℕ
 told_to code recover why es = stops_text recover (sets_finalisers code) why new_book (real_stops_to code recover es)
 
--- the book counts these reports
+-- the book has the counts of these reports
 pub record IsCounted (ledger : Book) (rs : List Report) : Type 0 where
   pub collections : ledger.collections ≡ length rs
   pub reported : length ledger.reported ≡ total_reported rs
   pub reclaimed : length ledger.reclaimed ≡ total_reclaimed rs
 
--- the state is that of this machine but for what was printed; what the plain machine prints and reports was written,
--- and the book has its reports
+-- The state is that of the real machine, except for its output. The output and the reports of the plain machine were
+-- written, and the book has its reports.
 pub record IsUnderWay (code : Code) (recover why : Bool) (done : List Event) (state : State) (ledger : Book)
     (totals : Totals) (old now : Sinks) : Type 0 where
   pub same : real_at code recover done ≡ prefixed (real_at code recover done).output state
@@ -85,7 +85,7 @@ pub record IsUnderWay (code : Code) (recover why : Bool) (done : List Event) (st
   pub out : Appends old.out now.out (at code done).output
   pub err : Appends old.err now.err (told_to code recover why done)
 
--- these events of the run are done, in which so many numbers were given, and the others are still to come
+-- these events of the run are done, `given` numbers were given in them, and the events in `left` are still to come
 pub record IsGoing (code : Code) (options : RunOptions) (left : List Event) (given : ℕ) (state : State) (ledger : Book)
     (totals : Totals) (old now : Sinks) : Type 0 where
   pub done : List Event

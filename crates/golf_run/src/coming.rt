@@ -1,4 +1,4 @@
-//! The events of a run, from which turns in one go take their numbers.
+//! The events of a run that are still to come, from which batches of turns take their numbers.
 
 ghost use Rattle.std.specs.Prelude.{◌≡◌, false};
 ghost use Rattle.golf_machine.specs.Taking.{is_turn_next};
@@ -8,8 +8,8 @@ ghost use Rattle.golf_run.specs.Coming.{coming_left, HasTakenCollection};
 use golf_machine::Numbers;
 use golf_run_schedules::{Event, Events};
 
-/// The events of a run that are still to come. A collection that comes next may have been taken from
-/// them already.
+/// The events of a run that are still to come. If the next one is a collection, it may already be taken
+/// from `events`.
 #[derive(Debug, Drop)]
 pub(crate) struct Coming {
     events: Events,
@@ -37,7 +37,7 @@ impl Numbers for Coming {
 }
 
 impl Coming {
-    /// All of these events.
+    /// Returns all of these events.
     pub fn new(events: Events) -> Coming
         ensures left { coming_left result ≡ events_left events }
         ensures done { result.events.done ≡ events.done }
@@ -48,14 +48,14 @@ impl Coming {
         }
     }
 
-    /// How many turns were given.
+    /// Returns how many turns were given.
     pub fn turns_done(&self) -> u32
         ensures { result ≡ self.now.events.done }
     {
         self.events.turns_done()
     }
 
-    /// Takes the collection that comes next; false if nothing is left.
+    /// Takes the collection that comes next. Returns false if no event is left.
     pub fn take_collection(&mut self) -> bool
         requires { is_turn_next (coming_left self.old) ≡ false }
         ensures left { HasTakenCollection result (coming_left self.old) (coming_left self.new) }

@@ -1,11 +1,11 @@
-//! Why a run does not go on.
+//! The reason for which a run stops early.
 
 ghost use Rattle.std.specs.Prelude.{◌≡◌};
 ghost use Rattle.golf_run.specs.declared.fault.RunFault.TheVariants as faults;
 
 use golf_base::{Memory, WriteFault};
 
-/// Why a run did not go on.
+/// The reason for which a run stops early.
 #[derive(Clone, Copy, Debug, PartialEq, Eq)]
 pub enum RunFault {
     /// Out of memory.

@@ -1,18 +1,19 @@
-//! Laws: what follows from what the answer of a run says.
+//! Laws that follow from the clause of a run.
 
 ghost use Rattle.golf_run.specs.Laws.{FaultsLeavePrefixes, LeaksAreReported, WritesAreTexts};
 
-/// The writes of a run, sink by sink, are its two texts.
+/// States that the writes of a run, for each sink, are its two texts.
 pub fn writes_are_texts()
     ensures { WritesAreTexts }
 {}
 
-/// If a write failed or memory ran out, each sink got a prefix of its text.
+/// States that each sink got a prefix of its text, if a write failed or memory ran out.
 pub fn faults_leave_prefixes()
     ensures { FaultsLeavePrefixes }
 {}
 
-/// A run that takes turns, and then collects a state with a dead goroutine, reports somebody.
+/// States that a run reports a goroutine, if it takes turns and then collects a state with a dead
+/// goroutine.
 pub fn leaks_are_reported()
     ensures { LeaksAreReported }
 {}

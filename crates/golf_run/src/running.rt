@@ -1,4 +1,4 @@
-//! Runs code, and writes what it prints, what its collections report and how it ended.
+//! Runs a code, and writes its output, its reports and its last line.
 
 ghost use Rattle.std.specs.Prelude.{◌≡◌, IfOk};
 ghost use Rattle.golf_data.specs.Places.{HasPlaces};
@@ -16,7 +16,7 @@ use golf_run_texts::{Status, ending_line, stopped_line};
 use std::alloc::Global;
 use std::thread::Threads;
 
-/// The last line of a run of so many turns. It is empty if the program returned.
+/// Returns the last line of a run of `turns` turns. It is empty if the program returned.
 pub fn last_line(
     alloc: Global,
     texts: &[List<u8>],
@@ -31,7 +31,8 @@ pub fn last_line(
     }
 }
 
-/// How a run ends: whether goroutines were reported tells one that returned clean from one that found some.
+/// Returns the status of a run. A run that returned is `Found` if goroutines were reported, and else
+/// `Clean`.
 pub fn status_by(reported: bool, ending: Option<Ending>) -> Status
     ensures { result ≡ status_by_of reported ending }
 {
@@ -43,10 +44,14 @@ pub fn status_by(reported: bool, ending: Option<Ending>) -> Status
     }
 }
 
-/// Runs the code by the options, and answers how the program ends. What a turn prints is written to
-/// `out` after it, what is told of a collection to `err` after that, each line by a write of its own,
-/// and at the end the last line. After a write that failed nothing is written, and out of memory no
-/// write is cut. The gate is handed to the marking of each collection.
+/// Runs the code by the options, and returns how the program ends. It writes to the sinks in this order:
+///
+/// - After each turn its output goes to `out`.
+/// - After each collection its lines go to `err`, each line by its own write.
+/// - At the end the last line goes to `err`.
+///
+/// After a write that failed it writes nothing. If memory runs out, no write is cut. The marking of each
+/// collection passes the gate.
 pub fn run<R: Threads + Sync, O: Sink, E: Sink, G: Gate + Sync>(
     rt: &R,
     alloc: Global,

@@ -1,4 +1,6 @@
-//! Runs code, and writes nothing.
+//! Runs a code, and writes nothing.
+//!
+//! It returns the status, the totals of the reports, and the last line.
 
 ghost use Rattle.std.specs.Prelude.{None, IfOk};
 ghost use Rattle.golf_data.specs.Places.{HasPlaces};
@@ -14,18 +16,18 @@ use golf_run_texts::{Status, Totals};
 use std::alloc::Global;
 use std::thread::Threads;
 
-/// What a run came to.
+/// The summary of a run.
 #[derive(Debug, Drop)]
 pub struct RunSummary {
-    /// How the program ends.
+    /// The status with which the program ends.
     pub status: Status,
-    /// What the reports of its collections come to.
+    /// The totals of the reports of its collections.
     pub totals: Totals,
     /// The last line.
     pub line: List<u8>,
 }
 
-// A sink that lets all bytes go.
+// A sink that drops all bytes.
 #[derive(Drop)]
 struct Nowhere;
 
@@ -39,7 +41,7 @@ impl Sink for Nowhere {
     }
 }
 
-/// Runs the code by the options as `run` does, but writes nothing, and answers what the run came to.
+/// Runs the code by the options as `run` does, but writes nothing. Returns the summary of the run.
 pub fn survey<R: Threads + Sync, G: Gate + Sync>(
     rt: &R,
     alloc: Global,

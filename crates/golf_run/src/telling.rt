@@ -1,4 +1,6 @@
-//! What a collection tells, written line by line.
+//! Writes the lines of a collection, one by one.
+//!
+//! Each line is its own write. If memory runs out, no line is cut.
 
 ghost use Rattle.std.specs.Prelude.{◌<◌, ◌++◌, [], ◌∷◌, IfOk, IfSome, None, map, slice_get, unwrap_or};
 ghost use Rattle.golf_model.specs.Graph.{sleeper_count};
@@ -17,7 +19,7 @@ use golf_state::State;
 use golf_why::Explanation;
 use std::alloc::Global;
 
-/// What is told of a state beside the report of its collection, if that is asked for.
+/// Returns the explanation of a state, if it is asked for.
 pub(crate) fn explanation(
     alloc: Global,
     why: bool,
@@ -32,7 +34,7 @@ pub(crate) fn explanation(
     Ok(Some(Explanation::new(alloc, state)?))
 }
 
-// The line of a goroutine that is reported.
+// Writes the line of a reported goroutine.
 fn write_entry<E: Sink>(alloc: Global, entry: &Entry, err: &mut E) -> Result<(), RunFault>
     ensures { HasWritten result (entry_line_of entry.now ∷ []) (E.written err.old) (E.written err.new) (E.faults err.old) (E.faults err.new) }
 {
@@ -41,7 +43,7 @@ fn write_entry<E: Sink>(alloc: Global, entry: &Entry, err: &mut E) -> Result<(),
     Ok(())
 }
 
-// A line for each goroutine that is reported.
+// Writes a line for each reported goroutine.
 fn write_entries<E: Sink>(alloc: Global, entries: &[Entry], err: &mut E) -> Result<(), RunFault>
     ensures { HasWritten result (map entry_line_of entries.now) (E.written err.old) (E.written err.new) (E.faults err.old) (E.faults err.new) }
 {
@@ -51,7 +53,7 @@ fn write_entries<E: Sink>(alloc: Global, entries: &[Entry], err: &mut E) -> Resu
     Ok(())
 }
 
-// The lines of a report.
+// Writes the lines of a report.
 fn write_report<E: Sink>(alloc: Global, report: &Report, err: &mut E) -> Result<(), RunFault>
     ensures { HasWritten result (report_lines report.now) (E.written err.old) (E.written err.new) (E.faults err.old) (E.faults err.new) }
 {
@@ -60,7 +62,7 @@ fn write_report<E: Sink>(alloc: Global, report: &Report, err: &mut E) -> Result<
     write_entries(alloc, report.reported.as_slice(), err)
 }
 
-// The line of this blocked goroutine, if it is live.
+// Writes the line of this blocked goroutine, if it is live.
 fn write_sleeper<E: Sink>(
     alloc: Global,
     why: &Explanation,
@@ -79,7 +81,7 @@ fn write_sleeper<E: Sink>(
     Ok(())
 }
 
-// A line for each goroutine that waits and is live.
+// Writes a line for each live goroutine that waits.
 fn write_reached<E: Sink>(alloc: Global, why: &Explanation, err: &mut E) -> Result<(), RunFault>
     requires { IsReady why.now }
     ensures { HasWritten result (map reached_line_of (reached_from why.now.graph 0 why.now.asleep)) (E.written err.old) (E.written err.new) (E.faults err.old) (E.faults err.new) }
@@ -90,7 +92,7 @@ fn write_reached<E: Sink>(alloc: Global, why: &Explanation, err: &mut E) -> Resu
     Ok(())
 }
 
-// The lines of what was made of the state, if it was asked for.
+// Writes the lines of an explanation, if there is one.
 fn write_why<E: Sink>(
     alloc: Global,
     number: u32,
@@ -108,8 +110,7 @@ fn write_why<E: Sink>(
     write_reached(alloc, why, err)
 }
 
-/// Writes the lines of a collection: its report, and after it what was made of the state, if that
-/// was asked for.
+/// Writes the lines of a collection: its report, and then the explanation of the state, if there is one.
 pub(crate) fn write_told<E: Sink>(
     alloc: Global,
     report: &Report,

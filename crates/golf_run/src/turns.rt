@@ -1,4 +1,6 @@
-//! The turns and collections of a run; what they print and report is written.
+//! The turns and collections of a run, and the writes of each.
+//!
+//! The output of a turn goes to `out`, and the lines of a collection go to `err`.
 
 ghost use Rattle.std.specs.Prelude.{◌≡◌, ◌<◌, ◌-◌, ◌≤◌, ◌^◌};
 ghost use Rattle.golf_data.specs.Places.{HasPlaces};
@@ -24,7 +26,7 @@ use golf_state::State;
 use std::alloc::Global;
 use std::thread::Threads;
 
-/// How the events of a run came out.
+/// The result of the events of a run.
 #[derive(Clone, Copy)]
 pub(crate) struct Course {
     /// How many turns there were.
@@ -33,7 +35,7 @@ pub(crate) struct Course {
     pub totals: Totals,
 }
 
-// The numbers of the book, and those of its last report.
+// The totals: the counts of the book, and those of its last report.
 fn totals_after(book: &Ledger, report: &Report) -> Totals
     ensures { result ≡ totals_by book.now report.now }
 {
@@ -46,16 +48,16 @@ fn totals_after(book: &Ledger, report: &Report) -> Totals
     }
 }
 
-// How the collections of a run go about their work.
+/// The options of the collections of a run.
 #[derive(Clone, Copy)]
-struct Manner {
-    collecting: CollectOptions,
-    // Whether each tells its certificate, and what leads to those that wait and are live.
-    why: bool,
+pub(crate) struct Manner {
+    pub collecting: CollectOptions,
+    /// Whether each collection writes its certificate, and the ways to live goroutines that wait.
+    pub why: bool,
 }
 
-// Collects, and writes what is told of it. It answers what all reports so far come to.
-fn tell<R: Threads + Sync, E: Sink, G: Gate + Sync>(
+/// Collects, and writes the lines of the collection. Returns the totals of all reports so far.
+pub(crate) fn tell<R: Threads + Sync, E: Sink, G: Gate + Sync>(
     rt: &R,
     alloc: Global,
     how: Manner,
@@ -77,9 +79,9 @@ fn tell<R: Threads + Sync, E: Sink, G: Gate + Sync>(
     Ok(totals_after(book, &report))
 }
 
-// Takes turns until the outside is needed, and writes what the last one prints; or the collection that
-// comes next. It answers whether a collection follows; nothing if the program has ended, or if nothing
-// is left.
+// Takes turns until the run must act, and writes the output of the last one. Or it takes the collection
+// that comes next. Returns whether a collection follows, or `None` if the program has ended or no event is
+// left.
 fn advance<O: Sink>(
     alloc: Global,
     code: &Code,
@@ -109,8 +111,8 @@ fn advance<O: Sink>(
     }
 }
 
-// Goes through the events of a run. What a turn prints is written to `out` after it, what is told of a
-// collection to `err` after that, line by line.
+// Goes over the events of a run. After each turn it writes the output to `out`. After each collection it
+// writes the lines to `err`, one by one.
 pub(crate) fn go_through<R: Threads + Sync, O: Sink, E: Sink, G: Gate + Sync>(
     rt: &R,
     alloc: Global,

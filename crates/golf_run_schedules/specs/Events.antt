@@ -6,7 +6,7 @@ use Rattle.golf_run_schedules.specs.declared.schedule.Schedule.{Schedule}
 use Rattle.golf_run_schedules.specs.declared.events.Event.{Event as Given}
 use Rattle.golf_run_schedules.specs.declared.events.Events.{Events}
 
--- so many numbers from k on
+-- the numbers from k on, as many as the first argument says
 abbrev pub rotation : ℕ → ℕ → List ℕ
 rotation zero k = []
 rotation (suc n) k = k ∷ rotation n (k + 1)
@@ -15,18 +15,18 @@ rotation (suc n) k = k ∷ rotation n (k + 1)
 abbrev pub congruent : ℕ → ℕ
 congruent x = (x * 6364136223846793005 + 1442695040888963407) % (2 ^ 64)
 
--- so many numbers after x, each the upper 31 bits of the next member
+-- the numbers after x, as many as the first argument says: each is the upper 31 bits of the next member
 abbrev pub congruence : ℕ → ℕ → List ℕ
 congruence zero x = []
 congruence (suc n) x = congruent x / (2 ^ 33) ∷ congruence n (congruent x)
 
--- the numbers of a schedule for so many turns; written choices may be fewer
+-- the numbers of a schedule for `turns` turns; written choices may be fewer
 abbrev pub numbers : Schedule → ℕ → List ℕ
 numbers Schedule.Rotate turns = rotation turns 0
 numbers (Schedule.Seed x) turns = congruence turns x
 numbers (Schedule.Choices cs) turns = take turns cs
 
--- a collection is due after the k-th turn, if one is after each N-th
+-- whether a collection is due after the k-th turn, if one is after each N-th turn
 abbrev pub is_due : Option ℕ → ℕ → Bool
 is_due None k = false
 is_due (Some n) k = not (n == 0) && k % n == 0
@@ -58,10 +58,9 @@ abbrev pub turns_of : Given → ℕ
 turns_of (Given.Turn c) = 1
 turns_of Given.Collect = 0
 
--- ---- what is still to come
+-- ---- the events that are still to come
 
--- the numbers for so many turns more, if some were taken; a schedule that is a seed is the last member of its
--- congruence
+-- the numbers of the next `more` turns, after `done` turns; a seed is the last member of its congruence so far
 abbrev pub numbers_left : Schedule → ℕ → ℕ → List ℕ
 numbers_left Schedule.Rotate done more = rotation more done
 numbers_left (Schedule.Seed x) done more = congruence more x

@@ -1,4 +1,4 @@
--- What written numbers come to with a collection at the end.
+-- The events of written choices with a collection at the end.
 use Rattle.std.specs.Prelude.{◌≡◌, ℕ, ◌<◌, ◌≤◌, List, [], ◌∷◌, ◌++◌, length, map, Some}
 use Rattle.golf_model.specs.Running.{Event}
 use Rattle.golf_run_schedules.specs.declared.schedule.Schedule.{Schedule}
@@ -8,7 +8,8 @@ use Rattle.golf_run_schedules.specs.Events.{events}
 abbrev pub turns_then_collect : List ℕ → List Event
 turns_then_collect ns = map Event.Turn ns ++ Event.Collect ∷ []
 
--- so it is if as many turns are asked for, and a collection after each of that number
+-- a run with at least as many turns as choices, and a collection after each turn of that number, has exactly these
+-- events
 abbrev pub ChoicesThenCollect : Type 0
 ChoicesThenCollect = (ns : List ℕ) (turns : ℕ) → 0 < length ns → length ns ≤ turns
     → events (Schedule.Choices ns) turns (Some (length ns)) ≡ turns_then_collect ns

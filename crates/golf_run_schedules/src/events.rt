@@ -1,4 +1,6 @@
-//! The events of a run, one after the other.
+//! The events of a run, one after another.
+//!
+//! A collection that the run adds is an event of its own, after a turn.
 
 ghost use Rattle.std.specs.Prelude.{◌≡◌, ◌+◌, ◌∷◌, [], MatchOption};
 ghost use Rattle.golf_run_schedules.specs.Events.{event_of, events as events_of, events_left, is_due as is_due_of};
@@ -6,7 +8,7 @@ ghost use Rattle.golf_run_schedules.specs.Events.{turns_of};
 
 use crate::schedule::Schedule;
 
-/// What happens next in a run.
+/// The next event of a run.
 #[derive(Clone, Copy, Debug, PartialEq, Eq)]
 pub enum Event {
     /// A turn with this number of the schedule.
@@ -25,7 +27,7 @@ pub struct Events {
     is_collection_next: bool,
 }
 
-// Whether a collection is due after a turn, by its place from 1.
+// Whether a collection is due after the turn at this place, counted from 1.
 fn is_due(every: Option<u32>, turn: u32) -> bool
     ensures { result ≡ is_due_of every turn }
 {
@@ -36,8 +38,8 @@ fn is_due(every: Option<u32>, turn: u32) -> bool
 }
 
 impl Events {
-    /// The events of a run of so many turns, or of as many as there are choices if these are
-    /// fewer; with `every`, a collection is added after each turn whose place from 1 it divides.
+    /// Returns the events of a run of `turns` turns, or of fewer if the schedule has fewer choices. With
+    /// `every`, the run adds a collection after each turn whose place, from 1, is a multiple of `every`.
     pub fn new(schedule: Schedule, turns: u32, every: Option<u32>) -> Events
         ensures left { events_left result ≡ events_of schedule turns every }
         ensures none_done { result.done ≡ 0 }
@@ -51,14 +53,14 @@ impl Events {
         }
     }
 
-    /// How many turns were given.
+    /// Returns how many turns were given.
     pub fn turns_done(&self) -> u32
         ensures { result ≡ self.now.done }
     {
         self.done
     }
 
-    /// The next event; none if the turns or the choices are spent.
+    /// Returns the next event, or `None` if the turns or the choices are spent.
     pub fn next(&mut self) -> Option<Event>
         ensures { MatchOption result
             ((events_left self.old ≡ []) × (events_left self.new ≡ []) × (self.new.done ≡ self.old.done))

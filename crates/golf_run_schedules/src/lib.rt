@@ -1,9 +1,9 @@
-//! The schedules of a run: whose turn each turn is, and after which turns a collection is added.
+//! The schedule of a run: the number of each turn, and the turns after which a collection is added.
 //!
-//! - `Schedule`: if the numbers of the turns come from.
-//! - `Events`: the turns and added collections of a run, one after the other.
-//! - `RunOptions`: how a file is run.
-//! - `choices_then_collect`: a law of written numbers.
+//! - `Schedule`: where the numbers of the turns come from.
+//! - `Events`: the turns and added collections of a run, one after another.
+//! - `RunOptions`: the options of a run.
+//! - `choices_then_collect`: a law on written choices.
 #![tactic(auto)]
 
 mod events;

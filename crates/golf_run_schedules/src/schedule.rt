@@ -1,23 +1,25 @@
 //! Where the numbers of the turns come from.
+//!
+//! The same schedule gives the same numbers each time.
 
 ghost use Rattle.std.specs.Prelude.{◌≡◌, ◌<◌, ◌-◌, ◌∷◌, [], MatchOption, ℕ, suc};
 ghost use Rattle.golf_run_schedules.specs.Events.{congruent as congruent_of, numbers_left};
 
 use golf_base::List;
 
-/// If the numbers of the turns come from: with `m` goroutines that can run, the turn with number
-/// `c` is that of the one at place `c mod m`.
+/// Where the numbers of the turns come from. If `m` goroutines can run, the turn with the number `c` is
+/// that of the goroutine at the place `c mod m` among them.
 #[derive(Debug, Drop)]
 pub enum Schedule {
     /// 0, 1, 2, and so on.
     Rotate,
-    /// The numbers of a linear congruence that starts here.
+    /// The numbers of a linear congruence that starts at this one.
     Seed(u64),
-    /// These numbers, and then no more.
+    /// These numbers, and then none.
     Choices(List<u64>),
 }
 
-// The member of the linear congruence that follows `x`.
+// The member of the linear congruence after `x`.
 fn congruent(x: u64) -> u64
     ensures { result ≡ congruent_of x }
 {
@@ -26,8 +28,7 @@ fn congruent(x: u64) -> u64
 }
 
 impl Schedule {
-    /// The number of the next turn, if `done` turns were given theirs; none if the choices are
-    /// spent.
+    /// Returns the number of the next turn, after `done` turns, or `None` if the choices are spent.
     pub(crate) fn next_number(&mut self, done: u32) -> Option<u64>
         ensures { (more : ℕ) → MatchOption result
             ((numbers_left self.old done (suc more) ≡ []) × (self.new ≡ self.old))

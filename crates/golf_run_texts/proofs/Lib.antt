@@ -1,4 +1,4 @@
-mod Growing
+pub mod Growing
 pub mod Writings
 mod Examples
 mod Anyone

@@ -1,4 +1,5 @@
--- What the run of a code by its options writes to standard output and standard error, and how the program ends.
+-- The output of the run of a code by its options, on standard output and on standard error, and the status of the
+-- program.
 use Rattle.std.specs.Prelude.{ℕ, Bool, true, false, cond, ◌||◌, List, [], ◌∷◌, ◌++◌, map, Option, Some, None}
 use Rattle.golf_data.specs.declared.code.Code.{Code}
 use Rattle.golf_data.specs.declared.goroutine.Ending.{Ending}
@@ -14,33 +15,35 @@ use Rattle.golf_run_texts.specs.declared.status.Status.{Status}
 use Rattle.golf_why.specs.Explaining.{certificate_size, reached_in}
 use Rattle.golf_run_texts.specs.Texts.{report_text, certificate_line, reached_line, last_line}
 
--- the turns and added collections of a run by these options; this and what stands on it no proof unfolds by chance
+-- The turns and added collections of a run by these options. It is opaque, and so are the definitions that use it, so
+-- no proof unfolds them by chance.
 unfoldable pub events_of : RunOptions → List Event
 events_of options = events options.schedule options.turns options.every
 
--- the state after them, of the machine that frees and reclaims nothing
+-- the state after these events, of the plain machine, whose collections free and remove nothing
 unfoldable pub last_of : Code → RunOptions → State
 last_of code options = run code (start code) (events_of options)
 
--- what the run prints
+-- the text that the run prints
 unfoldable pub out_of : Code → RunOptions → List ℕ
 out_of code options = (last_of code options).output
 
--- the reports of its collections
+-- the reports of the run's collections
 unfoldable pub reports_of : Code → RunOptions → List Report
 reports_of code options = book_of (stops code (events_of options)) options.recover (sets_finalisers code)
 
--- its last line: how it ended; one that has not ended is told with its number of turns
+-- the last line of the run: how it ended, or, if it has not ended, the number of its turns
 unfoldable pub end_of : Code → RunOptions → List ℕ
 end_of code options = last_line code.texts (turns_among (events_of options)) (ending (last_of code options))
 
--- the states right before its collections, of the machine that frees and, with recovery, removes goroutines
+-- the states right before the run's collections, on the real machine, which frees objects and with recovery removes
+-- goroutines
 unfoldable pub real_stops_of : Code → RunOptions → List State
 real_stops_of code options = stops_by (λ s. real_collect s options.recover (sets_finalisers code)) code (start code)
     (events_of options)
 
--- what is told of the collection of this number on this state: its certificate, and the goroutines that wait and are
--- live
+-- the lines on the collection of this number on this state, if they are asked for: its certificate, and the live
+-- goroutines that wait
 abbrev pub why_lines : Bool → ℕ → State → List (List ℕ)
 why_lines false number s = []
 why_lines true number s = certificate_line number (certificate_size s) ∷ map reached_line (reached_in s)
@@ -57,7 +60,7 @@ collections_text why (r ∷ rs) [] = report_text r ++ collections_text why rs []
 collections_text why (r ∷ rs) (s ∷ ss) = (report_text r ++ joined (why_lines why r.number s))
     ++ collections_text why rs ss
 
--- the reports, each with what is told of it, and the last line
+-- the reports, each with the lines that are asked for, and the last line
 unfoldable pub err_of : Code → RunOptions → List ℕ
 err_of code options = collections_text options.why (reports_of code options) (real_stops_of code options)
     ++ end_of code options
@@ -71,7 +74,7 @@ abbrev pub anyone_reported : List Report → Bool
 anyone_reported [] = false
 anyone_reported (r ∷ rs) = names_someone r.reported || anyone_reported rs
 
--- a run that returned is clean if nothing was reported
+-- the status: a run that returned is clean exactly when no goroutine was reported
 abbrev pub status_by : Bool → Option Ending → Status
 status_by reported (Some Ending.Returned) = cond reported Status.Found Status.Clean
 status_by reported (Some (Ending.Panicked kind g line)) = Status.Crashed

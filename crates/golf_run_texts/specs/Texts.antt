@@ -37,23 +37,23 @@ abbrev pub entry_lines : List Entry → List ℕ
 entry_lines [] = []
 entry_lines (e ∷ es) = entry_line e ++ entry_lines es
 
--- what a collection found
+-- the first part of a collection's line: what it found
 abbrev pub found_text : Report → List ℕ
 found_text r =
     codes "collection " ++ (decimal r.number
     ++ (codes ": marked " ++ (decimal r.marked ++ (codes ", reported " ++ decimal (length r.reported)))))
 
--- what it left
+-- the second part of a collection's line: what it left
 abbrev pub left_text : Report → List ℕ
 left_text r =
     codes ", kept " ++ (decimal r.kept ++ (codes ", reclaimed "
     ++ (decimal r.reclaimed ++ (codes ", objects " ++ (decimal r.objects ++ codes "\n")))))
 
--- a collection, and each goroutine that it reports
+-- the line of a collection, and a line for each goroutine that it reports
 abbrev pub report_text : Report → List ℕ
 report_text r = (found_text r ++ left_text r) ++ entry_lines r.reported
 
--- the lines of it, one by one
+-- these lines, one by one
 abbrev pub report_line : Report → List ℕ
 report_line r = found_text r ++ left_text r
 
@@ -64,7 +64,7 @@ abbrev pub reports_text : List Report → List ℕ
 reports_text [] = []
 reports_text (r ∷ rs) = report_text r ++ reports_text rs
 
--- the line of the certificate of a collection, which has so many places
+-- the line of the certificate of a collection, and of how many places it has
 abbrev pub certificate_line : ℕ → ℕ → List ℕ
 certificate_line number places = codes "certificate "
     ++ (decimal number ++ (codes ": " ++ (decimal places ++ codes " places\n")))
@@ -73,12 +73,12 @@ abbrev pub member_text : Member → List ℕ
 member_text (Member.Object o) = codes "object " ++ decimal o.0
 member_text (Member.Goroutine g) = codes "goroutine " ++ decimal g.0
 
--- what leads to a goroutine, each after a comma
+-- the members of the way to a goroutine, each after a comma
 abbrev pub more_members : List Member → List ℕ
 more_members [] = []
 more_members (m ∷ ms) = codes ", " ++ (member_text m ++ more_members ms)
 
--- the same, with a comma between two of them
+-- the members, with a comma between two of them
 abbrev pub members_text : List Member → List ℕ
 members_text [] = []
 members_text (m ∷ ms) = member_text m ++ more_members ms
@@ -88,11 +88,11 @@ abbrev pub blocked_text : Reached → List ℕ
 blocked_text r = codes "goroutine " ++ (decimal r.goroutine.0
     ++ (codes ": " ++ (wait_text r.wait ++ (codes " at line " ++ (decimal r.line ++ codes ", reached by ")))))
 
--- its line
+-- the line of a goroutine that waits and is live
 abbrev pub reached_line : Reached → List ℕ
 reached_line r = blocked_text r ++ (members_text r.by ++ codes "\n")
 
--- why a goroutine panics (the words of Go's runtime and of package sync)
+-- the reason for which a goroutine panics (the words of Go's runtime and of package sync)
 abbrev pub panic_text : List (List ℕ) → PanicKind → List ℕ
 panic_text texts (PanicKind.Custom k) = unwrap_or (slice_get texts k) []
 panic_text texts PanicKind.NilPointer = codes "runtime error: invalid memory address or nil pointer dereference"
@@ -125,17 +125,17 @@ fault_line texts kind g line =
 abbrev pub asleep_line : List ℕ
 asleep_line = codes "fatal error: all goroutines are asleep - deadlock!\n"
 
--- the line of a program that has crashed; one that has returned has none
+-- the line of a program that has crashed; it is empty for one that has returned
 abbrev pub ending_line : List (List ℕ) → Ending → List ℕ
 ending_line texts Ending.Returned = []
 ending_line texts (Ending.Panicked kind g line) = fault_line texts kind g line
 ending_line texts Ending.Asleep = asleep_line
 
--- the line of a program that has not ended after so many turns
+-- the line of a program that has not ended after this many turns
 abbrev pub stopped_line : ℕ → List ℕ
 stopped_line turns = codes "stopped after " ++ (decimal turns ++ codes " turns\n")
 
--- the last line of a run of so many turns
+-- the last line of a run of this many turns
 abbrev pub last_line : List (List ℕ) → ℕ → Option Ending → List ℕ
 last_line texts turns (Some e) = ending_line texts e
 last_line texts turns None = stopped_line turns
@@ -154,15 +154,15 @@ numbers_text (n ∷ ns) = decimal n ++ more_numbers ns
 unfoldable pub history_line : List ℕ → List ℕ
 history_line ns = codes "history: " ++ (numbers_text ns ++ codes "\n")
 
--- the line of a file each of whose functions agrees with its source: so many
+-- the line of a file with this many functions, each of which agrees with its source
 abbrev pub meaning_line : ℕ → List ℕ
 meaning_line functions = codes "meaning: " ++ (decimal functions ++ codes " functions agree\n")
 
--- the line of a file whose bytes are no tokens from this byte on, which stands on this line
+-- the line of a file whose bytes do not lex: the fault is at this byte, on this line
 abbrev pub lexical_line : ℕ → ℕ → List ℕ
 lexical_line line byte = codes "refused: line " ++ (decimal line ++ (codes ": byte " ++ (decimal byte ++ codes "\n")))
 
--- the line of a file whose tokens no tree prints; the fault is on this line
+-- the line of a file that has no syntax tree; the fault is on this line
 abbrev pub syntax_line : ℕ → List ℕ
 syntax_line line = codes "refused: line " ++ (decimal line ++ codes ": syntax\n")
 

@@ -1,19 +1,19 @@
--- What the reports of a run come to.
+-- The totals of the reports of a run.
 use Rattle.std.specs.Prelude.{ℕ, ◌+◌, List, [], ◌∷◌, length}
 use Rattle.golf_data.specs.declared.report.Report.{Report}
 use Rattle.golf_run_texts.specs.declared.totals.Totals.{Totals}
 
--- how many goroutines they name together
+-- how many goroutines all reports together name
 abbrev pub total_reported : List Report → ℕ
 total_reported [] = 0
 total_reported (r ∷ rs) = length r.reported + total_reported rs
 
--- how many they say were removed together
+-- how many goroutines all reports together count as removed
 abbrev pub total_reclaimed : List Report → ℕ
 total_reclaimed [] = 0
 total_reclaimed (r ∷ rs) = r.reclaimed + total_reclaimed rs
 
--- a number of the last of them; if there is none it is the one before
+-- a number of the last report; without a report it is `before`
 abbrev pub of_last : (Report → ℕ) → ℕ → List Report → ℕ
 of_last number before [] = before
 of_last number before (r ∷ rs) = of_last number (number r) rs

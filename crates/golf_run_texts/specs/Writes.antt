@@ -1,4 +1,4 @@
--- What the run of a code writes, in its order.
+-- The writes of the run of a code, in their order.
 use Rattle.std.specs.Prelude.{ℕ, Bool, true, false, List, [], ◌∷◌, ◌++◌, map}
 use Rattle.golf_data.specs.declared.code.Code.{Code}
 use Rattle.golf_data.specs.declared.report.Book.{Book}
@@ -17,7 +17,7 @@ pub data Write : Type 0 where
   ToOut : (bytes : List ℕ) → Write
   ToErr : (bytes : List ℕ) → Write
 
--- what goes to standard output of these writes, and to standard error
+-- the bytes of these writes that go to standard output, and those that go to standard error
 abbrev pub out_bytes : List Write → List ℕ
 out_bytes [] = []
 out_bytes (Write.ToOut bytes ∷ ws) = bytes ++ out_bytes ws
@@ -28,11 +28,11 @@ err_bytes [] = []
 err_bytes (Write.ToOut bytes ∷ ws) = err_bytes ws
 err_bytes (Write.ToErr bytes ∷ ws) = bytes ++ err_bytes ws
 
--- the state with its output taken
+-- the state without its output
 abbrev pub emptied : State → State
 emptied s = record s { output = [] }
 
--- a collection that frees, and with recovery removes goroutines
+-- a real collection, which frees objects and with recovery removes goroutines
 abbrev pub freeing : Bool → Bool → State → State
 freeing recover sets s = real_collect s recover sets
 
@@ -40,46 +40,46 @@ freeing recover sets s = real_collect s recover sets
 abbrev pub told_lines : Bool → Report → State → List (List ℕ)
 told_lines why r s = report_lines r ++ why_lines why r.number s
 
--- each is a write of its own
+-- each line is its own write
 abbrev pub line_writes : List (List ℕ) → List Write
 line_writes ls = map (λ l. Write.ToErr l) ls
 
--- a book, and the collections at these stops after it
+-- the book after the collections at these stops
 abbrev pub books : Bool → Bool → Book → List State → Book
 books recover sets book [] = book
 books recover sets book (p ∷ ps) = books recover sets (book_after recover sets book p) ps
 
 module _ (code : Code) where
-  -- what an event prints: what its turn does, if it is one
+  -- the write of what an event prints: the output of its turn, if it is one
   abbrev pub prints_in : State → Event → List Write
   prints_in s (Event.Turn c) = Write.ToOut (step code (emptied s) c).output ∷ []
   prints_in s Event.Collect = []
 
   module _ (recover sets why : Bool) where
-    -- what the collections at these stops write
+    -- the writes of the collections at these stops
     abbrev pub collection_writes : Book → List State → List Write
     collection_writes book [] = []
     collection_writes book (p ∷ ps) = line_writes (told_lines why (report recover sets book p) p)
         ++ collection_writes (book_after recover sets book p) ps
 
-    -- what an event of the machine that frees writes: what its turn prints, and then what the collection that follows
-    -- tells; nothing if the program has ended
+    -- The writes of an event on the real machine: the output of its turn, and then the lines of the collection that
+    -- follows. If the program has ended, there are none.
     abbrev pub writes_in : Bool → Book → State → Event → List Write
     writes_in true book s e = []
     writes_in false book s e = prints_in s e ++ collection_writes book (stop_in (freeing recover sets) code false s e)
 
-    -- what the events write, one after another
+    -- the writes of these events, one after another
     abbrev pub writes_from : Book → State → List Event → List Write
     writes_from book s [] = []
     writes_from book s (e ∷ es) = writes_in (has_ended s) book s e
         ++ writes_from (books recover sets book (stop_in (freeing recover sets) code (has_ended s) s e))
         (happens_by (freeing recover sets) code s e) es
 
--- what the events of a run write
+-- the writes of the events of a run
 unfoldable pub event_writes_of : Code → RunOptions → List Write
 event_writes_of code options = writes_from code options.recover (sets_finalisers code) options.why new_book (start code)
     (events_of options)
 
--- what a run writes: what its events write, and then its last line
+-- the writes of a run: those of its events, and then its last line
 unfoldable pub writes_of : Code → RunOptions → List Write
 writes_of code options = event_writes_of code options ++ Write.ToErr (end_of code options) ∷ []

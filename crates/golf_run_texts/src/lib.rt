@@ -1,5 +1,6 @@
-//! What a run writes to standard error, and how the program ends: the texts, the status, and the
-//! definitions of what the run of a code writes.
+//! The texts that a run writes to standard error, and the status with which the program ends.
+//!
+//! `specs/` defines all that the run of a code writes (`Output`, `Writes`).
 #![tactic(auto)]
 
 mod lines;

@@ -1,4 +1,4 @@
-//! The lines of collections, of panics and of the end.
+//! The lines of collections, panics and endings. The only error is `Memory`.
 
 ghost use Rattle.std.specs.Prelude.{◌≡◌, ◌++◌, IfOk, OnOk, string_bytes};
 ghost use Rattle.golf_data.specs.Fatal.{is_fatal};
@@ -23,7 +23,7 @@ use golf_base::{GoroutineId, List, Memory};
 use golf_data::{Ending, Entry, PanicKind, Report, WaitKind};
 use std::alloc::Global;
 
-/// How a goroutine is blocked.
+/// Returns the words for how a goroutine is blocked, as Go's own traces have them.
 pub(crate) fn wait_text(kind: WaitKind) -> &'static str
     ensures { result.now ≡ wait_bytes kind }
 {
@@ -42,7 +42,7 @@ pub(crate) fn wait_text(kind: WaitKind) -> &'static str
     }
 }
 
-/// The line of a goroutine that can never run again.
+/// Returns the line of a goroutine that can never run again.
 pub fn entry_line(alloc: Global, entry: &Entry) -> Result<String, Memory>
     ensures { IfOk result (λ line. string_bytes line ≡ entry_bytes entry.now) }
 {
@@ -55,7 +55,7 @@ pub fn entry_line(alloc: Global, entry: &Entry) -> Result<String, Memory>
     )?)
 }
 
-// What a collection found.
+// The first part of a collection's line: what it found.
 fn found_text(alloc: Global, report: &Report) -> Result<String, Memory>
     ensures { IfOk result (λ text. string_bytes text ≡ found_bytes report.now) }
 {
@@ -65,7 +65,7 @@ fn found_text(alloc: Global, report: &Report) -> Result<String, Memory>
     Ok(format!(in alloc; "collection {number}: marked {marked}, reported {reported}")?)
 }
 
-// What a collection left.
+// The second part of a collection's line: what it left.
 fn left_text(alloc: Global, report: &Report) -> Result<String, Memory>
     ensures { IfOk result (λ text. string_bytes text ≡ left_bytes report.now) }
 {
@@ -75,7 +75,7 @@ fn left_text(alloc: Global, report: &Report) -> Result<String, Memory>
     Ok(format!(in alloc; ", kept {kept}, reclaimed {reclaimed}, objects {objects}\n")?)
 }
 
-/// The line of a collection.
+/// Returns the line of a collection.
 pub fn report_line(alloc: Global, report: &Report) -> Result<List<u8>, Memory>
     ensures { IfOk result (λ line. line ≡ report_line_bytes report.now) }
 {
@@ -95,7 +95,7 @@ fn add_entries(alloc: Global, text: &mut List<u8>, entries: &[Entry]) -> Result<
     Ok(())
 }
 
-/// The line of a collection, and a line for each goroutine that it reports.
+/// Returns the line of a collection, and after it a line for each goroutine that it reports.
 pub fn report_text(alloc: Global, report: &Report) -> Result<List<u8>, Memory>
     ensures { IfOk result (λ text. text ≡ report_bytes report.now) }
 {
@@ -104,7 +104,7 @@ pub fn report_text(alloc: Global, report: &Report) -> Result<List<u8>, Memory>
     Ok(text)
 }
 
-// Adds why a goroutine panics.
+// Adds the reason for which a goroutine panics.
 fn add_reason(
     alloc: Global,
     text: &mut List<u8>,
@@ -153,7 +153,7 @@ fn add_reason(
     }
 }
 
-// A fatal error runs no deferred call.
+// The first word of the line: a fatal error is no panic, and runs no deferred call.
 fn fault_word(kind: PanicKind) -> &'static str
     ensures { result.now ≡ fault_word_bytes (is_fatal kind) }
 {
@@ -192,8 +192,8 @@ fn asleep_line(alloc: Global) -> Result<List<u8>, Memory>
     )
 }
 
-/// The line of a program that has crashed; empty for one that has returned. `texts` is the code's
-/// table, which has the text of a `panic`.
+/// Returns the line of a program that has crashed, or an empty one if it has returned. `texts` is the
+/// code's table, which has the text of a `panic`.
 pub fn ending_line(alloc: Global, texts: &[List<u8>], ending: Ending) -> Result<List<u8>, Memory>
     ensures { IfOk result (λ line. line ≡ ending_bytes texts.now ending) }
 {
@@ -208,7 +208,7 @@ pub fn ending_line(alloc: Global, texts: &[List<u8>], ending: Ending) -> Result<
     }
 }
 
-/// The line of a program that has not ended after so many turns.
+/// Returns the line of a program that has not ended after `turns` turns.
 pub fn stopped_line(alloc: Global, turns: u32) -> Result<List<u8>, Memory>
     ensures { IfOk result (λ line. line ≡ stopped_bytes turns) }
 {

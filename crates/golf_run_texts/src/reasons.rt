@@ -1,4 +1,4 @@
-//! The lines of a certificate, and of goroutines that wait and are live.
+//! The lines of certificates, and of live goroutines that wait. The only error is `Memory`.
 
 ghost use Rattle.std.specs.Prelude.{◌≡◌, ◌++◌, IfOk, OnOk, string_bytes};
 ghost use Rattle.golf_run_texts.specs.Texts.{
@@ -16,8 +16,8 @@ use golf_base::{List, Memory};
 use golf_why::{Member, Reached};
 use std::alloc::Global;
 
-/// The line of the certificate of a collection: its number, and how many objects and goroutines the
-/// certificate places.
+/// Returns the line of the certificate of a collection: its number, and how many objects and goroutines the
+/// certificate has.
 pub fn certificate_line(alloc: Global, number: u32, places: u32) -> Result<List<u8>, Memory>
     ensures { IfOk result (λ line. line ≡ certificate_bytes number places) }
 {
@@ -40,7 +40,7 @@ fn member_text(alloc: Global, member: Member) -> Result<String, Memory>
     }
 }
 
-// Adds each member after a comma.
+// Adds each member, after a comma.
 fn add_more(alloc: Global, line: &mut List<u8>, members: &[Member]) -> Result<(), Memory>
     ensures { OnOk result (line.new ≡ line.old ++ more_bytes members.now) }
 {
@@ -62,7 +62,7 @@ fn add_members(alloc: Global, line: &mut List<u8>, members: &[Member]) -> Result
     add_more(alloc, line, more)
 }
 
-// How it is blocked.
+// The first part of the line: how the goroutine is blocked.
 fn blocked_text(alloc: Global, reached: &Reached) -> Result<String, Memory>
     ensures { IfOk result (λ text. string_bytes text ≡ blocked_bytes reached.now) }
 {
@@ -72,7 +72,7 @@ fn blocked_text(alloc: Global, reached: &Reached) -> Result<String, Memory>
     Ok(format!(in alloc; "goroutine {goroutine}: {wait} at line {line}, reached by ")?)
 }
 
-/// The line of a goroutine that waits and is live.
+/// Returns the line of a goroutine that waits and is live.
 pub fn reached_line(alloc: Global, reached: &Reached) -> Result<List<u8>, Memory>
     ensures { IfOk result (λ line. line ≡ reached_bytes reached.now) }
 {

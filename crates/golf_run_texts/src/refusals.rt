@@ -1,4 +1,4 @@
-//! The lines of files that are not accepted.
+//! The lines of refused files. The only error is `Memory`.
 
 ghost use Rattle.std.specs.Prelude.{◌≡◌, IfOk};
 ghost use Rattle.golf_run_texts.specs.Texts.{lexical_line as lexical_line_of, syntax_line as syntax_line_of};
@@ -7,7 +7,7 @@ ghost use Rattle.golf_run_texts.specs.Texts.{rule_line as rule_line_of};
 use golf_base::{List, Memory};
 use std::alloc::Global;
 
-/// A text as a list of its own.
+/// Returns a copy of a text as a list.
 pub fn list_of(alloc: Global, text: &[u8]) -> Result<List<u8>, Memory>
     ensures { IfOk result (λ list. list ≡ text.now) }
 {
@@ -16,8 +16,8 @@ pub fn list_of(alloc: Global, text: &[u8]) -> Result<List<u8>, Memory>
     Ok(list)
 }
 
-/// The line of a file whose bytes lex as no tokens: `line` counts from 1, `byte` is the offset of the
-/// fault from 0.
+/// Returns the line of a file whose bytes do not lex. `line` counts from 1, and `byte` is the offset of the
+/// fault, from 0.
 pub fn lexical_line(alloc: Global, line: u32, byte: u32) -> Result<List<u8>, Memory>
     ensures { IfOk result (λ text. text ≡ lexical_line_of line byte) }
 {
@@ -25,7 +25,7 @@ pub fn lexical_line(alloc: Global, line: u32, byte: u32) -> Result<List<u8>, Mem
     list_of(alloc, text.as_bytes())
 }
 
-/// The line of a file whose tokens no tree prints: `line` counts from 1.
+/// Returns the line of a file that has no syntax tree. `line` counts from 1.
 pub fn syntax_line(alloc: Global, line: u32) -> Result<List<u8>, Memory>
     ensures { IfOk result (λ text. text ≡ syntax_line_of line) }
 {
@@ -33,7 +33,7 @@ pub fn syntax_line(alloc: Global, line: u32) -> Result<List<u8>, Memory>
     list_of(alloc, text.as_bytes())
 }
 
-/// The line of a file that breaks a rule: `line` counts from 1.
+/// Returns the line of a file that breaks a rule of types. `line` counts from 1.
 pub fn rule_line(alloc: Global, line: u32, rule: u32) -> Result<List<u8>, Memory>
     ensures { IfOk result (λ text. text ≡ rule_line_of line rule) }
 {

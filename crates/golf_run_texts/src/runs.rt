@@ -1,4 +1,4 @@
-//! The texts of a whole run: all its reports, and the numbers of its turns.
+//! The texts of a whole run: all its reports, and the numbers of its turns. The only error is `Memory`.
 
 ghost use Rattle.std.specs.Prelude.{◌≡◌, ◌++◌, IfOk, OnOk, codes, decimal, string_bytes};
 ghost use Rattle.golf_run_texts.specs.Output.{anyone_reported as anyone_reported_of};
@@ -26,7 +26,7 @@ fn add_reports(alloc: Global, text: &mut List<u8>, reports: &[Report]) -> Result
     Ok(())
 }
 
-/// The lines of the collections of a run, in their order.
+/// Returns the lines of the collections of a run, in their order.
 pub fn reports_text(alloc: Global, reports: &[Report]) -> Result<List<u8>, Memory>
     ensures { IfOk result (λ text. text ≡ reports_bytes reports.now) }
 {
@@ -35,7 +35,7 @@ pub fn reports_text(alloc: Global, reports: &[Report]) -> Result<List<u8>, Memor
     Ok(text)
 }
 
-/// Whether one of the reports names a goroutine.
+/// Returns whether one of the reports names a goroutine.
 pub fn anyone_reported(reports: &[Report]) -> bool
     ensures { result ≡ anyone_reported_of reports.now }
 {
@@ -76,7 +76,7 @@ pub fn add_numbers(alloc: Global, text: &mut List<u8>, numbers: &[u64]) -> Resul
     add_more(alloc, text, more)
 }
 
-/// The line of the numbers of all turns of a run, in their order.
+/// Returns the line of the numbers of all turns of a run, in their order.
 #[tactic(auto, unfolding(crate::specs::Texts::history_line))]
 pub fn history_line(alloc: Global, numbers: &[u64]) -> Result<List<u8>, Memory>
     ensures { IfOk result (λ line. line ≡ history_bytes numbers.now) }
@@ -88,7 +88,7 @@ pub fn history_line(alloc: Global, numbers: &[u64]) -> Result<List<u8>, Memory>
     Ok(line)
 }
 
-/// The line of a file of so many functions, each of which has code that agrees with its source.
+/// Returns the line of a file of `functions` functions, each with code that agrees with its source.
 pub fn meaning_line(alloc: Global, functions: usize) -> Result<List<u8>, Memory>
     ensures { IfOk result (λ line. line ≡ meaning_bytes functions) }
 {

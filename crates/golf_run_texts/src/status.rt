@@ -1,4 +1,6 @@
-//! How the program ends, and the lines that it writes to standard error.
+//! The status with which the program ends, and its fixed lines on standard error.
+//!
+//! `constants_law` says that the texts are those of the definitions.
 
 ghost use Rattle.std.specs.Prelude.{◌≡◌};
 ghost use Rattle.golf_run_texts.specs.Codes.{code_of};
@@ -7,38 +9,38 @@ ghost use Rattle.golf_run_texts.specs.Fixed.{AreFixed};
 /// The most bytes of a file.
 pub const LIMIT: u32 = 1_048_576;
 
-/// The usage, for words that are no line.
+/// The usage, for words that are no command line.
 pub const USAGE: &[u8; 160] =
     b"usage: golf run [--schedule S] [--turns N] [--every N] [--markers N] [--recover] [--why]\n       golf run --threads N\n       golf generate N\n       golf meaning\n";
 
-/// The line for a source that fails.
+/// The line of a source that fails.
 pub const READ_FAULT: &[u8; 11] = b"read fault\n";
 
-/// The line for a file of more than `LIMIT` bytes.
+/// The line of a file of more than `LIMIT` bytes.
 pub const TOO_LONG: &[u8; 33] = b"refused: more than 1048576 bytes\n";
 
-/// The line for a program that is out of memory.
+/// The line of a program that is out of memory.
 pub const NO_MEMORY: &[u8; 14] = b"out of memory\n";
 
-/// The limit of a file and the texts above are those of the definitions.
+/// States that the limit of a file and the texts above are those of the definitions.
 pub fn constants_law()
     ensures { AreFixed }
 {}
 
-/// How the program ends.
+/// The status with which the program ends.
 #[derive(Clone, Copy, Debug, PartialEq, Eq)]
 pub enum Status {
-    /// The run returned, and nothing was reported.
+    /// The run returned, and no goroutine was reported.
     Clean,
-    /// The run returned, and something was reported.
+    /// The run returned, and a goroutine was reported.
     Found,
     /// The run ended by a panic, by a fatal error or asleep.
     Crashed,
     /// The run has not ended after its turns or its choices.
     Spent,
-    /// The file is too long, or is no accepted file.
+    /// The file is too long, or is refused.
     Refused,
-    /// The words are no line of the grammar of words.
+    /// The words are no command line.
     Usage,
     /// The source failed.
     ReadFault,
@@ -48,7 +50,7 @@ pub enum Status {
     Memory,
 }
 
-/// The number with which the program exits (profile).
+/// Returns the number with which the program exits (profile).
 pub fn code(status: Status) -> u8
     ensures { result ≡ code_of status }
 {

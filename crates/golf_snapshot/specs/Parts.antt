@@ -1,4 +1,4 @@
--- The graph of a state: a node for each object that is there, by its rank; a sleeper for each blocked goroutine but
+-- The graph of a state: a node for each object, by its rank, and a sleeper for each blocked goroutine except for
 -- goroutine 0.
 use Rattle.std.specs.Prelude.{ℕ, Bool, not, ◌||◌, List, [], ◌∷◌, ◌++◌, map, filter, ◌==◌}
 use Rattle.golf_base.specs.declared.ids.ObjectId.{ObjectId}
@@ -17,11 +17,11 @@ use Rattle.golf_model.specs.Sleepers.{Sleeper}
 abbrev pub ranks : List (ℕ × Object) → List ℕ → List ℕ
 ranks objects os = map (λ o. rank o objects) os
 
--- who is live at once: what runs, and goroutine 0
+-- whether a goroutine is live at once: it runs, or it is goroutine 0
 abbrev pub is_awake : ℕ → GoroutineView → Bool
 is_awake g r = is_running r.mode || (g == 0)
 
--- the references of those goroutines
+-- the references of the goroutines that are live at once
 abbrev pub awake_refs : List (ℕ × GoroutineView) → List ℕ
 awake_refs [] = []
 awake_refs (e ∷ es) = refs_if (is_awake e.0 e.1) (goroutine_refs e.1) ++ awake_refs es
@@ -31,7 +31,7 @@ abbrev pub live_roots : State → List ℕ
 live_roots s = refs s.globals ++ (queue_refs s.queue
     ++ (awake_refs s.goroutines ++ refs_where (has_finaliser s) s.objects))
 
--- the goroutines that a live object awakens, in rising order
+-- the goroutines that are live only if an object that they wait on is, in rising order
 abbrev pub sleeping : State → List (ℕ × GoroutineView)
 sleeping s = filter (λ e. not (is_awake e.0 e.1)) s.goroutines
 
@@ -63,6 +63,6 @@ parts_of s roots sleepers = record {
 abbrev pub live_parts : State → GraphParts
 live_parts s = parts_of s (live_roots s) (map (sleeper_of s.objects) (sleeping s))
 
--- the graph in which the least closed set is what is reached without these goroutines
+-- the graph whose least closed set is the set of objects that are reached without these goroutines
 abbrev pub retained_parts : State → List ℕ → GraphParts
 retained_parts s gone = parts_of s (sources s gone) []

@@ -1,4 +1,4 @@
--- What the places of a state's graph stand for.
+-- The relation between the places of a state's graph and the live set of the state.
 use Rattle.std.specs.Prelude.{◌≡◌, ℕ, ◌+◌, List, length, Some, slice_get, ◌↔◌}
 use Rattle.golf_data.specs.declared.value.Object.{Object}
 use Rattle.golf_model.specs.Views.{GoroutineView}
@@ -19,16 +19,17 @@ IsObject s k o = (x : Object) × (slice_get s.objects k ≡ Some (o, x))
 abbrev pub IsSleeper : State → ℕ → ℕ → Type 0
 IsSleeper s j g = (r : GoroutineView) × (slice_get (sleeping s) j ≡ Some (g, r))
 
--- a node is in the graph's least closed set if its object is live, and a sleeper if its goroutine is
+-- a node is in the graph's least closed set exactly when its object is live, and a sleeper exactly when its goroutine
+-- is
 pub record LivesAlike (g : GraphParts) (s : State) : Type 0 where
   pub objects : (k o : ℕ) → IsObject s k o → Least g k ↔ Live s (Node.AnObject o)
   pub goroutines : (j h : ℕ) → IsSleeper s j h → Least g (length s.objects + j) ↔ Live s (Node.AGoroutine h)
 
--- in every state in which references are to objects that are there
+-- this holds in every state whose references are all to objects that are there
 abbrev pub LiveGraph : Type 0
 LiveGraph = (s : State) → Numbered s → IsWhole s → LivesAlike (live_parts s) s
 
--- a node is in the graph's least closed set if its object is reached without these goroutines
+-- a node is in the graph's least closed set exactly when its object is reached without these goroutines
 abbrev pub ReachesAlike : GraphParts → State → List ℕ → Type 0
 ReachesAlike g s gone = (k o : ℕ) → IsObject s k o → Least g k ↔ Reach s (sources s gone) o
 

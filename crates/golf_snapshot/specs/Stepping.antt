@@ -1,4 +1,4 @@
--- The entries of a map, one number after another.
+-- The entries of a map, one after another.
 use Rattle.std.specs.Prelude.{ℕ, Bool, false, not, List, [], ◌∷◌, ◌++◌, map, filter, Option, Some, None}
 use Rattle.golf_data.specs.declared.value.Object.{Object}
 use Rattle.golf_model.specs.Views.{GoroutineView}
@@ -25,7 +25,7 @@ abbrev pub sleeps_at : ℕ → Option GoroutineView → Bool
 sleeps_at g None = false
 sleeps_at g (Some r) = not (is_awake g r)
 
--- what the nodes with a finaliser refer to, by flags and rows
+-- the nodes that nodes with a finaliser refer to, by flags and rows
 abbrev pub finalised_rows : List Bool → List (List ℕ) → List ℕ
 finalised_rows [] rows = []
 finalised_rows (b ∷ bs) [] = []

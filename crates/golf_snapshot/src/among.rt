@@ -1,4 +1,6 @@
-//! Whether a goroutine is one of some.
+//! Membership of a goroutine in a list of rising numbers, by binary search.
+//!
+//! The ledger of reports and the retained graph use it.
 
 ghost use Rattle.std.specs.Prelude.{◌≡◌, not, map, IfOk};
 ghost use Rattle.std.specs.List.Sorted.{IsNonDecreasingBy};
@@ -7,7 +9,7 @@ ghost use Rattle.golf_theory.specs.Membership.{is_in};
 use golf_base::{GoroutineId, List, Memory};
 use std::alloc::Global;
 
-/// Whether a goroutine is one of these, whose numbers rise.
+/// Returns whether the goroutine is in this list, whose numbers rise.
 pub fn is_among(g: GoroutineId, goroutines: &[GoroutineId]) -> bool
     requires { IsNonDecreasingBy (λ h. h.0) goroutines.now }
     ensures { result ≡ is_in g.0 (map (λ h. h.0) goroutines.now) }
@@ -15,7 +17,7 @@ pub fn is_among(g: GoroutineId, goroutines: &[GoroutineId]) -> bool
     goroutines.binary_search(&g).is_ok()
 }
 
-/// For each of these goroutines whether it is none of the others, whose numbers rise.
+/// Returns for each of these goroutines whether it is absent from the others, whose numbers rise.
 pub fn outside(
     alloc: Global,
     goroutines: &[GoroutineId],

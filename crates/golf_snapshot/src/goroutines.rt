@@ -1,4 +1,7 @@
-//! The goroutines: those that are live at once, and the sleepers.
+//! The goroutines of a state: those that are live at once, and the sleepers.
+//!
+//! A sleeper is a blocked goroutine other than goroutine 0. All other goroutines are live at once, and
+//! their references are roots.
 
 ghost use Rattle.std.specs.Prelude.{◌≡◌, ◌++◌, ◌∷◌, [], IfOk, OnOk, map};
 ghost use Rattle.golf_theory.specs.Maps.{find};
@@ -25,8 +28,8 @@ pub(crate) fn add_queue(heap: &Heap, nodes: &mut List<u32>, queue: &[Queued]) ->
     Ok(())
 }
 
-/// Adds the nodes of the goroutines that are live at once, and gathers the others, which are the
-/// sleepers, in rising number.
+/// Adds the nodes of the goroutines that are live at once. Returns all other goroutines as sleepers, in
+/// rising order of number.
 pub(crate) fn add_awake(
     alloc: Global,
     state: &State,
@@ -43,7 +46,7 @@ pub(crate) fn add_awake(
     Ok(sleepers)
 }
 
-// Adds the nodes of the goroutine of this number if it is live at once, and else adds it to the sleepers.
+// Adds the nodes of the goroutine of this number if it is live at once. Else adds it to the sleepers.
 fn add_one(
     alloc: Global,
     state: &State,
@@ -68,7 +71,7 @@ fn add_one(
     }
 }
 
-// Whether a goroutine is live at once: it runs, or is goroutine 0.
+// Whether a goroutine is live at once: it runs, or it is goroutine 0.
 fn is_awake(g: GoroutineId, goroutine: &Goroutine) -> bool
     ensures { result ≡ is_awake g.0 (goroutine_view goroutine.now) }
 {

@@ -1,4 +1,7 @@
 //! The live graph of a state.
+//!
+//! A node is an object. A root is a node that a running goroutine, goroutine 0, a global, a queued
+//! finaliser or an object with a finaliser refers to.
 
 ghost use Rattle.std.specs.Prelude.{◌≡◌, ◌+◌, ◌<◌, ◌^◌, [], IfOk, length, map};
 ghost use Rattle.golf_model.specs.Presence.{IsWhole};
@@ -14,10 +17,10 @@ use golf_model::{Graph, GraphParts, Sleepers};
 use golf_state::State;
 use std::alloc::Global;
 
-/// The graph whose least closed set is the live set: a node for each object that is there, by its
-/// rank, and a sleeper for each blocked goroutine but goroutine 0, in rising number.
+/// Returns the graph whose least closed set is the live set. It has a node for each object, by its rank. It
+/// has a sleeper for each blocked goroutine except for goroutine 0, in rising order of number.
 ///
-/// `Memory` also comes if nodes and sleepers together are too many for a `u32`.
+/// The error is `Memory`, also if nodes and sleepers together are too many for a `u32`.
 pub fn live_graph(alloc: Global, state: &State) -> Result<Graph, Memory>
     requires { IsWhole state.now }
     ensures graph { IfOk result (λ graph. graph ≡ live_parts state.now) }
@@ -29,7 +32,7 @@ pub fn live_graph(alloc: Global, state: &State) -> Result<Graph, Memory>
     Ok(Graph::new(parts))
 }
 
-// The nodes of the objects that are live at once, and the sleepers.
+// The roots, and the sleepers.
 fn live_places(alloc: Global, state: &State) -> Result<(List<u32>, Sleepers), Memory>
     ensures roots { IfOk result (λ places. places.0 ≡ ranks state.now.objects (live_roots state.now)) }
     ensures sleepers { IfOk result (λ places. places.1 ≡ map (sleeper_of state.now.objects) (sleeping state.now)) }

@@ -1,13 +1,15 @@
-//! What the least closed set of a state's graph is.
+//! Laws on the least closed sets of a state's graphs.
+//!
+//! They relate the graphs to `Live` and `Reach` of the definitions.
 
 ghost use Rattle.golf_snapshot.specs.Stands.{LiveGraph, RetainedGraph};
 
-/// The least closed set of the live graph is the live set.
+/// States that the least closed set of the live graph is the live set.
 pub fn live_graph_law()
     ensures { LiveGraph }
 {}
 
-/// The least closed set of the retained graph is what the sources reach.
+/// States that the least closed set of the retained graph is the set of objects that the sources reach.
 pub fn retained_graph_law()
     ensures { RetainedGraph }
 {}

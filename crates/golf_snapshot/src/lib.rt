@@ -1,4 +1,8 @@
 //! The dense graph of a state, which a collection marks.
+//!
+//! - `live_graph`: its least closed set is the live set.
+//! - `retained_graph`: its least closed set is the set of objects that stay reachable without some
+//!   goroutines.
 #![tactic(auto)]
 
 mod among;

@@ -1,4 +1,6 @@
 //! The nodes: one for each object that is there, by its rank.
+//!
+//! The row of a node has the nodes that its object refers to, one for each reference.
 
 ghost use Rattle.std.specs.Prelude.{◌≡◌, ◌++◌, ◌<◌, IfOk, OnOk, map};
 ghost use Rattle.golf_theory.specs.Maps.{find};
@@ -14,7 +16,7 @@ use golf_rows::FlatRows;
 use golf_state::State;
 use std::alloc::Global;
 
-/// The numbers of the objects, in rising order.
+/// Returns the numbers of the objects, in rising order.
 pub(crate) fn numbers(alloc: Global, heap: &Heap) -> Result<List<ObjectId>, Memory>
     ensures { IfOk result (λ numbers. numbers ≡ map number_of heap.now.objects) }
 {
@@ -25,7 +27,7 @@ pub(crate) fn numbers(alloc: Global, heap: &Heap) -> Result<List<ObjectId>, Memo
     Ok(numbers)
 }
 
-/// For each node the nodes that it refers to.
+/// Returns for each node the nodes that it refers to.
 pub(crate) fn children(alloc: Global, heap: &Heap) -> Result<FlatRows, Memory>
     ensures { IfOk result (λ rows. rows ≡ map (row_of heap.now.objects) heap.now.objects) }
 {
@@ -38,7 +40,7 @@ pub(crate) fn children(alloc: Global, heap: &Heap) -> Result<FlatRows, Memory>
     Ok(rows)
 }
 
-// Fills a row with the nodes that the object of this number refers to, in place of what it had.
+// Fills a row with the nodes that the object of this number refers to, instead of its old contents.
 fn fill_row(heap: &Heap, row: &mut List<u32>, id: ObjectId) -> Result<(), Memory>
     ensures { OnOk result (row.new ≡ ranks heap.now.objects (refs_at (find id.0 heap.now.objects))) }
 {
@@ -46,7 +48,7 @@ fn fill_row(heap: &Heap, row: &mut List<u32>, id: ObjectId) -> Result<(), Memory
     add_object_at(heap, row, id)
 }
 
-/// For each node whether its object has a finaliser.
+/// Returns for each node whether its object has a finaliser.
 pub(crate) fn finalised(alloc: Global, state: &State) -> Result<List<bool>, Memory>
     ensures { IfOk result (λ flags. flags ≡ map (λ e. has_finaliser state.now e.0) state.now.objects) }
 {

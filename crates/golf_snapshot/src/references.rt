@@ -1,4 +1,7 @@
-//! References, as the nodes of the objects that they name.
+//! The references of values, frames and goroutines, as nodes.
+//!
+//! The order is that of the definitions: the innermost frame first, and in it the top operand and the
+//! latest deferred call.
 
 ghost use Rattle.std.specs.Prelude.{◌≡◌, ◌++◌, OnOk, reverse};
 ghost use Rattle.golf_model.specs.Values.{value_refs, refs};
@@ -70,7 +73,7 @@ fn add_deferred_back(
     Ok(())
 }
 
-// Adds the node of the value of a returning frame.
+// Adds the node of the value that a returning frame returns.
 fn add_leaving(heap: &Heap, nodes: &mut List<u32>, leaving: Leaving) -> Result<(), Memory>
     ensures { OnOk result (nodes.new ≡ nodes.old ++ ranks heap.now.objects (leaving_refs leaving)) }
 {
@@ -80,7 +83,7 @@ fn add_leaving(heap: &Heap, nodes: &mut List<u32>, leaving: Leaving) -> Result<(
     }
 }
 
-// Adds the nodes of a frame: of all its slots, operands and deferred calls, and of what it returns.
+// Adds the nodes of a frame: of its slots, its operands, its deferred calls and its returned value.
 fn add_frame(heap: &Heap, nodes: &mut List<u32>, frame: &Frame) -> Result<(), Memory>
     ensures { OnOk result (nodes.new ≡ nodes.old ++ ranks heap.now.objects (frame_refs (frame_view frame.now))) }
 {
@@ -100,7 +103,7 @@ fn add_frames(heap: &Heap, nodes: &mut List<u32>, frames: &[Frame]) -> Result<()
     Ok(())
 }
 
-// Adds the nodes of what is waited on and of what is waited to be sent.
+// Adds for each wait the node of its object, and the node of the value that it sends.
 fn add_waits(heap: &Heap, nodes: &mut List<u32>, waits: &[Wait]) -> Result<(), Memory>
     ensures { OnOk result (nodes.new ≡ nodes.old ++ ranks heap.now.objects (wait_refs waits.now)) }
 {
@@ -111,7 +114,7 @@ fn add_waits(heap: &Heap, nodes: &mut List<u32>, waits: &[Wait]) -> Result<(), M
     Ok(())
 }
 
-/// Adds the nodes that are waited on.
+/// Adds for each wait the node of its object.
 pub(crate) fn add_waited(heap: &Heap, nodes: &mut List<u32>, waits: &[Wait]) -> Result<(), Memory>
     ensures { OnOk result (nodes.new ≡ nodes.old ++ ranks heap.now.objects (waited waits.now)) }
 {
@@ -121,7 +124,7 @@ pub(crate) fn add_waited(heap: &Heap, nodes: &mut List<u32>, waits: &[Wait]) -> 
     Ok(())
 }
 
-/// What a goroutine waits on, in source order of the cases; nothing if it runs.
+/// Returns the waits of a goroutine, in source order of the cases. A running goroutine has none.
 pub(crate) fn waits_of(mode: &Mode) -> &[Wait]
     ensures { result.now ≡ waits_of mode.now }
 {

@@ -1,4 +1,7 @@
-//! What is reached without some goroutines: the live graph with other roots.
+//! The retained graph: the live graph with other roots, for a state without some goroutines.
+//!
+//! Its roots are the nodes that globals, queued finalisers, the goroutines that stay, and objects with a
+//! finaliser refer to.
 
 ghost use Rattle.std.specs.Prelude.{◌≡◌, ◌++◌, ◌<◌, ◌^◌, ◌↔◌, IfOk, IsTrue, OnOk, Some, map, not};
 ghost use Rattle.std.specs.List.Sorted.{IsNonDecreasingBy};
@@ -21,8 +24,9 @@ use golf_model::Graph;
 use golf_state::State;
 use std::alloc::Global;
 
-/// The graph whose least closed set is what is reached without these goroutines, whose numbers rise: the live
-/// graph with other roots, and without its sleepers. Each goroutine is looked up in the list by a binary search.
+/// Returns the graph whose least closed set is the set of objects that are reached without the goroutines
+/// in `gone`, whose numbers rise. It is the live graph with other roots and without sleepers. Each
+/// goroutine costs one binary search.
 pub fn retained_graph(
     alloc: Global,
     state: &State,
@@ -40,7 +44,7 @@ pub fn retained_graph(
     Ok(live.without_sleepers(alloc, roots))
 }
 
-// The nodes of the objects that a collection goes from once these goroutines are removed.
+// The roots of a collection after these goroutines are removed.
 fn source_nodes(
     alloc: Global,
     state: &State,
@@ -62,8 +66,8 @@ fn source_nodes(
 
 // ---- the goroutines that stay
 
-// Adds the nodes of the goroutines that are none of these, whose numbers rise. The live graph has
-// those of a sleeper.
+// Adds the nodes of the goroutines that are not in `gone`. The live graph already has the nodes of each
+// sleeper.
 fn add_others(
     alloc: Global,
     state: &State,
@@ -89,7 +93,7 @@ fn add_others(
     Ok(())
 }
 
-// Whether a sleeper, the next one, is this goroutine.
+// Whether the next sleeper is this goroutine.
 fn is_next(live: &Graph, sleeper: u32, g: GoroutineId) -> bool
     ensures next { IsTrue result ↔ (goroutine_at live.now sleeper ≡ Some g) }
     ensures few { sleeper_count live.now < 2 ^ 32 }
@@ -100,7 +104,7 @@ fn is_next(live: &Graph, sleeper: u32, g: GoroutineId) -> bool
     live.goroutine_of(sleeper).0 == g.0
 }
 
-// Adds the nodes of a sleeper, if it is none of these.
+// Adds the nodes of a sleeper, if it is not in `gone`.
 fn add_sleeper_unless_gone(
     live: &Graph,
     sleeper: u32,
@@ -118,7 +122,7 @@ fn add_sleeper_unless_gone(
     Ok(())
 }
 
-// Adds the nodes of the goroutine of this number, if it is none of these.
+// Adds the nodes of the goroutine of this number, if it is not in `gone`.
 fn add_unless_gone(
     state: &State,
     nodes: &mut List<u32>,
@@ -142,7 +146,7 @@ fn add_unless_gone(
 
 // ---- the objects with a finaliser
 
-// Adds the nodes that those with a finaliser refer to.
+// Adds the nodes that objects with a finaliser refer to.
 fn add_finalised_rows(graph: &Graph, nodes: &mut List<u32>) -> Result<(), Memory>
     ensures { OnOk result (nodes.new ≡ nodes.old ++ finalised_rows graph.now.finalised graph.now.children) }
 {

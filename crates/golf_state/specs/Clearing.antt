@@ -1,4 +1,4 @@
--- The goroutine once its innermost frame is cleared.
+-- The goroutine after its innermost frame was cleared.
 use Rattle.golf_data.specs.declared.code.Code.{Code}
 use Rattle.golf_data.specs.declared.goroutine.Mode.{Mode}
 use Rattle.golf_model.specs.Views.{GoroutineView}

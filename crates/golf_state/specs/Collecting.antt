@@ -1,4 +1,4 @@
--- What a collection takes out of a state, by flags.
+-- What a collection removes from a state, by flags.
 use Rattle.std.specs.Prelude.{Bool, List, ◌++◌}
 use Rattle.golf_heap.specs.Objects.{kept, left_out}
 use Rattle.golf_model.specs.State.{State}

@@ -1,4 +1,4 @@
--- The goroutine whose turn it is, looked up.
+-- The changes of the goroutine whose turn it is, with the goroutine looked up by its number.
 use Rattle.std.specs.Prelude.{◌≡◌, ℕ, ◌+◌, List, [], ◌∷◌, Option, Some, None}
 use Rattle.golf_theory.specs.Maps.{find}
 use Rattle.golf_data.specs.declared.goroutine.Mode.{Mode}
@@ -8,7 +8,7 @@ use Rattle.golf_model.specs.Changes.{Change, apply_all}
 use Rattle.golf_model.specs.Acting.{Actor}
 use Rattle.golf_model.specs.Turn.{acting}
 
--- the changes of a goroutine with these frames, at an instruction of this line; without a frame none
+-- the changes of a goroutine with these frames, at an instruction of this line; no change without a frame
 abbrev pub does_in : (Actor → List Change) → ℕ → ℕ → GoroutineView → List FrameView → List Change
 does_in act g line r [] = []
 does_in act g line r (f ∷ callers) = act (acting g r f callers line)
@@ -17,7 +17,7 @@ abbrev pub does_by : (Actor → List Change) → ℕ → ℕ → Option Goroutin
 does_by act g line None = []
 does_by act g line (Some r) = does_in act g line r r.frames
 
--- the state after what the goroutine of this number does, at an instruction of this line
+-- the state after the changes of the goroutine of this number, at an instruction of this line
 abbrev pub does : (Actor → List Change) → ℕ → ℕ → State → State
 does act g line s = apply_all (does_by act g line (find g s.goroutines)) s
 

@@ -1,4 +1,4 @@
--- The state in memory, and what it caches.
+-- The state in memory, and its invariant.
 use Rattle.std.specs.Prelude.{◌≡◌, ◌<◌, ◌≤◌, ◌^◌, ℕ, true, List, length, is_some}
 use Rattle.golf_theory.specs.Maps.{find, Rises, AllBelow}
 use Rattle.golf_model.specs.State.{State}
@@ -8,7 +8,7 @@ use Rattle.golf_state.specs.Enqueued.{AreEnqueued}
 use Rattle.golf_state_goroutines.specs.declared.places.NumberedGoroutine.{NumberedGoroutine}
 use Rattle.golf_state.specs.declared.state.State.TheInside.{Inside}
 
--- operands are told by their items alone
+-- contracts see only the items of operands
 abbrev pub plain_state : Inside → State
 plain_state s = record {
   globals = s.globals;
@@ -23,8 +23,8 @@ plain_state s = record {
   recorded = s.recorded;
 }
 
--- the goroutines stand in rising order of number, below the next one, which is one of 32 bits, and goroutine 0 is
--- there; the list of those that run is theirs; and each blocked one is ready to be woken
+-- The goroutines are in rising order of number, below the next number, which is below 2^32. Goroutine 0 is there. The
+-- list of running goroutines is theirs, and each blocked one is ready to be woken.
 pub record AreKept (gs : List NumberedGoroutine) (active : List ℕ) (next : ℕ) : Type 0 where
   pub rises : Rises 0 (plain_entries gs)
   pub below : AllBelow next (plain_entries gs)

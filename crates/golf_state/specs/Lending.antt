@@ -1,4 +1,4 @@
--- What stands once a part that was lent was changed.
+-- The state after a part that it lent was changed.
 use Rattle.std.specs.Prelude.{ℕ, List}
 use Rattle.std.specs.Borrow.{Lends, MutBor, Fml}
 use Rattle.golf_base.specs.contracts.list.List.{the_row as list_row}
@@ -12,10 +12,10 @@ use Rattle.golf_model.specs.Changes.{replace}
 use Rattle.golf_state.specs.contracts.state.State.{the_row as state_row}
 use Rattle.golf_state.specs.Looked.{reframed}
 
--- the goroutine ends with the last frames after the loan
+-- at the end of the loan the goroutine has the last frames
 abbrev pub LendsFrames : MutBor State → ℕ → MutBor (List Frame) → Fml
 LendsFrames s g r = Lends state_row (list_row frame_row) s r (λ w. reframed g (frame_views w) s.now)
 
--- the object ends as the last value after the loan
+-- at the end of the loan the object has its last value
 abbrev pub LendsObject : MutBor State → ℕ → MutBor Object → Fml
 LendsObject s o r = Lends state_row object_row s r (λ x. replace o x s.now)

@@ -1,4 +1,4 @@
--- The changes of the definitions, with the goroutine looked up.
+-- The changes of the definitions, with the goroutine looked up by its number.
 use Rattle.std.specs.Prelude.{ℕ, Bool, false, not, List, [], ◌∷◌, Option, Some, None}
 use Rattle.golf_theory.specs.Maps.{find}
 use Rattle.golf_data.specs.declared.value.Value.{Value}
@@ -10,7 +10,7 @@ use Rattle.golf_model.specs.Changes.{become}
 use Rattle.golf_state.specs.declared.frames.Given.{Given}
 use Rattle.golf_state.specs.Going.{went}
 
--- a change of a goroutine that is there; else none
+-- the change, if the goroutine is there; else no change
 abbrev pub on_goroutine : (GoroutineView → State → State) → Option GoroutineView → State → State
 on_goroutine act None s = s
 on_goroutine act (Some r) s = act r s
@@ -38,7 +38,7 @@ abbrev pub frames_in : Option GoroutineView → List FrameView
 frames_in None = []
 frames_in (Some r) = r.frames
 
--- the goroutine's frames, the innermost one first; none if it is not there
+-- the goroutine's frames, the innermost one first; empty if it is not there
 abbrev pub frames_of : ℕ → State → List FrameView
 frames_of g s = frames_in (find g s.goroutines)
 
@@ -46,7 +46,7 @@ frames_of g s = frames_in (find g s.goroutines)
 abbrev pub reframed : ℕ → List FrameView → State → State
 reframed g fs s = looked_up g (λ r. become g (record r { frames = fs })) s
 
--- the goroutine's innermost frame goes on at a place, without so many of its operands
+-- the goroutine's innermost frame goes on at `after`, without its top `taken` operands
 abbrev pub advanced : ℕ → ℕ → GoroutineView → GoroutineView
 advanced after taken r = record r { frames = on_top (went after taken []) r.frames }
 
@@ -56,7 +56,7 @@ values_of Given.Nothing = []
 values_of (Given.One v) = v ∷ []
 values_of (Given.Two v b) = Value.Bool b ∷ v ∷ []
 
--- the state with these globals, without an object, in which goroutine 1 runs with these frames and goroutine 0 has none
+-- the state at the start: these globals, no object, goroutine 1 with these frames, and goroutine 0 without a frame
 abbrev pub opening : List Value → List FrameView → ℕ → State
 opening globals frames line = record {
   globals = globals;

@@ -10,7 +10,7 @@ abbrev pub top_operands : List FrameView → List Value
 top_operands [] = []
 top_operands (f ∷ fs) = f.operands
 
--- none if there is no frame
+-- the operands of the goroutine's innermost frame; empty if there is no frame
 abbrev pub operands_of : ℕ → State → List Value
 operands_of g s = top_operands (frames_of g s)
 

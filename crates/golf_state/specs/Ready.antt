@@ -3,7 +3,7 @@ use Rattle.std.specs.Prelude.{List, [], ◌∷◌}
 use Rattle.golf_state_goroutines.specs.declared.places.NumberedGoroutine.{NumberedGoroutine}
 use Rattle.golf_state.specs.Roominess.{IsReadyIn}
 
--- if it is blocked, its innermost frame has room
+-- if the goroutine is blocked, its innermost frame has room
 abbrev pub IsReady : NumberedGoroutine → Type 0
 IsReady p = IsReadyIn p.goroutine.mode p.goroutine.frames
 

@@ -1,4 +1,4 @@
--- What a blocked goroutine keeps ready, so that it is woken without memory.
+-- The room that a blocked goroutine keeps, so that no wake takes memory.
 use Rattle.std.specs.Prelude.{◌-◌, ◌≤◌, List, length, Option, Some, None, slice_get}
 use Rattle.golf_data.specs.declared.goroutine.Frame.{Frame}
 use Rattle.golf_data.specs.declared.goroutine.Mode.{Mode}
@@ -7,11 +7,11 @@ abbrev pub HasRoomIn : Option Frame → Type 0
 HasRoomIn None = Unit {0}
 HasRoomIn (Some f) = 2 ≤ f.operands.spare
 
--- the innermost frame, if there is one, has room for two operands more
+-- the innermost frame, if there is one, has room for two more operands
 abbrev pub HasRoom : List Frame → Type 0
 HasRoom fs = HasRoomIn (slice_get fs (length fs - 1))
 
--- the same of a goroutine that is blocked
+-- if the goroutine is blocked, its innermost frame has room for two more operands
 abbrev pub IsReadyIn : Mode → List Frame → Type 0
 IsReadyIn Mode.Running fs = Unit {0}
 IsReadyIn (Mode.Blocked kind line waits ticket) fs = HasRoom fs

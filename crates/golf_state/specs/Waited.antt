@@ -1,7 +1,7 @@
--- A waiter as the state tells of it.
+-- A waiter as the state reports it.
 use Rattle.golf_model.specs.Waiting.{Waiter, waiter_ticket}
 use Rattle.golf_state.specs.declared.waiters.Waiting.{Waiting}
 
--- by its number, its wait and its ticket alone
+-- its number, its wait and its ticket
 abbrev pub waiting_of : Waiter → Waiting
 waiting_of w = record { goroutine = record { 0 = w.number }; wait = w.wait; ticket = waiter_ticket w }

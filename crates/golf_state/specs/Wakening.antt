@@ -1,4 +1,4 @@
--- How a blocked goroutine goes on, by what the state is told.
+-- How a blocked goroutine goes on, in terms of the definitions.
 use Rattle.golf_model.specs.Views.{GoroutineView}
 use Rattle.golf_model.specs.Waking.{released, resumed, unwound}
 use Rattle.golf_state.specs.declared.frames.Wakening.{Wakening}

@@ -1,4 +1,4 @@
--- Who is woken, by what the state is told.
+-- How each waiter goes on when all waiters of an object are woken, in terms of the definitions.
 use Rattle.std.specs.Prelude.{ℕ, Bool, false, cond, Option, Some, None}
 use Rattle.golf_data.specs.declared.value.Value.{Value}
 use Rattle.golf_data.specs.declared.goroutine.Mode.{Mode}
@@ -38,7 +38,7 @@ abbrev pub wakening_on : Value → ℕ → Option Wait → Option Wakening
 wakening_on zero line None = None
 wakening_on zero line (Some w) = wakening_by_close zero w line w.side
 
--- how a goroutine in this mode goes on, if all who wait on the object are woken
+-- how a goroutine in this mode goes on when all waiters of the object are woken
 abbrev pub wakening_of : Mode → ℕ → Waking → Option Wakening
 wakening_of Mode.Running o how = None
 wakening_of (Mode.Blocked kind line waits ticket) o (Waking.Closing zero) = wakening_on zero line (wait_on o waits)

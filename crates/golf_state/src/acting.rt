@@ -1,8 +1,10 @@
 //! The goroutine whose turn it is.
+//!
+//! A panic and a wait name the line of its instruction. The goroutine goes on at the place after it.
 
 use golf_base::GoroutineId;
 
-/// A goroutine in its turn, at an instruction.
+/// The goroutine whose turn it is, at an instruction.
 #[derive(Clone, Copy, Debug, PartialEq, Eq)]
 pub struct Acting {
     pub goroutine: GoroutineId,

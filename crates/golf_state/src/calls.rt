@@ -1,4 +1,7 @@
-//! Frames that are entered and left.
+//! Frames that are entered and left. On `Err` the frames are unchanged.
+//!
+//! A call pushes a frame. A return removes one and gives its value to the caller, and an unwinding passes
+//! the fault on.
 
 ghost use Rattle.std.specs.Prelude.{◌≡◌, ◌∷◌, [], OnOk, OnErr};
 ghost use Rattle.golf_model.specs.Views.{frame_view, frame_views};
@@ -10,7 +13,7 @@ use crate::frames::{advance_frame, unwind};
 use golf_base::{List, Memory};
 use golf_data::{Fault, Frame, Value};
 
-/// A frame is entered by a call: the caller goes on at a place, without so many of its operands.
+/// Enters a frame by a call: the caller goes on at `after`, without its last `taken` operands.
 pub fn enter(frames: &mut List<Frame>, frame: Frame, after: u32, taken: usize) -> Result<(), Memory>
     ensures ok { OnOk result (frame_views frames.new ≡ frame_view frame ∷ on_top (went after taken []) (frame_views frames.old)) }
     ensures err { OnErr result (frame_views frames.new ≡ frame_views frames.old) }
@@ -23,14 +26,14 @@ pub fn enter(frames: &mut List<Frame>, frame: Frame, after: u32, taken: usize) -
     Ok(())
 }
 
-// The latest deferred call is gone.
+// Removes the latest deferred call.
 fn take_deferred(frame: &mut Frame)
     ensures { frame_view frame.new ≡ undeferred (frame_view frame.old) }
 {
     frame.deferred.pop();
 }
 
-/// A frame is entered by the latest deferred call of the innermost one, which is taken off its list.
+/// Enters a frame by the latest deferred call of the innermost frame, and removes that call from its list.
 pub fn enter_deferred(frames: &mut List<Frame>, frame: Frame) -> Result<(), Memory>
     ensures ok { OnOk result (frame_views frames.new ≡ frame_view frame ∷ on_top undeferred (frame_views frames.old)) }
     ensures err { OnErr result (frame_views frames.new ≡ frame_views frames.old) }
@@ -51,7 +54,7 @@ fn add_operand(frame: &mut Frame, value: Value) -> Result<(), Memory>
     frame.operands.push(value)
 }
 
-// The value of the innermost frame goes to its caller, unless it goes nowhere.
+// Gives the value of the innermost frame to its caller, unless the frame discards it.
 fn hand_back(frames: &mut List<Frame>, value: Value) -> Result<(), Memory>
     ensures ok { OnOk result (frame_views frames.new ≡ handed value (frame_views frames.old)) }
     ensures err { OnErr result (frame_views frames.new ≡ frame_views frames.old) }
@@ -63,7 +66,7 @@ fn hand_back(frames: &mut List<Frame>, value: Value) -> Result<(), Memory>
     add_operand(frames.item_mut(count - 2), value)
 }
 
-/// The innermost frame is gone by returning: its value goes to its caller.
+/// Leaves the innermost frame by a return, and gives its value to the caller, unless the frame discards it.
 pub fn return_frame(frames: &mut List<Frame>, value: Option<Value>) -> Result<(), Memory>
     ensures ok { OnOk result (frame_views frames.new ≡ returned value (frame_views frames.old)) }
     ensures err { OnErr result (frame_views frames.new ≡ frame_views frames.old) }
@@ -75,7 +78,7 @@ pub fn return_frame(frames: &mut List<Frame>, value: Option<Value>) -> Result<()
     Ok(())
 }
 
-/// The innermost frame is gone by unwinding: its caller unwinds.
+/// Leaves the innermost frame by unwinding, so its caller unwinds.
 pub fn unwind_caller(frames: &mut List<Frame>, fault: Fault)
     ensures { frame_views frames.new ≡ on_top (unwinding fault) (behind_first (frame_views frames.old)) }
 {

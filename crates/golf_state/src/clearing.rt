@@ -1,4 +1,7 @@
-//! Slots that no instruction can read any more, after a turn.
+//! Clears the slots that no instruction can read any more, after a turn.
+//!
+//! The code has a mask for each position of a function: the slots that an instruction from there on can
+//! read.
 
 ghost use Rattle.std.specs.Prelude.{◌≡◌, Some};
 ghost use Rattle.golf_model.specs.Views.{frame_view, frame_views, goroutine_view};
@@ -12,7 +15,7 @@ use golf_base::List;
 use golf_data::{Code, Frame, Goroutine, Leaving};
 use golf_state_goroutines::is_running;
 
-// The mask of a position of a function.
+// The mask of a position in a function.
 #[inline(always)]
 fn mask_at(code: &Code, function: u32, at: u32) -> Option<u64>
     ensures { result ≡ mask_at code.now function at }
@@ -21,8 +24,8 @@ fn mask_at(code: &Code, function: u32, at: u32) -> Option<u64>
     function.live.as_slice().get(at as usize).copied()
 }
 
-// The slots of a frame that is not leaving which no instruction from its next one on can read hold
-// 0; in a frame that is leaving all do.
+// Sets to 0 the slots that no instruction from the frame's next one on can read. If the frame is leaving,
+// sets all of them to 0.
 #[inline(always)]
 fn clear_frame(code: &Code, frame: &mut Frame)
     ensures { frame_view frame.new ≡ cleared code.now (frame_view frame.old) }
@@ -38,7 +41,7 @@ fn clear_frame(code: &Code, frame: &mut Frame)
     }
 }
 
-// The innermost frame is cleared, if there is one.
+// Clears the innermost frame, if there is one.
 #[inline(always)]
 fn clear_top(code: &Code, frames: &mut List<Frame>)
     ensures { frame_views frames.new ≡ on_top (cleared code.now) (frame_views frames.old) }
@@ -48,7 +51,7 @@ fn clear_top(code: &Code, frames: &mut List<Frame>)
     }
 }
 
-/// The innermost frame of a goroutine is cleared, if the goroutine runs.
+/// Clears the innermost frame of a goroutine, if the goroutine runs.
 #[inline(always)]
 pub fn clear_goroutine(code: &Code, goroutine: &mut Goroutine)
     ensures cleared { goroutine_view goroutine.new ≡ tidied code.now (goroutine_view goroutine.old) }

@@ -1,6 +1,6 @@
-//! When two states are the same. Their output is not compared.
+//! Whether two states are the same. Their output is not compared.
 //!
-//! Goroutines and finalisers are listed for it, in memory that is given back at the end.
+//! The comparison makes lists of goroutines and finalisers, and gives that memory back at the end.
 
 ghost use Rattle.std.specs.Prelude.{◌≡◌, ◌↔◌, [], map, option_map, IsTrue, IfOk};
 ghost use Rattle.golf_theory.specs.Maps.{find, keys, IsRising};
@@ -94,7 +94,7 @@ fn is_same_ending(ending: Option<Ending>, other: Option<Ending>) -> bool
     ending == other
 }
 
-// Whether both are the same except for goroutines, finalisers and output.
+// Whether both are the same, except for goroutines, finalisers and output.
 fn is_same_besides(state: &State, other: &State) -> bool
     ensures { IsTrue result ↔ (record state.now { goroutines = []; finalisers = []; output = [] } ≡ record other.now { goroutines = []; finalisers = []; output = [] }) }
 {

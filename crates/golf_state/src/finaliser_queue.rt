@@ -1,4 +1,7 @@
-//! The finalisers that are to be called.
+//! The finaliser queue: the finalisers that wait for their call.
+//!
+//! An entry is an object and the function to call with it. An entry leaves at the front, and no other entry
+//! is moved.
 
 ghost use Rattle.std.specs.Prelude.{◌≡◌, ◌≤◌, ◌++◌, [], List, drop, length, slice_get, OnOk, OnErr};
 ghost use Rattle.golf_data.specs.declared.goroutine.Queued.{Queued};
@@ -9,10 +12,10 @@ use golf_data::Queued;
 use std::alloc::Global;
 use std::marker::Model;
 
-/// The finalisers that are to be called, the next one first.
+/// The finalisers that wait for their call, the next one first.
 ///
-/// One that is taken is only counted, so that to take one costs the same however many there are. The
-/// list closes up if others are added and more were taken than are left.
+/// Taking an entry only counts it, so it costs the same however long the queue is. The vector closes up
+/// when entries are added and more were taken than are left.
 #[derive(Debug, Drop)]
 pub struct FinaliserQueue {
     entries: Vec<Queued>,
@@ -28,7 +31,7 @@ impl Model for FinaliserQueue {
 }
 
 impl FinaliserQueue {
-    /// No finaliser. It takes no memory.
+    /// Returns the empty queue. It takes no memory.
     pub fn new(alloc: Global) -> FinaliserQueue
         ensures { result ≡ [] }
     {
@@ -38,19 +41,19 @@ impl FinaliserQueue {
         }
     }
 
-    /// The allocator that it takes its memory from.
+    /// Returns the allocator of the queue's memory.
     pub fn allocator(&self) -> Global {
         *self.entries.allocator()
     }
 
-    /// Those that are to be called.
+    /// Returns the entries, the next one first.
     pub fn as_slice(&self) -> &[Queued]
         ensures { result.now ≡ self.now }
     {
         &self.entries.as_slice()[self.taken..]
     }
 
-    /// Takes the next one. It takes no memory.
+    /// Takes the next entry, or returns `None` if there is none. It takes no memory.
     pub fn take(&mut self) -> Option<Queued>
         ensures first { result ≡ slice_get self.old 0 }
         ensures rest { self.new ≡ behind_first self.old }
@@ -60,7 +63,7 @@ impl FinaliserQueue {
         Some(next)
     }
 
-    // Those that were taken are gone from memory, if they are more than those that are left.
+    // Removes the taken entries from memory, if they are more than those that are left.
     fn close_up(&mut self)
         ensures { self.new ≡ self.old }
     {
@@ -72,7 +75,7 @@ impl FinaliserQueue {
         }
     }
 
-    /// Adds finalisers after the others.
+    /// Adds entries after the others. On `Err` the queue is unchanged.
     pub fn add(&mut self, entries: &[Queued]) -> Result<(), Memory>
         ensures ok { OnOk result (self.new ≡ self.old ++ entries.now) }
         ensures err { OnErr result (self.new ≡ self.old) }

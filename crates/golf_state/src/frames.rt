@@ -1,4 +1,7 @@
 //! The innermost frame of a goroutine, and how it goes on.
+//!
+//! On `Err` the frames are unchanged. A blocked goroutine has room for two more operands, so no wake takes
+//! memory.
 
 ghost use Rattle.std.specs.Prelude.{◌≡◌, ◌<◌, ◌≤◌, ◌-◌, ◌++◌, [], length, reverse, OnOk, OnErr, Some, slice_get};
 ghost use Rattle.std.specs.Borrow.{sem};
@@ -13,7 +16,7 @@ ghost use Rattle.golf_state.specs.LendingTop.{LendsTop};
 use golf_base::{List, Memory, Room};
 use golf_data::{Deferred, Fault, Frame, Goroutine, Leaving, Mode, Value, Wait};
 
-/// What a goroutine is given that goes on: no value, one, or a value and whether it was sent.
+/// The values that a goroutine gets when it goes on: none, one, or a value and whether it was sent.
 #[derive(Clone, Copy, Debug, PartialEq, Eq)]
 pub enum Given {
     Nothing,
@@ -21,7 +24,7 @@ pub enum Given {
     Two(Value, bool),
 }
 
-/// Lends the innermost frame, the last one.
+/// Lends the innermost frame, which is the last one.
 #[inline(always)]
 pub fn top_mut(frames: &mut List<Frame>) -> &mut Frame
     requires { 0 < length frames.old }
@@ -32,7 +35,7 @@ pub fn top_mut(frames: &mut List<Frame>) -> &mut Frame
     frames.item_mut(at)
 }
 
-// Puts the values on top of the operands, for which there is room.
+// Puts the values on top of the operands. There is room for them.
 #[inline(always)]
 fn give(operands: &mut Room<Value>, given: Given)
     requires { 2 ≤ operands.old.spare }
@@ -48,7 +51,7 @@ fn give(operands: &mut Room<Value>, given: Given)
     }
 }
 
-// The frame goes on at a place, without so many of its operands, and has room for two more.
+// Lets the frame go on at `after`, without its last `taken` operands, and makes room for two more.
 #[inline(always)]
 fn settle_frame(frame: &mut Frame, after: u32, taken: usize) -> Result<(), Memory>
     ensures ok { OnOk result (frame_view frame.new ≡ went after taken [] (frame_view frame.old)) }
@@ -61,7 +64,7 @@ fn settle_frame(frame: &mut Frame, after: u32, taken: usize) -> Result<(), Memor
     Ok(())
 }
 
-// The frame goes on at a place, with these values in place of so many operands.
+// Lets the frame go on at `after`, with these values in place of its last `taken` operands.
 #[inline(always)]
 fn advance_frame_with(
     frame: &mut Frame,
@@ -77,7 +80,7 @@ fn advance_frame_with(
     Ok(())
 }
 
-/// The innermost frame goes on at a place, with these values in place of so many operands.
+/// Lets the innermost frame go on at `after`, with these values in place of its last `taken` operands.
 #[inline(always)]
 pub fn advance_with(
     frames: &mut List<Frame>,
@@ -94,7 +97,7 @@ pub fn advance_with(
     Ok(())
 }
 
-/// The frame goes on at a place, without so many of its operands.
+/// Lets the frame go on at `after`, without its last `taken` operands.
 #[inline(always)]
 pub fn advance_frame(frame: &mut Frame, after: u32, taken: usize)
     ensures frame { frame_view frame.new ≡ went after taken [] (frame_view frame.old) }
@@ -105,7 +108,7 @@ pub fn advance_frame(frame: &mut Frame, after: u32, taken: usize)
     frame.at = after;
 }
 
-/// The innermost frame goes on at a place, without so many of its operands.
+/// Lets the innermost frame go on at `after`, without its last `taken` operands.
 #[inline(always)]
 pub fn advance(frames: &mut List<Frame>, after: u32, taken: usize)
     ensures { frame_views frames.new ≡ on_top (went after taken []) (frame_views frames.old) }
@@ -115,7 +118,7 @@ pub fn advance(frames: &mut List<Frame>, after: u32, taken: usize)
     }
 }
 
-// The last operand becomes this one, if there is one, and the frame goes on at a place.
+// Replaces the last operand and lets the frame go on at `after`. Without an operand nothing changes.
 #[inline(always)]
 fn exchange_last(frame: &mut Frame, after: u32, value: Value)
     ensures { frame_view frame.new ≡ exchanged after value (frame_view frame.old) }
@@ -126,8 +129,8 @@ fn exchange_last(frame: &mut Frame, after: u32, value: Value)
     }
 }
 
-/// The last operand of the innermost frame becomes this one, if there is one, and the frame goes
-/// on at a place.
+/// Replaces the last operand of the innermost frame and lets the frame go on at `after`. Without an operand
+/// nothing changes.
 #[inline(always)]
 pub fn exchange(frames: &mut List<Frame>, after: u32, value: Value)
     ensures { frame_views frames.new ≡ on_top (exchanged after value) (frame_views frames.old) }
@@ -137,7 +140,7 @@ pub fn exchange(frames: &mut List<Frame>, after: u32, value: Value)
     }
 }
 
-// Unwinding begins.
+// Lets the frame begin to unwind: it loses its operands.
 fn unwind_frame(frame: &mut Frame, fault: Fault)
     ensures { frame_view frame.new ≡ unwinding fault (frame_view frame.old) }
 {
@@ -145,7 +148,7 @@ fn unwind_frame(frame: &mut Frame, fault: Fault)
     frame.leaving = Leaving::Unwinding(fault);
 }
 
-/// The innermost frame unwinds.
+/// Lets the innermost frame unwind.
 pub fn unwind(frames: &mut List<Frame>, fault: Fault)
     ensures { frame_views frames.new ≡ on_top (unwinding fault) (frame_views frames.old) }
 {
@@ -154,7 +157,7 @@ pub fn unwind(frames: &mut List<Frame>, fault: Fault)
     }
 }
 
-// Returning begins.
+// Lets the frame begin to return.
 fn return_in(frame: &mut Frame, after: u32, taken: usize, value: Option<Value>)
     ensures { frame_view frame.new ≡ has_returned after taken value (frame_view frame.old) }
 {
@@ -162,8 +165,8 @@ fn return_in(frame: &mut Frame, after: u32, taken: usize, value: Option<Value>)
     frame.leaving = Leaving::Returning(value);
 }
 
-/// The innermost frame returns with a value, if it has one, and stands at a place after its
-/// return, without so many of its operands.
+/// Lets the innermost frame return, with a value or none. It loses its last `taken` operands, and its place
+/// becomes `after`, behind the return.
 pub fn begin_return(frames: &mut List<Frame>, after: u32, taken: usize, value: Option<Value>)
     ensures { frame_views frames.new ≡ on_top (has_returned after taken value) (frame_views frames.old) }
 {
@@ -172,7 +175,7 @@ pub fn begin_return(frames: &mut List<Frame>, after: u32, taken: usize, value: O
     }
 }
 
-// A call is deferred, and the frame goes on at a place, without so many of its operands.
+// Defers a call, and lets the frame go on at `after`, without its last `taken` operands.
 fn defer_in(frame: &mut Frame, after: u32, taken: usize, deferred: Deferred) -> Result<(), Memory>
     ensures ok { OnOk result (frame_view frame.new ≡ has_deferred after taken deferred (frame_view frame.old)) }
     ensures err { OnErr result (frame_view frame.new ≡ frame_view frame.old) }
@@ -182,7 +185,7 @@ fn defer_in(frame: &mut Frame, after: u32, taken: usize, deferred: Deferred) -> 
     Ok(())
 }
 
-/// The innermost frame defers a call, and goes on at a place, without so many of its operands.
+/// Defers a call in the innermost frame, which goes on at `after`, without its last `taken` operands.
 pub fn defer(
     frames: &mut List<Frame>,
     after: u32,
@@ -198,8 +201,8 @@ pub fn defer(
     Ok(())
 }
 
-/// The goroutine's innermost frame goes on at a place, without so many of its operands, and has
-/// room for two more.
+/// Lets the goroutine's innermost frame go on at `after`, without its last `taken` operands, and makes room
+/// for two more.
 #[inline(always)]
 pub fn settle(goroutine: &mut Goroutine, after: u32, taken: usize) -> Result<(), Memory>
     ensures ok { OnOk result (goroutine_view goroutine.new ≡ advanced after taken (goroutine_view goroutine.old)) }
@@ -217,15 +220,15 @@ pub fn settle(goroutine: &mut Goroutine, after: u32, taken: usize) -> Result<(),
 /// How a blocked goroutine goes on.
 #[derive(Clone, Copy, Debug, PartialEq, Eq)]
 pub enum Wakening {
-    /// Where it stands, without a value.
+    /// At its place, without a value.
     Released,
-    /// If its wait says, with these values on top of its operands.
+    /// At the target of its wait, if the wait has one, with these values on top of its operands.
     Served(Wait, Given),
     /// Its innermost frame unwinds.
     Unwound(Fault),
 }
 
-// Goes on if the wait says, with these values on top of the operands.
+// Lets the frame go on at the target of the wait, if it has one, with these values on top of the operands.
 #[inline(always)]
 fn resume_frame(frame: &mut Frame, wait: Wait, given: Given)
     requires { 2 ≤ frame.old.operands.spare }
@@ -235,7 +238,8 @@ fn resume_frame(frame: &mut Frame, wait: Wait, given: Given)
     give(&mut frame.operands, given);
 }
 
-// The innermost frame goes on if the wait says, with these values on top of its operands.
+// Lets the innermost frame go on at the target of the wait, if it has one, with these values on top of its
+// operands.
 #[inline(always)]
 fn resume(frames: &mut List<Frame>, wait: Wait, given: Given)
     requires { HasRoom frames.old }
@@ -246,7 +250,7 @@ fn resume(frames: &mut List<Frame>, wait: Wait, given: Given)
     }
 }
 
-/// The goroutine goes on. It takes no memory.
+/// Lets the blocked goroutine run again, as `how` says. It takes no memory.
 #[inline(always)]
 pub fn waken(goroutine: &mut Goroutine, how: Wakening)
     requires { HasRoom goroutine.old.frames }

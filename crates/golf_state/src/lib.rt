@@ -1,11 +1,11 @@
 //! The state of a running program, which contracts see as the state of the plain machine.
 //!
-//! - `State`: globals, objects, goroutines, the finaliser queue, what was printed, how the program
-//!   has ended. What it caches is the list of the goroutines that run.
+//! - `State`: globals, objects, goroutines, the finaliser queue, the output, and the recorded ending. It
+//!   caches the list of the goroutines that run and the wait queues.
 //! - `Runnable`: the goroutines that can run.
-//! - `Waiting`, `Given`: a goroutine that waits on an object, and what it is given when it goes on.
-//! - `Acting`: a goroutine in its turn.
-//! - `advance_with`, `enter`, `return_frame` and their kin: what becomes of a goroutine's frames.
+//! - `Waiting`, `Given`: a goroutine that waits on an object, and the values that it gets when it goes on.
+//! - `Acting`: the goroutine whose turn it is.
+//! - `advance_with`, `enter`, `return_frame` and their kin: changes of a goroutine's frames.
 #![tactic(auto)]
 
 mod acting;

@@ -1,4 +1,6 @@
-//! The last operands of a goroutine's innermost frame, and what operands are.
+//! The last operands of a goroutine's innermost frame, and the kinds of operands.
+//!
+//! Nothing here removes an operand.
 
 ghost use Rattle.std.specs.Prelude.{◌≡◌, slice_get, reverse};
 ghost use Rattle.golf_model.specs.Values.{int_of, bool_of, text_of};
@@ -37,7 +39,7 @@ fn last_three(items: &[Value]) -> Option<(Value, Value, Value)>
     Some((items[count - 3], items[count - 2], items[count - 1]))
 }
 
-/// The last operand of a goroutine's innermost frame, if there is one.
+/// Returns the last operand of a goroutine's innermost frame, or `None`.
 #[inline(always)]
 pub fn last_operand(state: &State, g: GoroutineId) -> Option<Value>
     ensures { result ≡ slice_get (operands_of g.0 state.now) 0 }
@@ -46,7 +48,8 @@ pub fn last_operand(state: &State, g: GoroutineId) -> Option<Value>
     last(frame.operands.as_slice())
 }
 
-/// The last two operands of a goroutine's innermost frame, the last one second, if there are two.
+/// Returns the last two operands of a goroutine's innermost frame, the last one second. `None` if there are
+/// fewer.
 #[inline(always)]
 pub fn last_operands(state: &State, g: GoroutineId) -> Option<(Value, Value)>
     ensures { result ≡ two_of (operands_of g.0 state.now) }
@@ -55,8 +58,8 @@ pub fn last_operands(state: &State, g: GoroutineId) -> Option<(Value, Value)>
     last_two(frame.operands.as_slice())
 }
 
-/// The last three operands of a goroutine's innermost frame, the last one third, if there are
-/// three.
+/// Returns the last three operands of a goroutine's innermost frame, the last one third. `None` if there
+/// are fewer.
 pub fn last_three_operands(state: &State, g: GoroutineId) -> Option<(Value, Value, Value)>
     ensures { result ≡ three_of (operands_of g.0 state.now) }
 {
@@ -64,7 +67,7 @@ pub fn last_three_operands(state: &State, g: GoroutineId) -> Option<(Value, Valu
     last_three(frame.operands.as_slice())
 }
 
-/// What an operation on an object finds in its operand.
+/// The operand of an operation on an object.
 #[derive(Clone, Copy, Debug, PartialEq, Eq)]
 pub enum Reference {
     /// A reference to this object.
@@ -74,7 +77,7 @@ pub enum Reference {
     Misfit,
 }
 
-/// The reference that a value is.
+/// Returns whether the value is a reference, to which object, or nil.
 #[inline(always)]
 pub fn reference_in(value: Value) -> Reference
     ensures { result ≡ reference_of value }
@@ -86,7 +89,7 @@ pub fn reference_in(value: Value) -> Reference
     }
 }
 
-/// The integer that a value is.
+/// Returns the integer, or `None` if the value is not one.
 #[inline(always)]
 pub fn int_in(value: Value) -> Option<i64>
     ensures { result ≡ int_of value }
@@ -97,7 +100,7 @@ pub fn int_in(value: Value) -> Option<i64>
     }
 }
 
-/// The truth value that a value is.
+/// Returns the truth value, or `None` if the value is not one.
 #[inline(always)]
 pub fn bool_in(value: Value) -> Option<bool>
     ensures { result ≡ bool_of value }
@@ -108,7 +111,7 @@ pub fn bool_in(value: Value) -> Option<bool>
     }
 }
 
-/// The number of the text that a value is.
+/// Returns the number of the text, or `None` if the value is not one.
 #[inline(always)]
 pub fn text_in(value: Value) -> Option<u32>
     ensures { result ≡ text_of value }

@@ -1,4 +1,7 @@
-//! What an operation of the goroutine in its turn comes to.
+//! The outcome of an operation of the goroutine whose turn it is. On `Err` the state is unchanged.
+//!
+//! An operation makes its changes itself, except for those of a panic or a fatal error. `carry_out` makes
+//! these.
 
 ghost use Rattle.std.specs.Prelude.{◌≡◌, [], ◌∷◌, IfOk, OnOk, OnErr, IsSome, slice_get, drop, true};
 ghost use Rattle.golf_model.specs.Acting.{stands, blocks};
@@ -17,20 +20,20 @@ use golf_base::{List, Memory, ObjectId};
 use golf_data::{Ending, Fault, Object, PanicKind, Side, Value, Wait, WaitKind};
 use std::alloc::Global;
 
-/// What an operation of the goroutine in its turn comes to.
+/// The outcome of an operation of the goroutine whose turn it is.
 #[derive(Clone, Copy, Debug, PartialEq, Eq)]
 pub enum Outcome {
     /// It is done, and the goroutine goes on.
     Done,
     /// The goroutine is blocked.
     Blocked,
-    /// It panics, or it is a fatal error: nothing has changed yet.
+    /// The operation panics, or is a fatal error. The state is unchanged so far.
     Panic(PanicKind),
-    /// No rule fits: nothing has changed.
+    /// No rule fits. The state is unchanged.
     Stuck,
 }
 
-/// The goroutine in its turn panics, or ends the program by a fatal error.
+/// Lets the goroutine whose turn it is panic. A fatal error ends the program instead.
 pub fn fault(state: &mut State, acting: Acting, kind: PanicKind)
     requires { Stands acting.goroutine.0 acting.after state.old }
     ensures { state.new ≡ does (λ a. faults a kind) acting.goroutine.0 acting.line state.old }
@@ -47,7 +50,8 @@ pub fn fault(state: &mut State, acting: Acting, kind: PanicKind)
     }
 }
 
-/// What is left to do once an operation has come to this: a panic or a fatal error.
+/// Carries out the rest of an outcome: a panic or a fatal error. Any other outcome leaves the state
+/// unchanged.
 #[inline(always)]
 pub fn carry_out(state: &mut State, acting: Acting, outcome: Outcome)
     requires { StandsToFault outcome acting.goroutine.0 acting.after state.old }
@@ -61,7 +65,7 @@ pub fn carry_out(state: &mut State, acting: Acting, outcome: Outcome)
     }
 }
 
-/// The goroutine in its turn goes on at a place, without so many operands.
+/// Lets the goroutine whose turn it is go on at `target`, without its last `taken` operands.
 #[inline(always)]
 pub fn proceed(state: &mut State, acting: Acting, target: u32, taken: usize)
     requires { Stands acting.goroutine.0 acting.after state.old }
@@ -71,7 +75,8 @@ pub fn proceed(state: &mut State, acting: Acting, target: u32, taken: usize)
     advance(state.frames_mut(acting.goroutine), target, taken);
 }
 
-/// The goroutine in its turn goes on at a place, with these values in place of so many operands.
+/// Lets the goroutine whose turn it is go on at `target`, with these values in place of its last `taken`
+/// operands.
 #[inline(always)]
 pub fn proceed_with(
     state: &mut State,
@@ -89,7 +94,7 @@ pub fn proceed_with(
     advance_with(frames, target, taken, given)
 }
 
-/// The goroutine in its turn blocks at a place, without so many operands.
+/// Blocks the goroutine whose turn it is. It will go on at `target`, without its last `taken` operands.
 #[inline(always)]
 pub fn block_at(
     state: &mut State,
@@ -107,7 +112,7 @@ pub fn block_at(
     state.block(acting.goroutine, kind, acting.line, waits, target, taken)
 }
 
-/// A list of one wait, with room for no more.
+/// Returns a list of one wait, with room for no other.
 #[inline(always)]
 pub fn one_wait(alloc: Global, wait: Wait) -> Result<List<Wait>, Memory>
     ensures { IfOk result (λ waits. waits ≡ wait ∷ []) }
@@ -117,8 +122,8 @@ pub fn one_wait(alloc: Global, wait: Wait) -> Result<List<Wait>, Memory>
     Ok(List::from_vec(waits))
 }
 
-/// The goroutine in its turn blocks after its instruction, without so many operands, on an object
-/// with this side.
+/// Blocks the goroutine whose turn it is on an object with this side. It will go on after its instruction,
+/// without its last `taken` operands.
 #[inline(always)]
 pub fn block_on(
     alloc: Global,
@@ -145,7 +150,7 @@ pub fn block_on(
     block_at(state, acting, acting.after, taken, kind, waits)
 }
 
-/// Makes an object, and the goroutine in its turn goes on with the reference to it.
+/// Makes an object, and lets the goroutine whose turn it is go on with the reference as one more operand.
 pub fn make_onto(state: &mut State, acting: Acting, object: Object) -> Result<(), Memory>
     requires { Stands acting.goroutine.0 acting.after state.old }
     ensures ok { OnOk result (state.new ≡ does (λ a. makes a object a.frame.operands state.old) acting.goroutine.0 acting.line state.old) }
@@ -163,8 +168,8 @@ pub fn make_onto(state: &mut State, acting: Acting, object: Object) -> Result<()
     Ok(())
 }
 
-/// Makes an object, and the goroutine in its turn goes on with the reference to it in place of its
-/// last operand.
+/// Makes an object, and lets the goroutine whose turn it is go on with the reference in place of its last
+/// operand.
 pub fn make_over(state: &mut State, acting: Acting, object: Object) -> Result<(), Memory>
     requires stands { Stands acting.goroutine.0 acting.after state.old }
     requires operand { IsSome (slice_get (operands_of acting.goroutine.0 state.old) 0) }

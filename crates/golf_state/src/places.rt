@@ -1,4 +1,7 @@
 //! Goroutine 0, which runs finalisers.
+//!
+//! It is always there, and never ends. It cannot run while it has no frame and the finaliser queue is
+//! empty.
 
 ghost use Rattle.std.specs.Prelude.{◌≡◌, ◌<◌, ◌&&◌, not, length, slice_get, Some};
 ghost use Rattle.golf_theory.specs.Maps.{Rises};
@@ -18,7 +21,7 @@ fn is_idle(goroutine: &Goroutine) -> bool
     is_running(&goroutine.mode) && goroutine.frames.is_empty()
 }
 
-/// Whether goroutine 0 is there, runs and has no frame.
+/// Returns whether goroutine 0 is there, runs and has no frame.
 #[inline(always)]
 pub fn starts_idle(roster: &Roster) -> bool
     requires { Rises 0 (plain_entries roster.now.places) }
@@ -30,7 +33,7 @@ pub fn starts_idle(roster: &Roster) -> bool
     }
 }
 
-/// The goroutine at this place among those that run.
+/// Returns the goroutine at this place among those that run.
 #[inline(always)]
 pub fn running_at(roster: &Roster, place: usize) -> GoroutineId
     requires { place < length roster.now.running }
@@ -42,7 +45,8 @@ pub fn running_at(roster: &Roster, place: usize) -> GoroutineId
     }
 }
 
-/// Whether goroutine 0 has nothing to do: it runs without a frame, and the queue is empty.
+/// Returns whether goroutine 0 has nothing to do: it runs without a frame, and the finaliser queue is
+/// empty.
 #[inline(always)]
 pub fn has_no_call(queue: &[Queued], roster: &Roster) -> bool
     requires { Rises 0 (plain_entries roster.now.places) }

@@ -1,4 +1,4 @@
-//! The goroutines that can run.
+//! The goroutines that can run. Goroutine 0 runs but cannot run if it has nothing to call.
 
 ghost use Rattle.std.specs.Prelude.{◌≡◌, ◌≤◌, ◌<◌, ◌^◌, Some, drop, length, slice_get};
 
@@ -7,7 +7,7 @@ use golf_base::GoroutineId;
 use golf_state_goroutines::Roster;
 use std::marker::Model;
 
-/// The goroutines that can run, in rising order of number: all that run, or all but the first.
+/// The goroutines that can run, in rising order of number: all that run, or all except for the first.
 #[derive(Drop)]
 pub struct Runnable<'a> {
     roster: &'a Roster,
@@ -25,7 +25,7 @@ impl<'a> Model for Runnable<'a> {
 }
 
 impl<'a> Runnable<'a> {
-    /// Those that run, without so many of the first.
+    /// Returns the goroutines that run, without the first `skipped` ones.
     #[inline(always)]
     pub(crate) fn new(roster: &'a Roster, skipped: usize) -> Runnable<'a>
         requires skipped { skipped ≤ length roster.now.running }
@@ -35,7 +35,7 @@ impl<'a> Runnable<'a> {
         Runnable { roster, skipped }
     }
 
-    /// How many they are.
+    /// Returns how many goroutines can run.
     #[inline(always)]
     pub fn count(&self) -> usize
         ensures { result ≡ length self.now }
@@ -43,7 +43,7 @@ impl<'a> Runnable<'a> {
         self.roster.running_count() - self.skipped
     }
 
-    /// The goroutine at this place among them.
+    /// Returns the goroutine at this place among those that can run.
     #[inline(always)]
     pub fn at(&self, place: usize) -> GoroutineId
         requires { place < length self.now }

@@ -1,4 +1,7 @@
-//! The state: what it tells, and the changes that a turn is made of.
+//! The state: what a caller can ask of it, and the changes that a turn is made of.
+//!
+//! The invariant: the lists of running goroutines, the wait queues and the room of blocked goroutines fit
+//! the goroutines.
 
 ghost use Rattle.std.specs.Prelude.{◌≡◌, ◌<◌, ◌≤◌, ◌^◌, ◌+◌, ◌-◌, ◌↔◌, IsTrue, [], not, length, map, true, false, Some};
 ghost use Rattle.std.specs.Prelude.{None, IfOk, OnOk, OnErr, IsSome, IfSome, is_some, option_map, slice_get};
@@ -49,11 +52,11 @@ use golf_state_queues::{Queues, TicketHolder, last_before};
 use std::alloc::Global;
 use std::marker::Model;
 
-/// The state of a running program, seen as that of the plain machine. Of the operands of a frame
-/// contracts see the items alone.
+/// The state of a running program, which contracts see as that of the plain machine. Contracts see only the
+/// items of a frame's operands, and not the room for more.
 ///
-/// A call that answers `Memory` leaves it unchanged. If objects, goroutines or tickets have used
-/// up their numbers, the answer is `Memory` too.
+/// A call that answers `Memory` leaves the state unchanged. If the numbers of objects, goroutines or
+/// tickets are used up, the answer is `Memory` too.
 pub struct State {
     globals: List<Value>,
     heap: Heap,
@@ -80,7 +83,7 @@ impl Model for State {
     ghost invariant = { IsCached };
 }
 
-// Written out once here, so that no other crate goes through the fields where it lets a state go.
+// Written out once here. So no other crate walks over the fields when it drops a state.
 impl Drop for State {
     fn drop(self) {
         let State {
@@ -100,8 +103,8 @@ impl Drop for State {
 }
 
 impl State {
-    /// The state without an object in which goroutine 1, started at this line, runs with these
-    /// frames, and goroutine 0 has none.
+    /// Returns the state at the start: goroutine 1, started at this line, runs with these frames. Goroutine
+    /// 0 has no frame, and there is no object.
     pub fn new(
         alloc: Global,
         globals: List<Value>,
@@ -128,9 +131,9 @@ impl State {
         })
     }
 
-    // ---- what it tells, without memory
+    // ---- what it says, without memory
 
-    /// How many goroutines run; goroutine 0 among them, also if it has nothing to call.
+    /// Returns how many goroutines run. Goroutine 0 counts, also if it has nothing to call.
     #[inline(always)]
     pub fn running_count(&self) -> usize
         ensures { result ≡ length (running_of self.now.goroutines) }
@@ -138,7 +141,7 @@ impl State {
         self.roster.running_count()
     }
 
-    /// The goroutines that can run, in rising order of number.
+    /// Returns the goroutines that can run, in rising order of number.
     #[inline(always)]
     pub fn runnable(&self) -> Runnable<'_>
         ensures all { result ≡ runnable self.now }
@@ -151,7 +154,7 @@ impl State {
         }
     }
 
-    /// How many goroutines can run.
+    /// Returns how many goroutines can run.
     #[inline(always)]
     pub fn runnable_count(&self) -> usize
         ensures { result ≡ length (runnable self.now) }
@@ -159,7 +162,7 @@ impl State {
         self.runnable().count()
     }
 
-    /// The goroutine at this place among those that can run, in rising order of number.
+    /// Returns the goroutine at this place among those that can run, in rising order of number.
     #[inline(always)]
     pub fn runnable_at(&self, place: usize) -> GoroutineId
         requires { place < length (runnable self.now) }
@@ -169,7 +172,7 @@ impl State {
         self.runnable().at(place)
     }
 
-    // Whether no goroutine can run. Of two that run one can, whatever goroutine 0 has to call.
+    // Whether no goroutine can run. If two run, at least one of them can, whatever goroutine 0 has to call.
     #[inline(always)]
     fn is_asleep(&self) -> bool
         ensures { result ≡ not (not_empty (runnable self.now)) }
@@ -177,7 +180,8 @@ impl State {
         self.roster.running_count() < 2 && self.runnable_count() == 0
     }
 
-    /// How the program has ended: as recorded, else asleep if no goroutine can run.
+    /// Returns how the program has ended, or `None`. It is the recorded ending, or asleep if no goroutine
+    /// can run.
     #[inline(always)]
     pub fn ending(&self) -> Option<Ending>
         ensures { result ≡ ending self.now }
@@ -188,7 +192,7 @@ impl State {
         self.recorded
     }
 
-    /// The goroutines that have not ended, in rising order; goroutine 0 among them.
+    /// Returns the goroutines that have not ended, in rising order of number. Goroutine 0 is among them.
     pub fn goroutines(&self, alloc: Global) -> Result<List<GoroutineId>, Memory>
         ensures present { IfOk result (λ gs. map (λ g. g.0) gs ≡ keys self.now.goroutines) }
         ensures rises { IsRising self.now.goroutines }
@@ -197,7 +201,7 @@ impl State {
         self.roster.numbers(alloc)
     }
 
-    /// The goroutine of this number, if it has not ended.
+    /// Returns the goroutine of this number, or `None` if it has ended or never was.
     #[inline(always)]
     pub fn goroutine(&self, g: GoroutineId) -> Option<&Goroutine>
         ensures { option_map (λ r. goroutine_view r.now) result ≡ find g.0 self.now.goroutines }
@@ -205,7 +209,7 @@ impl State {
         self.roster.get(g.0)
     }
 
-    /// The innermost frame of a goroutine, if it has not ended and has one.
+    /// Returns the innermost frame of a goroutine, or `None`.
     #[inline(always)]
     pub fn frame(&self, g: GoroutineId) -> Option<&Frame>
         ensures { option_map (λ f. frame_view f.now) result ≡ slice_get (frames_of g.0 self.now) 0 }
@@ -214,7 +218,7 @@ impl State {
         goroutine.frames.as_slice().last()
     }
 
-    /// How many frames a goroutine has; none if it has ended.
+    /// Returns how many frames a goroutine has, or 0 if it is not there.
     pub fn depth(&self, g: GoroutineId) -> usize
         ensures { result ≡ length (frames_of g.0 self.now) }
     {
@@ -224,40 +228,41 @@ impl State {
         }
     }
 
-    /// The globals.
+    /// Returns the globals.
     pub fn globals(&self) -> &[Value]
         ensures { result.now ≡ self.now.globals }
     {
         self.globals.as_slice()
     }
 
-    /// The objects, and the last number that was given. A state whose references are all to objects that
-    /// are there has given its numbers in order.
+    /// Returns the heap: the objects, and the last number that was given. If each reference of the state is
+    /// to an object that is there, the numbers of the objects rise up to the last one.
     pub fn heap(&self) -> &Heap
         ensures objects { result.now ≡ record { objects = self.now.objects; last = self.now.last_object } }
         ensures numbered { IsWhole self.now → Numbered self.now }
     {
-        // Asked for what it says of the numbers of objects.
+        // This call gives the clause on the numbers of objects.
         self.heap.count();
         &self.heap
     }
 
-    /// The function of an object's finaliser, if it has one.
+    /// Returns the function of an object's finaliser, or `None`.
     pub fn finaliser(&self, object: ObjectId) -> Option<u32>
         ensures { result ≡ find object.0 self.now.finalisers }
     {
         self.finalisers.function_of(object.0)
     }
 
-    /// The finalisers that are to be called, the next one first.
+    /// Returns the finaliser queue, the next entry first.
     pub fn queue(&self) -> &[Queued]
         ensures { result.now ≡ self.now.queue }
     {
         self.queue.as_slice()
     }
 
-    /// The goroutine of least ticket among those that wait on the object with that side. It looks at
-    /// those that stand in the queue there alone.
+    /// Returns the first waiter of the object on this side, or `None`: the waiter with the smallest ticket.
+    /// It looks only at the wait queue there. For a mutex it looks at all goroutines after memory has run
+    /// out for a place in a queue.
     #[inline(always)]
     pub fn first_waiter(&self, object: ObjectId, side: Side) -> Option<Waiting>
         ensures first { result ≡ option_map waiting_of (first object.0 side self.now.goroutines) }
@@ -276,7 +281,7 @@ impl State {
         }
     }
 
-    /// What was printed and not cleared.
+    /// Returns the output that was not cleared.
     pub fn output(&self) -> &[u8]
         ensures { result.now ≡ self.now.output }
     {
@@ -284,7 +289,7 @@ impl State {
     }
 
     /// Returns the number that the next goroutine gets.
-    pub(crate) fn next_goroutine(&self) -> u32
+    pub fn next_goroutine(&self) -> u32
         ensures { result ≡ self.now.next_goroutine }
     {
         self.next_goroutine
@@ -306,7 +311,7 @@ impl State {
 
     // ---- objects
 
-    /// Gives an object the next number.
+    /// Makes an object, and returns its number, which is the next one.
     pub fn make(&mut self, object: Object) -> Result<ObjectId, Memory>
         ensures number { IfOk result (λ id. id.0 ≡ self.old.last_object + 1) }
         ensures ok { OnOk result (self.new ≡ make object self.old) }
@@ -315,14 +320,14 @@ impl State {
         self.heap.make(object)
     }
 
-    /// Puts an object in the place of the one of this number, if it is there.
+    /// Replaces the object of this number, if it is there.
     pub fn replace(&mut self, object: ObjectId, with: Object)
         ensures { self.new ≡ replace object.0 with self.old }
     {
         self.heap.put(object, with);
     }
 
-    /// Lends an object, to be changed or replaced.
+    /// Lends an object, which the caller may change or replace.
     #[inline(always)]
     pub fn object_mut(&mut self, object: ObjectId) -> &mut Object
         requires { IsSome (find object.0 self.old.objects) }
@@ -335,7 +340,7 @@ impl State {
 
     // ---- goroutines
 
-    /// Lends the frames of a goroutine that runs, the innermost one last.
+    /// Lends the frames of a running goroutine, the innermost one last.
     #[inline(always)]
     pub fn frames_mut(&mut self, g: GoroutineId) -> &mut List<Frame>
         requires { runs g.0 self.old ≡ true }
@@ -348,7 +353,7 @@ impl State {
         &mut goroutine.frames
     }
 
-    /// Lends the frames of a goroutine that runs, the innermost one last, and with them the globals.
+    /// Lends the frames of a running goroutine, the innermost one last, and with them the globals.
     #[inline(always)]
     pub fn frames_and_globals(&mut self, g: GoroutineId) -> (&mut List<Frame>, &[Value])
         requires { runs g.0 self.old ≡ true }
@@ -363,9 +368,9 @@ impl State {
         (&mut goroutine.frames, globals)
     }
 
-    /// The innermost frame of a goroutine is cleared, if the goroutine is there, runs and has one: the
-    /// slots that no instruction from the frame's next one on can read hold 0; if the frame is leaving,
-    /// all do. It takes no memory.
+    /// Clears the innermost frame of a goroutine, if the goroutine is there, runs and has a frame. The
+    /// slots that no instruction from the frame's next one on can read become 0. If the frame is leaving,
+    /// all slots do. It takes no memory.
     #[inline(always)]
     pub fn clear_slots(&mut self, code: &Code, g: GoroutineId)
         ensures { self.new ≡ apply_all (clears code.now g.0 (find g.0 self.old.goroutines)) self.old }
@@ -375,7 +380,7 @@ impl State {
         }
     }
 
-    /// Starts a goroutine with this frame, at this line.
+    /// Starts a goroutine with these frames, at this line, and returns its number.
     pub fn spawn(&mut self, frames: List<Frame>, line: u32) -> Result<GoroutineId, Memory>
         ensures number { IfOk result (λ g. g.0 ≡ self.old.next_goroutine) }
         ensures ok { OnOk result (self.new ≡ spawn (record { frames = frame_views frames; mode = Mode.Running; started = line }) self.old) }
@@ -389,8 +394,8 @@ impl State {
         Ok(GoroutineId(number))
     }
 
-    /// The goroutine blocks, with the next ticket. Its innermost frame goes on at a place without so
-    /// many of its operands, and gets room for two more, so that it is woken without memory.
+    /// Blocks the goroutine, with the next ticket. Its innermost frame goes on at `after`, without its last
+    /// `taken` operands. The frame gets room for two more, so a later wake takes no memory.
     #[inline(always)]
     pub fn block(
         &mut self,
@@ -423,7 +428,7 @@ impl State {
         Ok(())
     }
 
-    /// The blocked goroutine goes on. It takes no memory.
+    /// Wakes the blocked goroutine: it leaves its wait queues and runs. It takes no memory.
     #[inline(always)]
     pub fn wake(&mut self, g: GoroutineId, how: Wakening)
         requires { is_blocked g.0 self.old ≡ true }
@@ -435,15 +440,15 @@ impl State {
         self.roster.start_running(g.0);
     }
 
-    /// All goroutines that wait on the object go on, as far as they are woken. It takes no memory,
-    /// and looks at those that stand in the queue there alone.
+    /// Wakes all goroutines that wait on the object, as far as `how` says. It takes no memory, and looks
+    /// only at the wait queue there.
     pub fn wake_all(&mut self, object: ObjectId, how: Waking)
         ensures { self.new ≡ wake_all object.0 (waking_of how) self.old }
     {
         wake_all(self, object, how);
     }
 
-    /// A ticket above those of all who wait on the object with that side and are woken.
+    /// Returns a ticket above those of all waiters of the object on this side that are woken.
     pub(crate) fn ticket_bound(&self, object: ObjectId, side: Side, how: Waking) -> u64
         ensures { AreWokenBelow result object.0 side how self.now.goroutines }
     {
@@ -453,7 +458,7 @@ impl State {
         }
     }
 
-    /// The last in the queue for the object with that side whose ticket is below this one.
+    /// Returns the last entry of the wait queue whose ticket is below this one, or `None`.
     pub(crate) fn holder_before(
         &self,
         object: ObjectId,
@@ -468,14 +473,15 @@ impl State {
         last_before(self.waiting.holders(object, side), ticket)
     }
 
-    /// Whether one who stands in the queue for the object with that side waits there with that ticket.
+    /// Returns whether the goroutine of this entry waits on the object with that side and that ticket.
     pub(crate) fn is_waiting(&self, holder: TicketHolder, object: ObjectId, side: Side) -> bool
         ensures { result ≡ is_some (waiter_by object.0 side self.now.goroutines (holder.ticket, holder.goroutine.0)) }
     {
         waiter_by(holder, &self.roster, object, side).is_some()
     }
 
-    /// How a goroutine goes on if all who wait on the object are woken, and it is one of them.
+    /// Returns how the goroutine goes on if it is woken with all waiters of the object, or `None` if it is
+    /// not.
     pub(crate) fn wakening(&self, g: GoroutineId, object: ObjectId, how: Waking) -> Option<Wakening>
         ensures { result ≡ wakening_in (find g.0 self.now.goroutines) object.0 how }
     {
@@ -483,8 +489,8 @@ impl State {
         wakening_of(&goroutine.mode, object, how)
     }
 
-    /// How many readers of a reader and writer mutex are served: those with a ticket below this
-    /// one, or all.
+    /// Returns how many readers of a reader and writer mutex are served: those with a ticket below `below`,
+    /// or all.
     pub fn readers_next(&self, object: ObjectId, below: Option<u64>) -> usize
         ensures count { result ≡ readers_next below object.0 self.now.goroutines }
         ensures few { result ≤ 2 ^ 32 }
@@ -492,8 +498,8 @@ impl State {
         readers_next(self, object, below)
     }
 
-    // The one wait of a blocked goroutine becomes a wait for the mutex, with the next ticket. Where
-    // memory runs out for its place in the queue, the queues of mutexes are looked at no more.
+    // Lets the one wait of a blocked goroutine become a wait for the mutex, with the next ticket. If memory
+    // runs out for its place in the queue, no one looks at the queues of mutexes any more.
     fn move_wait(&mut self, g: GoroutineId, mutex: ObjectId)
         requires blocked { is_blocked g.0 self.old ≡ true }
         requires tickets { self.old.next_ticket + 1 < 2 ^ 64 }
@@ -513,9 +519,9 @@ impl State {
         self.next_ticket += 1;
     }
 
-    /// The blocked goroutine is passed on from a condition to its mutex: an unlocked one becomes
-    /// locked and the goroutine runs; a locked one is what it waits for from now on, with the next
-    /// ticket. It cannot run out of memory.
+    /// Passes the blocked goroutine on from a condition to its mutex. An unlocked mutex becomes locked, and
+    /// the goroutine runs. For a locked mutex the goroutine waits from now on, with the next ticket. It
+    /// cannot run out of memory.
     pub fn pass_on(&mut self, g: GoroutineId, mutex: ObjectId)
         requires blocked { is_blocked g.0 self.old ≡ true }
         requires tickets { self.old.next_ticket + 1 < 2 ^ 64 }
@@ -537,7 +543,7 @@ impl State {
         }
     }
 
-    /// Whether there are tickets enough for all goroutines to take another.
+    /// Returns whether there are enough tickets for each goroutine to take one more.
     pub fn has_tickets(&self) -> bool
         ensures { IsTrue result ↔ (self.now.next_ticket + length self.now.goroutines < 2 ^ 64) }
     {
@@ -545,7 +551,7 @@ impl State {
         self.next_ticket.checked_add(count).is_some()
     }
 
-    /// The goroutine, which is not goroutine 0, has ended.
+    /// Ends the goroutine, which is not goroutine 0.
     pub fn leave(&mut self, g: GoroutineId)
         requires { 0 < g.0 }
         ensures { self.new ≡ leave g.0 self.old }
@@ -556,14 +562,14 @@ impl State {
 
     // ---- the program
 
-    /// The program has ended.
+    /// Records how the program has ended.
     pub fn finish(&mut self, ending: Ending)
         ensures { self.new ≡ finish ending self.old }
     {
         self.recorded = Some(ending);
     }
 
-    /// A global becomes this value, if it is there.
+    /// Sets a global, if it is there.
     pub fn set_global(&mut self, global: u32, value: Value)
         ensures { self.new ≡ set_global global value self.old }
     {
@@ -572,7 +578,7 @@ impl State {
         }
     }
 
-    /// The function becomes the finaliser of the object, which has none.
+    /// Sets the finaliser of the object, which has none. On `Err` the state is unchanged.
     pub fn set_finaliser(&mut self, object: ObjectId, function: u32) -> Result<(), Memory>
         requires { find object.0 self.old.finalisers ≡ None }
         ensures ok { OnOk result (self.new ≡ set_finaliser object.0 function self.old) }
@@ -581,7 +587,7 @@ impl State {
         self.finalisers.put(object.0, function)
     }
 
-    /// The object has no finaliser from now on.
+    /// Removes the object's finaliser, if it has one.
     pub fn clear_finaliser(&mut self, object: ObjectId)
         ensures { self.new ≡ clear_finaliser object.0 self.old }
     {
@@ -590,22 +596,22 @@ impl State {
 
     // ---- collections
 
-    /// Whether any object has a finaliser.
+    /// Returns whether any object has a finaliser.
     pub fn has_finaliser(&self) -> bool
         ensures { result ≡ not_empty self.now.finalisers }
     {
         self.finalisers.count() > 0
     }
 
-    /// Makes a list of the finalisers in rising order of their objects' numbers, each with its function.
+    /// Returns the finalisers in rising order of their objects' numbers, each with its function.
     pub fn finalisers(&self, alloc: Global) -> Result<List<(u32, u32)>, Memory>
         ensures { IfOk result (λ finalisers. finalisers ≡ self.now.finalisers) }
     {
         self.finalisers.list(alloc)
     }
 
-    /// The finalisers whose flag is false are set no longer, and are to be called, after those
-    /// that are to be called already. The answer is how many they are.
+    /// Moves the finalisers whose flag is false to the end of the finaliser queue, and returns how many it
+    /// moved. On `Err` the state is unchanged.
     pub fn queue_finalisers(&mut self, stays: &[bool]) -> Result<usize, Memory>
         requires { length stays.now ≡ length self.old.finalisers }
         ensures ok { OnOk result (self.new ≡ queue_unflagged stays.now self.old) }
@@ -618,7 +624,7 @@ impl State {
         Ok(entries.len())
     }
 
-    /// Frees the objects whose flag, in rising order of number, is false. It takes no memory.
+    /// Frees the objects whose flag is false. The flags are in rising order of number. It takes no memory.
     pub fn retain_objects(&mut self, keep: &[bool])
         requires { length keep.now ≡ length self.old.objects }
         ensures { self.new ≡ record self.old { objects = kept keep.now self.old.objects } }
@@ -626,9 +632,9 @@ impl State {
         self.heap.retain(keep);
     }
 
-    /// Takes away the goroutines whose flag, in rising order of number, is false, and the queues in
-    /// which nobody stands then. It takes no memory, and looks at those who stand in the queue only if
-    /// a goroutine is taken away. Goroutine 0 stays.
+    /// Removes the goroutines whose flag is false, and then the empty wait queues. The flags are in rising
+    /// order of number. Goroutine 0 stays. It takes no memory, and looks at the entries of wait queues only
+    /// if it removes a goroutine.
     pub fn retain_goroutines(&mut self, stays: &[bool])
         requires count { length stays.now ≡ length self.old.goroutines }
         requires zero { IsSome (find 0 (kept stays.now self.old.goroutines)) }
@@ -641,8 +647,8 @@ impl State {
 
     // ---- the queue and the output
 
-    /// Takes the next finaliser that is to be called. It takes no memory, and costs the same however
-    /// many there are.
+    /// Takes the next entry of the finaliser queue, or returns `None`. It takes no memory, and costs the
+    /// same however long the queue is.
     pub fn take_queued(&mut self) -> Option<Queued>
         ensures first { result ≡ slice_get self.old.queue 0 }
         ensures rest { self.new ≡ take_queued self.old }
@@ -650,7 +656,7 @@ impl State {
         self.queue.take()
     }
 
-    /// Adds to what was printed.
+    /// Adds to the output. On `Err` the state is unchanged.
     pub fn add_output(&mut self, piece: &[u8]) -> Result<(), Memory>
         ensures ok { OnOk result (self.new ≡ output_of piece.now self.old) }
         ensures err { OnErr result (self.new ≡ self.old) }
@@ -658,7 +664,7 @@ impl State {
         self.output.extend_from_slice(piece)
     }
 
-    /// Drops what was printed, once it was written.
+    /// Drops the output, after it was written.
     pub fn clear_output(&mut self)
         ensures { self.new ≡ record self.old { output = [] } }
     {

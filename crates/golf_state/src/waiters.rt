@@ -1,4 +1,7 @@
-//! Who waits on an object.
+//! The waiters of an object.
+//!
+//! A wait queue has every waiter, by rising ticket, and perhaps goroutines that no longer wait there. An
+//! entry counts only if its goroutine waits there with the entry's ticket.
 
 ghost use Rattle.std.specs.Prelude.{◌≡◌, ◌<◌, ◌≤◌, ◌+◌, ◌++◌, ◌==◌, ◌&&◌, ℕ, List, false, true, Some, None, length};
 ghost use Rattle.std.specs.Prelude.{option_map};
@@ -22,7 +25,7 @@ use golf_data::{Mode, Side, Wait};
 use golf_state_goroutines::{Block, NumberedGoroutine, Roster};
 use golf_state_queues::{Queues, TicketHolder, side_number};
 
-/// A goroutine that waits on an object, with its first fitting wait, and its ticket.
+/// A goroutine that waits on an object, with its first wait there, and its ticket.
 #[derive(Clone, Copy, Debug, PartialEq, Eq)]
 pub struct Waiting {
     pub goroutine: GoroutineId,
@@ -30,9 +33,9 @@ pub struct Waiting {
     pub ticket: u64,
 }
 
-/// Whether all who wait on that side stand in the queue. Those who wait for a mutex do while they all could
-/// be listed: one that is passed on from a condition waits for the mutex without a turn of its own,
-/// and memory may run out for its place in the queue.
+/// Returns whether the wait queue has all goroutines that wait on that side. For mutexes this holds until
+/// memory runs out for a place in a queue. That can happen in `pass_on`, which makes a goroutine wait for a
+/// mutex without its own turn.
 #[inline(always)]
 pub fn has_queue(are_mutexes_enqueued: bool, side: Side) -> bool
     ensures { result ≡ has_queue are_mutexes_enqueued side }
@@ -51,7 +54,7 @@ fn fits(wait: &Wait, object: ObjectId, side: Side) -> bool
     wait.object.0 == object.0 && side_number(wait.side) == side_number(side)
 }
 
-/// The first wait on the object with that side.
+/// Returns the first of these waits that is on the object with that side, or `None`.
 #[inline(always)]
 pub fn wait_for(waits: &[Wait], object: ObjectId, side: Side) -> Option<Wait>
     ensures { result ≡ wait_for object.0 side waits.now }
@@ -64,7 +67,7 @@ pub fn wait_for(waits: &[Wait], object: ObjectId, side: Side) -> Option<Wait>
     None
 }
 
-// The goroutine at a place as a waiter, if it is one.
+// The goroutine at a place as a waiter, if it waits on the object with that side.
 fn waiter_in(place: &NumberedGoroutine, object: ObjectId, side: Side) -> Option<Waiting>
     ensures { result ≡ option_map waiting_of (waiter_of object.0 side (plain_entry place.now)) }
 {
@@ -81,7 +84,7 @@ fn waiter_in(place: &NumberedGoroutine, object: ObjectId, side: Side) -> Option<
     }
 }
 
-// The one with the earlier ticket.
+// The waiter with the smaller ticket; the first one if both are equal.
 fn sooner(seen: Option<Waiting>, other: Option<Waiting>) -> Option<Waiting>
     ensures { result ≡ sooner seen other }
 {
@@ -92,7 +95,8 @@ fn sooner(seen: Option<Waiting>, other: Option<Waiting>) -> Option<Waiting>
     }
 }
 
-/// One who stood in the queue, if it waits there with that ticket.
+/// Returns the goroutine of an entry as a waiter, if it waits on the object with that side and the entry's
+/// ticket.
 #[inline(always)]
 pub fn waiter_by(
     holder: TicketHolder,
@@ -118,8 +122,7 @@ pub fn waiter_by(
     }
 }
 
-/// The goroutine of least ticket among those that wait on the object with that side, by the queue of
-/// those who stood there.
+/// Returns the first waiter of the object on this side, or `None`, by the wait queue there.
 #[inline(always)]
 pub fn first_in_queue(
     queue: &[TicketHolder],
@@ -143,7 +146,7 @@ pub fn first_in_queue(
     None
 }
 
-/// A goroutine in this mode is gone from the queues that it stands in; all others stand where they stood.
+/// Removes a goroutine in this mode from the wait queues that it is in. All others keep their places.
 #[inline(always)]
 pub fn leave_queues(queues: &mut Queues, g: GoroutineId, mode: &Mode)
     ensures { IsWithout (leaves_in g.0 mode.now) queues.old queues.new }
@@ -154,8 +157,8 @@ pub fn leave_queues(queues: &mut Queues, g: GoroutineId, mode: &Mode)
     }
 }
 
-/// The goroutine of this number is gone from the queues that it stands in, if it is there; all others
-/// stand where they stood.
+/// Removes the goroutine of this number from the wait queues that it is in, if it is there. All others keep
+/// their places.
 pub fn forget(queues: &mut Queues, roster: &Roster, g: GoroutineId)
     ensures { IsWithout (leaves_where g.0 (find g.0 (plain_entries roster.now.places))) queues.old queues.new }
 {
@@ -164,8 +167,8 @@ pub fn forget(queues: &mut Queues, roster: &Roster, g: GoroutineId)
     }
 }
 
-/// If fewer goroutines are there than there were, those alone stand in the queue still, and nobody else;
-/// queues in which nobody stands then are gone. It takes no memory.
+/// Removes the empty wait queues. If fewer goroutines are there than there were, it first removes the
+/// entries of those that are gone. It takes no memory.
 pub fn narrow_queues(queues: &mut Queues, roster: &Roster, were: usize)
     ensures fewer { length roster.now.places < were → queues.new ≡ standing (narrowed (keys (plain_entries roster.now.places)) queues.old) }
     ensures as_many { were ≤ length roster.now.places → queues.new ≡ standing queues.old }
@@ -178,8 +181,8 @@ pub fn narrow_queues(queues: &mut Queues, roster: &Roster, were: usize)
     queues.drop_empty();
 }
 
-// The goroutine of least ticket among those of the places that wait on the object with that side, and one
-// that comes after them.
+// The waiter with the smallest ticket among the goroutines of the places and `later`, which comes after
+// them.
 fn first_of(
     places: &[NumberedGoroutine],
     object: ObjectId,
@@ -197,7 +200,7 @@ fn first_of(
     best
 }
 
-/// The goroutine of least ticket among those that wait on the object with that side. It looks at all.
+/// Returns the first waiter of the object on this side, or `None`. It looks at all goroutines.
 pub fn first_waiter(blocks: &[Block], object: ObjectId, side: Side) -> Option<Waiting>
     ensures { result ≡ option_map waiting_of (first object.0 side (plain_entries (places_in blocks.now))) }
 {
@@ -210,8 +213,8 @@ pub fn first_waiter(blocks: &[Block], object: ObjectId, side: Side) -> Option<Wa
     best
 }
 
-/// The goroutine stands last in the queue for the mutex, with a ticket that nobody who waits there has. It
-/// answers whether all who wait for mutexes stand in the queue still: not if memory ran out.
+/// Puts the goroutine at the end of the wait queue of the mutex, with a ticket that no waiter there has.
+/// Returns whether the queues of mutexes still have all waiters, which is not so if memory ran out.
 pub fn enter_for_mutex(
     queues: &mut Queues,
     are_mutexes_enqueued: bool,
@@ -231,7 +234,7 @@ pub fn enter_for_mutex(
     }
 }
 
-// The first wait becomes one for the mutex, and the others are gone.
+// The first wait becomes a wait for the mutex, and the others are removed.
 fn move_waits(waits: &mut List<Wait>, mutex: ObjectId)
     ensures { waits.new ≡ moved_waits mutex.0 waits.old }
 {
@@ -248,7 +251,7 @@ fn move_waits(waits: &mut List<Wait>, mutex: ObjectId)
     }
 }
 
-/// A blocked goroutine waits for the mutex from now on, with this ticket.
+/// Lets a blocked goroutine wait for the mutex from now on, with this ticket.
 pub fn move_mode(mode: &mut Mode, mutex: ObjectId, with_ticket: u64)
     ensures { mode.new ≡ moved mutex.0 with_ticket mode.old }
 {

@@ -1,4 +1,7 @@
-//! Who is woken if all who wait on an object are, by the queues that they stand in.
+//! Wakes all waiters of an object, by the wait queues.
+//!
+//! An entry counts only if its goroutine still waits there. The last entry comes first, since it leaves its
+//! queue without a move of the others.
 
 ghost use Rattle.std.specs.Prelude.{◌≡◌, ◌≤◌, ◌^◌, false, true, Some};
 ghost use Rattle.golf_model.specs.Changes.{wake_all};
@@ -12,9 +15,9 @@ use crate::waking::Waking;
 use golf_base::ObjectId;
 use golf_data::Side;
 
-// All goroutines that wait on the object with that side go on, as far as they are woken.
+// Wakes all goroutines that wait on the object with that side, as far as `how` says.
 //
-// The last one comes first: it stands last in the queue, from where it is gone at no cost.
+// It begins with the last entry, which leaves the queue without a move of the others.
 fn wake_side(state: &mut State, object: ObjectId, side: Side, how: Waking)
     requires { has_queue false side ≡ true }
     ensures woken { HasWoken object.0 how state.old state.new }
@@ -29,7 +32,7 @@ fn wake_side(state: &mut State, object: ObjectId, side: Side, how: Waking)
     }
 }
 
-// How many readers of a reader and writer mutex have a ticket below this one.
+// How many readers of a reader and writer mutex wait with a ticket below this one.
 fn readers_before(state: &State, object: ObjectId, ticket: u64) -> usize
     ensures count { result ≡ readers_next (Some ticket) object.0 state.now.goroutines }
     ensures few { result ≤ 2 ^ 32 }
@@ -45,8 +48,8 @@ fn readers_before(state: &State, object: ObjectId, ticket: u64) -> usize
     count
 }
 
-/// How many readers of a reader and writer mutex are served: those with a ticket below this one, or
-/// all. It looks at those that stand in the queue there alone.
+/// Returns how many readers of a reader and writer mutex are served: those with a ticket below `below`, or
+/// all. It looks only at the wait queue there.
 pub fn readers_next(state: &State, object: ObjectId, below: Option<u64>) -> usize
     ensures count { result ≡ readers_next below object.0 state.now.goroutines }
     ensures few { result ≤ 2 ^ 32 }
@@ -58,8 +61,8 @@ pub fn readers_next(state: &State, object: ObjectId, below: Option<u64>) -> usiz
     readers_before(state, object, bound)
 }
 
-/// All goroutines that wait on the object go on, as far as they are woken. It looks at those that
-/// stand in the queue there alone.
+/// Wakes all goroutines that wait on the object, as far as `how` says. It looks only at the wait queues
+/// there.
 pub fn wake_all(state: &mut State, object: ObjectId, how: Waking)
     ensures { state.new ≡ wake_all object.0 (waking_of how) state.old }
 {

@@ -1,4 +1,7 @@
-//! Who is woken if all who wait on an object are.
+//! How each goroutine goes on when all waiters of an object are woken.
+//!
+//! Three events wake all waiters of an object: the close of a channel, a wait group at 0, and a reader and
+//! writer mutex that goes to its readers.
 
 ghost use Rattle.std.specs.Prelude.{◌≡◌};
 ghost use Rattle.golf_model.specs.Waiting.{wait_on};
@@ -12,19 +15,18 @@ use golf_base::{GoroutineId, ObjectId};
 use golf_data::{Fault, Goroutine, Mode, PanicKind, Side, Value, Wait};
 use golf_state_queues::Queues;
 
-/// What wakes all goroutines that wait on an object.
+/// The reason for which all waiters of an object are woken.
 #[derive(Clone, Copy, Debug, PartialEq, Eq)]
 pub enum Waking {
-    /// A channel was closed; its zero value.
+    /// A channel was closed. This is its zero value.
     Closing(Value),
-    /// A wait group is at zero.
+    /// The counter of a wait group is 0.
     AtZero,
-    /// A reader and writer mutex is handed to its readers: to those with a ticket below this one,
-    /// or to all.
+    /// A reader and writer mutex goes to its readers: to those with a ticket below this one, or to all.
     ToReaders(Option<u64>),
 }
 
-/// What a receive gives: the value, and whether it was sent if that is asked for.
+/// Returns the values that a receive gives: the value, and whether it was sent if `with_ok` asks for that.
 #[inline(always)]
 pub fn received(with_ok: bool, value: Value, sent: bool) -> Given
     ensures values { values_of result ≡ received with_ok value sent }
@@ -49,8 +51,8 @@ fn wait_on(waits: &[Wait], object: ObjectId) -> Option<Wait>
     None
 }
 
-// How a goroutine that blocked on this line goes on if the channel of its wait is closed: a
-// receiver gets the zero value, and a sender unwinds.
+// How a goroutine that blocked on this line goes on if its channel is closed: a receiver gets the zero
+// value, and a sender unwinds.
 fn wakening_by_close(zero: Value, wait: Wait, line: u32) -> Option<Wakening>
     ensures { result ≡ wakening_by_close zero wait line wait.side }
 {
@@ -77,7 +79,7 @@ fn is_below(below: Option<u64>, ticket: u64) -> bool
     }
 }
 
-// Goes on if there is a wait.
+// Goes on if there is a wait, and else not at all.
 fn released_by(wait: Option<Wait>) -> Option<Wakening>
     ensures { result ≡ released_where wait }
 {
@@ -87,7 +89,8 @@ fn released_by(wait: Option<Wait>) -> Option<Wakening>
     }
 }
 
-/// How a goroutine in this mode goes on, if it is woken.
+/// Returns how a goroutine in this mode goes on when all waiters of the object are woken, or `None` if it
+/// is not woken.
 pub fn wakening_of(mode: &Mode, object: ObjectId, how: Waking) -> Option<Wakening>
     ensures { result ≡ wakening_of mode.now object.0 how }
 {

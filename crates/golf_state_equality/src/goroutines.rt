@@ -1,4 +1,6 @@
 //! When two goroutines are the same: their frames, their modes and the lines where they were started.
+//!
+//! The room of a frame for further operands is not compared.
 
 ghost use Rattle.std.specs.Prelude.{◌≡◌, ◌↔◌, IsTrue};
 ghost use Rattle.golf_model.specs.Views.{goroutine_view};

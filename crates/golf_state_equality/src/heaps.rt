@@ -26,7 +26,7 @@ fn is_same_entry(heap: &Heap, other: &Heap, rank: u32) -> bool
     requires other_within { rank < length other.now.objects }
     ensures { IsTrue result ↔ (slice_get heap.now.objects rank ≡ slice_get other.now.objects rank) }
 {
-    // Asked for what they say of the numbers of objects.
+    // Each call gives the clause that the numbers rise and that none is above the last one.
     heap.count();
     other.count();
     let id = heap.at(rank);

@@ -54,7 +54,7 @@ pub fn is_same_channel(channel: &Channel, other: &Channel) -> bool
         && same_buffers(&channel.buffer, &other.buffer)
 }
 
-/// Returns whether both objects are of the same kind and hold the same.
+/// Returns whether both objects are of the same kind and have the same contents.
 pub fn is_same_object(object: &Object, other: &Object) -> bool
     ensures { IsTrue result ↔ (object.now ≡ other.now) }
 {

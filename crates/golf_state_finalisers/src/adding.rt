@@ -1,4 +1,4 @@
-//! Finalisers that are set.
+//! Sets finalisers.
 //!
 //! An object above all tops comes last: it begins a new block only if the last block is full. So blocks
 //! stay full while numbers rise. Any other object belongs to a block, which is split if it is full.

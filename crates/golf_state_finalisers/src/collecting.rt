@@ -1,4 +1,6 @@
-//! All finalisers, one block after another.
+//! Walks over all finalisers, one block after another.
+//!
+//! They are in rising order of their objects' numbers. Nothing here changes a finaliser.
 
 ghost use Rattle.std.specs.Prelude.{◌≡◌, ◌++◌, length, IfOk};
 ghost use Rattle.golf_heap.specs.Objects.{left_out};

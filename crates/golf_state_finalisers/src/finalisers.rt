@@ -1,4 +1,6 @@
 //! All finalisers of a running program.
+//!
+//! The invariant: the blocks are in order, no block is empty, and the count is that of all finalisers.
 
 ghost use Rattle.std.specs.Prelude.{◌≡◌, ◌==◌, [], None, not, length, IfOk, OnOk, OnErr};
 ghost use Rattle.golf_theory.specs.Maps.{find, insert, only};

@@ -1,4 +1,6 @@
 //! The finalisers of one block: objects and functions, in rising order of object.
+//!
+//! An object has at most one finaliser. A binary search finds it.
 
 ghost use Rattle.std.specs.Prelude.{◌≡◌, ◌==◌, None, not, OnOk, OnErr};
 ghost use Rattle.golf_theory.specs.Maps.{find, insert, only, Rises};

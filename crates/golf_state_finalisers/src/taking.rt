@@ -1,4 +1,4 @@
-//! Finalisers that are taken away.
+//! Removes finalisers.
 //!
 //! A block without a finaliser is removed at once. Nothing here takes memory.
 

@@ -1,4 +1,4 @@
--- The goroutines that are there, and what becomes of them.
+-- The model of a roster: the goroutines that are there, and how each operation changes them.
 use Rattle.std.specs.Prelude.{◌≡◌, ℕ, ◌<◌, ◌==◌, not, List, [], ◌∷◌, ◌++◌, filter, slice_set}
 use Rattle.golf_theory.specs.Stored.{placed, without}
 use Rattle.golf_data.specs.declared.goroutine.Goroutine.{Goroutine}
@@ -11,23 +11,23 @@ pub record Goroutines : Type 0 where
   pub places : List NumberedGoroutine
   pub running : List ℕ
 
--- one more, after the others, that runs
+-- adds a running goroutine after the others
 abbrev pub added : NumberedGoroutine → Goroutines → Goroutines
 added p r = record { places = r.places ++ p ∷ []; running = r.running ++ p.number ∷ [] }
 
--- without the goroutine of this number
+-- removes the goroutine of this number
 abbrev pub parted : ℕ → Goroutines → Goroutines
 parted g r = record { places = filter (λ p. not (p.number == g)) r.places; running = without g r.running }
 
--- the goroutine of this number runs no more
+-- removes the number from those that run
 abbrev pub stopped : ℕ → Goroutines → Goroutines
 stopped g r = record r { running = without g r.running }
 
--- the goroutine of this number runs
+-- adds the number to those that run
 abbrev pub started : ℕ → Goroutines → Goroutines
 started g r = record r { running = placed g r.running }
 
--- the goroutine of this number, which is there, becomes this one
+-- this goroutine replaces the one of this number, which is there
 abbrev pub changed : ℕ → Goroutine → Goroutines → Goroutines
 changed g x r = record r {
   places = slice_set r.places (rank g (plain_entries r.places))
@@ -39,7 +39,7 @@ abbrev pub AllUnder : ℕ → List ℕ → Type 0
 AllUnder n [] = Unit {0}
 AllUnder n (x ∷ xs) = (x < n) × AllUnder n xs
 
--- the number is none of these
+-- the number is not in the list
 abbrev pub IsNone : ℕ → List ℕ → Type 0
 IsNone g [] = Unit {0}
 IsNone g (x ∷ xs) = (x ≡ g → ⊥) × IsNone g xs

@@ -1,4 +1,4 @@
--- A roster in memory.
+-- A roster in memory, and its invariant.
 use Rattle.std.specs.Prelude.{◌≡◌, length}
 use Rattle.golf_state_goroutines.specs.Goroutines.{Goroutines}
 use Rattle.golf_state_goroutines.specs.Blocks.{AreBlocks, places_in, running_in}

@@ -1,4 +1,4 @@
--- What a roster is once a goroutine that it lent was changed.
+-- The roster after a goroutine that it lent was changed.
 use Rattle.std.specs.Prelude.{ℕ}
 use Rattle.std.specs.Borrow.{Lends, MutBor, Fml}
 use Rattle.golf_data.specs.declared.goroutine.Goroutine.{Goroutine}
@@ -6,6 +6,6 @@ use Rattle.golf_data.specs.contracts.goroutine.Goroutine.{the_row as goroutine_r
 use Rattle.golf_state_goroutines.specs.contracts.roster.Roster.{the_row as roster_row}
 use Rattle.golf_state_goroutines.specs.Goroutines.{Goroutines, changed}
 
--- the goroutine ends with its last value after the loan
+-- at the end of the loan the roster has the goroutine's last value
 abbrev pub LendsGoroutine : MutBor Goroutines → ℕ → MutBor Goroutine → Fml
 LendsGoroutine s g r = Lends roster_row goroutine_row s r (λ x. changed g x s.now)

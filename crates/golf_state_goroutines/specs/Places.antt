@@ -1,4 +1,4 @@
--- How the places of goroutines in memory stand for the map of the definitions.
+-- How the places of goroutines in memory map to the model: goroutine views by number.
 use Rattle.std.specs.Prelude.{ℕ, Bool, false, not, ◌==◌, ◌&&◌, List, [], ◌∷◌, map}
 use Rattle.golf_theory.specs.Maps.{keys_where}
 use Rattle.golf_model.specs.Views.{GoroutineView, goroutine_view}
@@ -16,7 +16,7 @@ plain_entries ps = map plain_entry ps
 abbrev pub running_of : List (ℕ × GoroutineView) → List ℕ
 running_of gs = keys_where (λ g r. is_running r.mode) gs
 
--- running, and without a frame
+-- the goroutine runs, and has no frame
 abbrev pub is_idle : GoroutineView → Bool
 is_idle r = is_running r.mode && not (not_empty r.frames)
 

@@ -3,7 +3,7 @@ use Rattle.std.specs.Prelude.{◌≡◌, ◌≤◌, ◌*◌, ◌+◌, ℕ, List,
 use Rattle.golf_state_goroutines.specs.Blocks.{runs_before}
 use Rattle.golf_state_goroutines.specs.declared.blocks.Block.{Block}
 
--- each sum is the difference of the counts before and behind its 64 blocks
+-- each sum is how many goroutines run in its 64 blocks: the difference of the counts before and behind them
 abbrev pub AreSums : (ℕ → ℕ) → List ℕ → Type 0
 AreSums before ns = (j : ℕ) → before (64 * j + 64) ≡ before (64 * j) + get_or ns j 0
 

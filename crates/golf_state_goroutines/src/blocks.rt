@@ -1,4 +1,7 @@
 //! Blocks of goroutines.
+//!
+//! A block has the goroutines of 256 successive numbers, as far as they are there. Its list of running
+//! goroutines has room for all 256, so a goroutine starts to run without memory.
 
 ghost use Rattle.std.specs.Prelude.{◌≡◌, ◌≤◌, ◌<◌, ◌+◌, ◌/◌, ◌++◌, ◌∷◌, [], ◌==◌, not, filter, length, IfSome, OnOk};
 ghost use Rattle.std.specs.Prelude.{OnErr};
@@ -14,8 +17,8 @@ use crate::rising::{add_last, leave_out, put_in};
 use golf_base::{GoroutineId, Memory};
 use golf_heap::close_up;
 
-/// The goroutines with numbers from 256 times the key on, as many as are there of 256, and those of them
-/// that run.
+/// The goroutines of the 256 numbers from 256 times the key on, as far as they are there, and the numbers
+/// of those that run.
 #[derive(Debug, Drop)]
 pub struct Block {
     pub key: u32,
@@ -23,7 +26,8 @@ pub struct Block {
     pub running: Vec<GoroutineId>,
 }
 
-/// The key as an index, if its block stands there, as it does if no block before it is gone.
+/// Returns the key as an index if the block of this key is at that index, or `None`. It is there if no
+/// block before it is gone.
 #[inline(always)]
 pub fn index_of(blocks: &[Block], key: u32) -> Option<usize>
     requires { AreBlocks 0 blocks.now }
@@ -37,7 +41,7 @@ pub fn index_of(blocks: &[Block], key: u32) -> Option<usize>
     }
 }
 
-/// How many blocks have a smaller key.
+/// Returns how many blocks have a smaller key.
 #[inline(always)]
 pub fn block_of(blocks: &[Block], key: u32) -> usize
     requires { AreBlocks 0 blocks.now }
@@ -49,7 +53,8 @@ pub fn block_of(blocks: &[Block], key: u32) -> usize
     }
 }
 
-/// The goroutine of this number is gone from the block, if it is there. The answer is how many are gone.
+/// Removes the goroutine of this number from the block, if it is there. Returns how many goroutines it
+/// removed.
 pub fn part(block: &mut Block, number: u32) -> usize
     requires block { IsBlock block.old }
     requires key { number / 256 ≤ block.old.key }
@@ -64,7 +69,8 @@ pub fn part(block: &mut Block, number: u32) -> usize
     before - block.places.len()
 }
 
-/// The goroutine of this number runs no more, if it does. The answer is how many run no more.
+/// Removes this number from the list of running goroutines, if it is there. Returns how many numbers it
+/// removed.
 #[inline(always)]
 pub fn stop(block: &mut Block, number: u32) -> usize
     requires { IsBlock block.old }
@@ -79,7 +85,7 @@ pub fn stop(block: &mut Block, number: u32) -> usize
     before - block.running.len()
 }
 
-/// The goroutine of this number, which belongs to the block, runs. It takes no memory.
+/// Adds this number, which belongs to the block, to the list of running goroutines. It takes no memory.
 #[inline(always)]
 pub fn start(block: &mut Block, number: u32)
     requires block { IsBlock block.old }
@@ -94,7 +100,7 @@ pub fn start(block: &mut Block, number: u32)
     put_in(&mut block.running, GoroutineId(number));
 }
 
-/// One goroutine more, after the others of the block, that runs.
+/// Adds a running goroutine after the others of the block. On `Err` the block is unchanged.
 pub fn join(block: &mut Block, place: NumberedGoroutine) -> Result<(), Memory>
     requires block { IsBlock block.old }
     requires key { place.number / 256 ≡ block.old.key }
@@ -113,8 +119,8 @@ pub fn join(block: &mut Block, place: NumberedGoroutine) -> Result<(), Memory>
     Ok(())
 }
 
-/// Keeps the goroutines of the block whose flag is true, and lists those of them that run anew. It takes
-/// no memory.
+/// Keeps the goroutines of the block whose flag is true, and makes the list of running goroutines anew. It
+/// takes no memory.
 pub fn retain_in(block: &mut Block, stays: &[bool])
     requires block { IsBlock block.old }
     requires flags { length stays.now ≡ length block.old.places.items }

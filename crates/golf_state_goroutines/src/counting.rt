@@ -1,4 +1,6 @@
-//! How many goroutines there are, and how many run, by blocks.
+//! Counts of goroutines by blocks: all of them, and those that run.
+//!
+//! The roster keeps a sum for each 64 blocks. So a search skips 64 blocks with one look.
 
 ghost use Rattle.std.specs.Prelude.{◌≡◌, ◌≤◌, ◌*◌, ℕ, length, get_or};
 ghost use Rattle.golf_state_goroutines.specs.Blocks.{AreBlocks, places_in, running_in};
@@ -6,7 +8,7 @@ ghost use Rattle.golf_state_goroutines.specs.Sums.{HasSums};
 
 use crate::blocks::Block;
 
-// All sums are 0.
+// Sets all sums to 0.
 fn clear(sums: &mut Vec<usize>)
     ensures zero { (k : ℕ) → get_or sums.new.items k 0 ≡ 0 }
     ensures len { length sums.new.items ≡ length sums.old.items }
@@ -16,7 +18,7 @@ fn clear(sums: &mut Vec<usize>)
     }
 }
 
-/// Sums up anew how many goroutines run in each 64 blocks. It takes no memory.
+/// Counts anew how many goroutines run in each 64 blocks. It takes no memory.
 pub fn recount(blocks: &[Block], sums: &mut Vec<usize>)
     requires blocks { AreBlocks 0 blocks.now }
     requires enough { length blocks.now ≤ 64 * length sums.old.items }
@@ -28,7 +30,7 @@ pub fn recount(blocks: &[Block], sums: &mut Vec<usize>)
     }
 }
 
-/// How many goroutines run.
+/// Returns how many goroutines run.
 pub fn count_running(blocks: &[Block]) -> usize
     requires { AreBlocks 0 blocks.now }
     ensures { result ≡ length (running_in blocks.now) }
@@ -40,7 +42,7 @@ pub fn count_running(blocks: &[Block]) -> usize
     count
 }
 
-/// How many goroutines there are.
+/// Returns how many goroutines there are.
 pub fn count_places(blocks: &[Block]) -> usize
     requires { AreBlocks 0 blocks.now }
     ensures { result ≡ length (places_in blocks.now) }

@@ -1,4 +1,7 @@
-//! Goroutines by number.
+//! Finds goroutines by number.
+//!
+//! A search looks first at the place that the goroutine has if no block and no goroutine before it is gone.
+//! If that fails, two binary searches find it.
 
 ghost use Rattle.std.specs.Prelude.{◌≡◌, Some, IfSome, option_map};
 ghost use Rattle.golf_theory.specs.Maps.{find};
@@ -10,7 +13,7 @@ use crate::blocks::{Block, block_of, index_of};
 use crate::places::{index_in, rank_of};
 use golf_data::Goroutine;
 
-// The place of a number, if no block before its own is gone, and nothing before it there.
+// The place of a number, if its block is at the index of its key and it is at its index in the block.
 #[inline(always)]
 fn near_place(blocks: &[Block], number: u32) -> Option<(usize, usize)>
     requires { AreBlocks 0 blocks.now }
@@ -34,7 +37,8 @@ fn far_place(blocks: &[Block], number: u32) -> (usize, usize)
     }
 }
 
-/// The place of a number: how many blocks stand before its own, and how many goroutines before it there.
+/// Returns the place of a number: how many blocks are before its own, and how many goroutines before it in
+/// that block.
 #[inline(always)]
 pub fn place_in(blocks: &[Block], number: u32) -> (usize, usize)
     requires { AreBlocks 0 blocks.now }
@@ -46,8 +50,7 @@ pub fn place_in(blocks: &[Block], number: u32) -> (usize, usize)
     }
 }
 
-// The goroutine of a number, if it is there, and no block before its own is gone, and nobody before it
-// there.
+// The goroutine of a number, if `near_place` finds its place.
 #[inline(always)]
 fn near_goroutine(blocks: &[Block], number: u32) -> Option<&Goroutine>
     requires { AreBlocks 0 blocks.now }
@@ -63,7 +66,7 @@ fn near_goroutine(blocks: &[Block], number: u32) -> Option<&Goroutine>
     }
 }
 
-// The goroutine of a number, if it is there, by binary searches.
+// The goroutine of a number, found by two binary searches, or `None`.
 fn far_goroutine(blocks: &[Block], number: u32) -> Option<&Goroutine>
     requires { AreBlocks 0 blocks.now }
     ensures { option_map (λ r. goroutine_view r.now) result ≡ find number (plain_entries (places_in blocks.now)) }
@@ -78,7 +81,7 @@ fn far_goroutine(blocks: &[Block], number: u32) -> Option<&Goroutine>
     }
 }
 
-/// The goroutine of a number, if it is there.
+/// Returns the goroutine of a number, or `None`.
 #[inline(always)]
 pub fn goroutine_in(blocks: &[Block], number: u32) -> Option<&Goroutine>
     requires { AreBlocks 0 blocks.now }

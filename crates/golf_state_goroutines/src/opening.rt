@@ -1,4 +1,7 @@
-//! Blocks that are made, and blocks that nothing stands in any more.
+//! Adds blocks, and removes blocks without a goroutine.
+//!
+//! A block is added only at the end, for a number above all others. Blocks without a goroutine stay until a
+//! block is added or goroutines are removed in one batch.
 
 ghost use Rattle.std.specs.Prelude.{◌≡◌, ◌≤◌, ◌<◌, ◌+◌, ◌-◌, ◌*◌, ◌^◌, true, length, slice_get, OnOk};
 ghost use Rattle.golf_theory.specs.Maps.{AllBelow};
@@ -12,7 +15,7 @@ use crate::blocks::Block;
 use crate::counting::recount;
 use golf_base::Memory;
 
-// Whether a goroutine stands in the block.
+// Whether the block has a goroutine.
 fn is_full(block: &Block) -> bool
     ensures { result ≡ is_full block.now }
 {
@@ -29,7 +32,7 @@ fn ends_with(blocks: &[Block], key: u32) -> bool
     }
 }
 
-/// Blocks in which nothing stands are gone, and the sums are made anew. It takes no memory.
+/// Removes the blocks without a goroutine, and makes the sums anew. It takes no memory.
 pub fn close_blocks(blocks: &mut Vec<Block>, sums: &mut Vec<usize>)
     requires blocks { AreBlocks 0 blocks.old.items }
     requires enough { length blocks.old.items ≤ 64 * length sums.old.items }
@@ -43,7 +46,7 @@ pub fn close_blocks(blocks: &mut Vec<Block>, sums: &mut Vec<usize>)
     recount(blocks.as_slice(), sums);
 }
 
-// There are sums enough for one block more.
+// Makes room in the sums for one more block.
 fn make_sum(blocks: &[Block], sums: &mut Vec<usize>) -> Result<(), Memory>
     requires { HasSums blocks.now sums.old.items }
     ensures sums { HasSums blocks.now sums.new.items }
@@ -55,7 +58,7 @@ fn make_sum(blocks: &[Block], sums: &mut Vec<usize>) -> Result<(), Memory>
     Ok(())
 }
 
-// One block more, after the others, in which nothing stands.
+// Adds a block without a goroutine after the others.
 fn add_block(blocks: &mut Vec<Block>, sums: &mut Vec<usize>, key: u32) -> Result<(), Memory>
     requires blocks { AreBlocks 0 blocks.old.items }
     requires below { AllBelow key (keyed_blocks blocks.old.items) }
@@ -78,7 +81,8 @@ fn add_block(blocks: &mut Vec<Block>, sums: &mut Vec<usize>, key: u32) -> Result
     Ok(())
 }
 
-/// The last block becomes the one of this key, which no number is above.
+/// Makes the block of this key the last one. No number is above that block. On `Err` the goroutines are
+/// unchanged.
 pub fn open(blocks: &mut Vec<Block>, sums: &mut Vec<usize>, key: u32) -> Result<(), Memory>
     requires blocks { AreBlocks 0 blocks.old.items }
     requires below { AllBelow (key * 256 + 256) (plain_entries (places_in blocks.old.items)) }

@@ -1,4 +1,7 @@
-//! The goroutines of one block by number.
+//! The goroutines of one block, in rising order of number.
+//!
+//! A place has the number of a goroutine, and a box with the goroutine. A search looks first at the index
+//! that the number has if none before it has ended.
 
 ghost use Rattle.std.specs.Prelude.{◌≡◌, ◌≤◌, ◌*◌, ◌/◌, ◌++◌, ◌==◌, not, filter, map, length, vec_capacity, IfOk};
 ghost use Rattle.std.specs.Prelude.{IfSome};
@@ -14,14 +17,15 @@ use golf_base::{Boxed, GoroutineId, List, Memory};
 use golf_data::{Frame, Goroutine, Mode};
 use std::alloc::Global;
 
-/// A goroutine and its number. It is small, so that little is moved when one before it ends.
+/// A goroutine and its number. It is small, so a removal before it moves few bytes.
 #[derive(Debug, Drop)]
 pub struct NumberedGoroutine {
     pub number: u32,
     pub goroutine: Boxed<Goroutine>,
 }
 
-/// The place of a goroutine of this number that runs with these frames, started at this line.
+/// Returns a running goroutine of this number, with these frames, started at this line. The only error is
+/// `Memory`.
 pub fn place_of(
     alloc: Global,
     number: u32,
@@ -41,8 +45,8 @@ pub fn place_of(
     })
 }
 
-/// The index at which the goroutine of this number stands if none before it in its block has ended,
-/// and if it does.
+/// Returns the index of the goroutine of this number if no goroutine before it in its block has ended, or
+/// `None`.
 #[inline(always)]
 pub fn index_in(places: &[NumberedGoroutine], number: u32) -> Option<usize>
     requires { Rises (number / 256 * 256) (plain_entries places.now) }
@@ -57,7 +61,7 @@ pub fn index_in(places: &[NumberedGoroutine], number: u32) -> Option<usize>
     }
 }
 
-/// How many places have a smaller number.
+/// Returns how many goroutines of the block have a smaller number.
 #[inline(always)]
 pub fn rank_of(places: &[NumberedGoroutine], number: u32) -> usize
     requires { Rises (number / 256 * 256) (plain_entries places.now) }
@@ -69,7 +73,7 @@ pub fn rank_of(places: &[NumberedGoroutine], number: u32) -> usize
     }
 }
 
-/// The goroutine of this number is gone, if it is there.
+/// Removes the goroutine of this number, if it is there.
 pub fn take_place(places: &mut Vec<NumberedGoroutine>, number: u32)
     requires { Rises (number / 256 * 256) (plain_entries places.old.items) }
     ensures { places.new.items ≡ filter (λ p. not (p.number == number)) places.old.items }
@@ -80,7 +84,7 @@ pub fn take_place(places: &mut Vec<NumberedGoroutine>, number: u32)
     }
 }
 
-/// Whether a goroutine in this mode runs.
+/// Returns whether a goroutine in this mode runs.
 #[inline(always)]
 pub fn is_running(mode: &Mode) -> bool
     ensures { result ≡ is_running mode.now }
@@ -91,7 +95,8 @@ pub fn is_running(mode: &Mode) -> bool
     }
 }
 
-/// The goroutines that run, in rising order, in a list that has room for all.
+/// Puts the numbers of the running goroutines into the list, in rising order, instead of its old contents.
+/// The list has room for all of them.
 pub fn list_running(places: &[NumberedGoroutine], running: &mut Vec<GoroutineId>)
     requires { length places.now ≤ vec_capacity running.old }
     ensures running { map (λ g. g.0) running.new.items ≡ running_of (plain_entries places.now) }
@@ -105,7 +110,7 @@ pub fn list_running(places: &[NumberedGoroutine], running: &mut Vec<GoroutineId>
     }
 }
 
-/// Adds the numbers of the places after the others.
+/// Adds the numbers of these goroutines at the end of the list.
 pub fn add_numbers(list: &mut List<GoroutineId>, places: &[NumberedGoroutine]) -> Result<(), Memory>
     ensures { IfOk result (λ u. map (λ g. g.0) list.new ≡ map (λ g. g.0) list.old ++ keys (plain_entries places.now)) }
 {

@@ -1,4 +1,7 @@
-//! Goroutines that are taken away together.
+//! Removes goroutines in one batch.
+//!
+//! The flags are for all goroutines, in rising order of number. Blocks that become empty stay; `opening`
+//! removes them.
 
 ghost use Rattle.std.specs.Prelude.{◌≡◌, length};
 ghost use Rattle.golf_heap.specs.Objects.{kept};
@@ -7,8 +10,8 @@ ghost use Rattle.golf_state_goroutines.specs.Blocks.{AreBlocks, places_in, runni
 
 use crate::blocks::{Block, retain_in};
 
-/// Keeps the goroutines whose flag, in rising order of number, is true, and lists those that run anew. It
-/// takes no memory.
+/// Keeps the goroutines whose flag is true, and makes the lists of running goroutines anew. The flags are
+/// in rising order of number. It takes no memory.
 pub fn retain_places(blocks: &mut Vec<Block>, stays: &[bool])
     requires blocks { AreBlocks 0 blocks.old.items }
     requires flags { length stays.now ≡ length (places_in blocks.old.items) }

@@ -1,4 +1,6 @@
-//! Goroutines in rising order of number.
+//! Lists of goroutine numbers in rising order. Nothing here takes memory.
+//!
+//! Such a list has the running goroutines of a block. It has room for all of them beforehand.
 
 ghost use Rattle.std.specs.Prelude.{◌≡◌, ◌<◌, ◌≤◌, ◌+◌, ◌∷◌, ◌++◌, [], map, vec_len, vec_capacity, length, insert};
 ghost use Rattle.std.specs.Prelude.{remove};
@@ -7,7 +9,7 @@ ghost use Rattle.golf_state_goroutines.specs.Rising.{RisesFrom, leading};
 
 use golf_base::GoroutineId;
 
-// How many goroutines stand before the first whose number is not below the bound.
+// How many numbers come before the first one that is not below the bound.
 #[inline(always)]
 fn leading(goroutines: &[GoroutineId], bound: u64) -> usize
     requires { RisesFrom 0 (map (λ h. h.0) goroutines.now) }
@@ -17,7 +19,7 @@ fn leading(goroutines: &[GoroutineId], bound: u64) -> usize
     goroutines.partition_point(|other| u64::from(other.0) < bound)
 }
 
-// Takes out the one at a place. Nothing is moved if it is the last.
+// Removes the number at a place. If it is the last, nothing is moved.
 #[inline(always)]
 fn take_out(goroutines: &mut Vec<GoroutineId>, at: usize)
     requires { at < length goroutines.old.items }
@@ -31,7 +33,7 @@ fn take_out(goroutines: &mut Vec<GoroutineId>, at: usize)
     }
 }
 
-/// Takes a goroutine out, if it is one of them.
+/// Removes this number, if it is in the list.
 #[inline(always)]
 pub fn leave_out(goroutines: &mut Vec<GoroutineId>, g: GoroutineId)
     requires { RisesFrom 0 (map (λ h. h.0) goroutines.old.items) }
@@ -44,7 +46,7 @@ pub fn leave_out(goroutines: &mut Vec<GoroutineId>, g: GoroutineId)
     }
 }
 
-// Puts a goroutine at a place, for which there is room. Nothing is moved if it comes last.
+// Puts a number at a place. The list has room for it. If the place is the end, nothing is moved.
 #[inline(always)]
 fn put_at(goroutines: &mut Vec<GoroutineId>, at: usize, g: GoroutineId)
     requires room { vec_len goroutines.old < vec_capacity goroutines.old }
@@ -59,7 +61,7 @@ fn put_at(goroutines: &mut Vec<GoroutineId>, at: usize, g: GoroutineId)
     }
 }
 
-/// Puts a goroutine at its place, for which there is room.
+/// Puts a number at its place in the order. The list has room for it.
 #[inline(always)]
 pub fn put_in(goroutines: &mut Vec<GoroutineId>, g: GoroutineId)
     requires room { vec_len goroutines.old < vec_capacity goroutines.old }
@@ -71,7 +73,7 @@ pub fn put_in(goroutines: &mut Vec<GoroutineId>, g: GoroutineId)
     put_at(goroutines, at, g);
 }
 
-/// Adds a goroutine at the end, for which there is room.
+/// Adds a number at the end. The list has room for it.
 pub fn add_last(goroutines: &mut Vec<GoroutineId>, g: GoroutineId)
     requires { vec_len goroutines.old < vec_capacity goroutines.old }
     ensures all { map (λ h. h.0) goroutines.new.items ≡ map (λ h. h.0) goroutines.old.items ++ g.0 ∷ [] }

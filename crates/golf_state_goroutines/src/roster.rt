@@ -1,4 +1,6 @@
 //! All goroutines of a running program.
+//!
+//! The invariant: the blocks are in order, and the sums and the two counts are those of the blocks.
 
 ghost use Rattle.std.specs.Prelude.{◌≡◌, [], ◌==◌, not, filter, map, length, IfOk, IsSome, Some, OnOk, OnErr, is_some};
 ghost use Rattle.std.specs.Prelude.{option_map, slice_get};
@@ -25,7 +27,8 @@ use std::marker::Model;
 
 /// All goroutines in rising order of number, and the numbers of those that run in rising order.
 ///
-/// Goroutines stand in blocks by number. Of 64 blocks each it keeps how many goroutines run there.
+/// The goroutines are in blocks by number. For each 64 blocks the roster keeps how many goroutines run
+/// there.
 #[derive(Debug, Drop)]
 pub struct Roster {
     blocks: Vec<Block>,
@@ -47,7 +50,7 @@ impl Model for Roster {
 }
 
 impl Roster {
-    /// No goroutine. It takes no memory.
+    /// Returns the roster without a goroutine. It takes no memory.
     pub fn new(alloc: Global) -> Roster
         ensures { result ≡ record { places = []; running = [] } }
     {
@@ -59,14 +62,14 @@ impl Roster {
         }
     }
 
-    /// How many goroutines there are.
+    /// Returns how many goroutines there are.
     pub fn count(&self) -> usize
         ensures { result ≡ length self.now.places }
     {
         self.count
     }
 
-    /// How many goroutines run.
+    /// Returns how many goroutines run.
     #[inline(always)]
     pub fn running_count(&self) -> usize
         ensures { result ≡ length self.now.running }
@@ -74,7 +77,7 @@ impl Roster {
         self.runs
     }
 
-    /// The goroutine at this place among those that run.
+    /// Returns the goroutine at this place among those that run, or `None`.
     #[inline(always)]
     pub fn running_at(&self, k: usize) -> Option<GoroutineId>
         ensures { option_map (λ g. g.0) result ≡ slice_get self.now.running k }
@@ -87,7 +90,7 @@ impl Roster {
         running_at(self.blocks.as_slice(), self.sums.as_slice(), k)
     }
 
-    /// The goroutine of this number, if it is there.
+    /// Returns the goroutine of this number, or `None`.
     #[inline(always)]
     pub fn get(&self, number: u32) -> Option<&Goroutine>
         ensures { option_map (λ r. goroutine_view r.now) result ≡ find number (plain_entries self.now.places) }
@@ -95,7 +98,7 @@ impl Roster {
         goroutine_in(self.blocks.as_slice(), number)
     }
 
-    /// Whether the goroutine of this number is there.
+    /// Returns whether there is a goroutine of this number.
     #[inline(always)]
     pub fn has(&self, number: u32) -> bool
         ensures { result ≡ is_some (find number (plain_entries self.now.places)) }
@@ -103,7 +106,7 @@ impl Roster {
         self.get(number).is_some()
     }
 
-    /// Lends the goroutine of this number, to be changed.
+    /// Lends the goroutine of this number, which the caller may change.
     #[inline(always)]
     pub fn get_mut(&mut self, number: u32) -> &mut Goroutine
         requires { IsSome (find number (plain_entries self.old.places)) }
@@ -116,21 +119,21 @@ impl Roster {
         place.goroutine.get_mut()
     }
 
-    /// The blocks in which the goroutines stand, in rising order of number.
+    /// Returns the blocks of the goroutines, in rising order of number.
     pub fn blocks(&self) -> &[Block]
         ensures { places_in result.now ≡ self.now.places }
     {
         self.blocks.as_slice()
     }
 
-    /// The numbers of all goroutines in rising order.
+    /// Returns the numbers of all goroutines in rising order. The only error is `Memory`.
     pub fn numbers(&self, alloc: Global) -> Result<List<GoroutineId>, Memory>
         ensures { IfOk result (λ gs. map (λ g. g.0) gs ≡ keys (plain_entries self.now.places)) }
     {
         numbers(alloc, self.blocks.as_slice())
     }
 
-    /// One goroutine more, of a number above all others, that runs.
+    /// Adds a running goroutine, whose number is above all others. On `Err` the roster is unchanged.
     pub fn add(&mut self, place: NumberedGoroutine) -> Result<(), Memory>
         requires below { AllBelow place.number (plain_entries self.old.places) }
         requires under { AllUnder place.number self.old.running }
@@ -146,7 +149,8 @@ impl Roster {
         Ok(())
     }
 
-    /// The goroutine of this number is gone, if it is there, and runs no more. It takes no memory.
+    /// Removes the goroutine of this number, if it is there, also from the list of those that run. It takes
+    /// no memory.
     pub fn take(&mut self, number: u32)
         ensures { self.new ≡ parted number self.old }
     {
@@ -154,7 +158,7 @@ impl Roster {
         self.stop_running(number);
     }
 
-    // The goroutine of this number is gone from its place, if it is there.
+    // Removes the goroutine of this number from its place, if it is there.
     fn take_place(&mut self, number: u32)
         ensures { self.new ≡ record self.old { places = filter (λ p. not (p.number == number)) self.old.places } }
     {
@@ -166,7 +170,7 @@ impl Roster {
         self.count -= gone;
     }
 
-    /// The goroutine of this number runs no more, if it does. It takes no memory.
+    /// Removes this number from the list of running goroutines, if it is there. It takes no memory.
     #[inline(always)]
     pub fn stop_running(&mut self, number: u32)
         ensures { self.new ≡ stopped number self.old }
@@ -180,7 +184,8 @@ impl Roster {
         self.runs -= gone;
     }
 
-    /// The goroutine of this number, which is there and does not run, runs. It takes no memory.
+    /// Adds this number to the list of running goroutines. The goroutine is there, and is not in that list.
+    /// It takes no memory.
     #[inline(always)]
     pub fn start_running(&mut self, number: u32)
         requires there { IsSome (find number (plain_entries self.old.places)) }
@@ -193,8 +198,8 @@ impl Roster {
         self.runs += 1;
     }
 
-    /// Keeps the goroutines whose flag, in rising order of number, is true. Those of them run that are not
-    /// blocked. It takes no memory.
+    /// Keeps the goroutines whose flag is true. The flags are in rising order of number. Afterwards those
+    /// that are not blocked run. It takes no memory.
     pub fn retain(&mut self, stays: &[bool])
         requires { length stays.now ≡ length self.old.places }
         ensures places { self.new.places ≡ kept stays.now self.old.places }

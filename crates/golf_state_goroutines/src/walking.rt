@@ -1,4 +1,6 @@
-//! Goroutines by their place among those that run, and all of them one after another.
+//! Walks over the blocks: to the k-th goroutine that runs, and over all numbers.
+//!
+//! The sums of 64 blocks each make the way to the k-th goroutine short.
 
 ghost use Rattle.std.specs.Prelude.{◌≡◌, ◌+◌, map, option_map, slice_get, IfOk};
 ghost use Rattle.golf_theory.specs.Maps.{keys};
@@ -11,7 +13,7 @@ use crate::places::add_numbers;
 use golf_base::{GoroutineId, List, Memory};
 use std::alloc::Global;
 
-// The one at this place among those that run in the blocks from one on.
+// The goroutine at this place among those that run, counted from the block at `start`.
 fn running_from(blocks: &[Block], start: usize, k: usize) -> Option<GoroutineId>
     ensures { option_map (λ g. g.0) result ≡ slice_get (running_in blocks.now) (runs_before blocks.now start + k) }
 {
@@ -26,8 +28,8 @@ fn running_from(blocks: &[Block], start: usize, k: usize) -> Option<GoroutineId>
     None
 }
 
-/// The goroutine at this place among those that run. It looks at the sums of 64 blocks each, and then
-/// at at most 64 blocks.
+/// Returns the goroutine at this place among those that run, or `None`. It looks at one sum for each 64
+/// blocks, and then at no more than 64 blocks.
 pub fn running_at(blocks: &[Block], sums: &[usize], k: usize) -> Option<GoroutineId>
     requires { HasSums blocks.now sums.now }
     ensures { option_map (λ g. g.0) result ≡ slice_get (running_in blocks.now) k }
@@ -42,7 +44,7 @@ pub fn running_at(blocks: &[Block], sums: &[usize], k: usize) -> Option<Goroutin
     None
 }
 
-/// The numbers of all goroutines in rising order.
+/// Returns the numbers of all goroutines in rising order. The only error is `Memory`.
 pub fn numbers(alloc: Global, blocks: &[Block]) -> Result<List<GoroutineId>, Memory>
     ensures { IfOk result (λ gs. map (λ g. g.0) gs ≡ keys (plain_entries (places_in blocks.now))) }
 {

@@ -1,4 +1,4 @@
--- Queues of goroutines that wait, by object and side.
+-- The model of the wait queues: for each object and side the goroutines that wait, by ticket.
 use Rattle.std.specs.Prelude.{◌≡◌, ℕ, ◌+◌, ◌*◌, ◌<◌, ◌≤◌, Bool, true, false, cond, not, ◌&&◌, List, [], ◌∷◌, map}
 use Rattle.std.specs.Prelude.{filter, Option, Some, None, ◌==◌}
 use Rattle.golf_theory.specs.Maps.{Entry, find, Rises, AllBelow}
@@ -15,7 +15,7 @@ abbrev pub held : List TicketHolder → List (ℕ × ℕ)
 held [] = []
 held (h ∷ hs) = cond h.is_gone (held hs) ((h.ticket, h.goroutine.0) ∷ held hs)
 
--- queues stand in rising order of object, and those of an object by their sides
+-- the key of a queue: queues are in rising order of object, and those of one object in the order of their sides
 abbrev pub key : ℕ → Side → ℕ
 key o side = o * 7 + side_number side
 
@@ -33,20 +33,20 @@ wait_queue_in (Some es) = es
 abbrev pub wait_queue_at : ℕ → WaitQueues → List (ℕ × ℕ)
 wait_queue_at k ls = wait_queue_in (find k ls)
 
--- whether anyone stands in a queue
+-- whether the queue has a waiter
 abbrev pub has_anyone : List (ℕ × ℕ) → Bool
 has_anyone [] = false
 has_anyone (e ∷ es) = true
 
--- the queues in which someone stands
+-- the queues that have a waiter
 abbrev pub standing : WaitQueues → WaitQueues
 standing ls = filter (λ e. has_anyone e.1) ls
 
--- the goroutines of a queue that are among these
+-- the waiters of a queue whose goroutine is in the list
 abbrev pub among : List ℕ → List (ℕ × ℕ) → List (ℕ × ℕ)
 among gs es = filter (λ e. is_in e.1 gs) es
 
--- the queues, of each those who are among these
+-- the queues, each with only the waiters whose goroutine is in the list
 abbrev pub narrowed : List ℕ → WaitQueues → WaitQueues
 narrowed gs ls = map (λ e. (e.0, among gs e.1)) ls
 
@@ -62,21 +62,21 @@ has_key k (Some e) = e.0 == k
 abbrev pub AreBelow : ℕ → WaitQueues → Type 0
 AreBelow n ls = (k : ℕ) → AllBelow n (wait_queue_at k ls)
 
--- the last of a queue whose ticket is below this one; nobody if all tickets are later ones
+-- the last waiter of a queue whose ticket is below this one; `None` if all tickets are this one or later
 abbrev pub IsLastBefore : ℕ → List (ℕ × ℕ) → Option TicketHolder → Type 0
 IsLastBefore t es None = (u g : ℕ) → Entry es u g → t ≤ u
 IsLastBefore t es (Some h) = Entry es h.ticket h.goroutine.0 × (h.ticket < t)
     × ((u g : ℕ) → Entry es u g → u < t → u ≤ h.ticket)
 
--- those of a queue who pass the test stand there still
+-- each waiter of the queue that passes the test is still in it
 abbrev pub KeepsIn : (ℕ → ℕ → Type 0) → List (ℕ × ℕ) → List (ℕ × ℕ) → Type 0
 KeepsIn P old new = (t g : ℕ) → P t g → Entry old t g → Entry new t g
 
--- in each queue
+-- each waiter of each queue that passes the test is still in its queue
 abbrev pub Keeps : (ℕ → ℕ → Type 0) → WaitQueues → WaitQueues → Type 0
 Keeps P old new = (k : ℕ) → KeepsIn P (wait_queue_at k old) (wait_queue_at k new)
 
--- whether this one of a queue is the goroutine with this ticket
+-- whether this waiter is the goroutine with this ticket
 abbrev pub is_holder : ℕ → ℕ → ℕ × ℕ → Bool
 is_holder t g h = (h.1 == g) && (h.0 == t)
 
@@ -89,11 +89,11 @@ is_held_in t g (Some h) = not h.is_gone && is_holder t g (h.ticket, h.goroutine.
 abbrev pub parted : ℕ → ℕ → List (ℕ × ℕ) → List (ℕ × ℕ)
 parted t g es = filter (λ h. not (is_holder t g h)) es
 
--- those who pass the test for the key of their queue are gone; all others stand where they stood, in the same order
+-- The waiters that pass the test for the key of their queue are removed. All others keep their order.
 abbrev pub IsWithout : (ℕ → ℕ × ℕ → Bool) → WaitQueues → WaitQueues → Type 0
 IsWithout gone old new = (k : ℕ) → wait_queue_at k new ≡ filter (λ h. not (gone k h)) (wait_queue_at k old)
 
--- whether one in the queue of key k is the goroutine with this ticket, and k one of these keys
+-- whether the waiter in the queue of key k is the goroutine with this ticket, and k is one of these keys
 abbrev pub leaves : ℕ → ℕ → List ℕ → ℕ → ℕ × ℕ → Bool
 leaves t g ks k h = is_in k ks && is_holder t g h
 
@@ -101,16 +101,16 @@ leaves t g ks k h = is_in k ks && is_holder t g h
 abbrev pub keys_of : List Wait → List ℕ
 keys_of ws = map (λ w. key w.object.0 w.side) ws
 
--- whoever stands in the queue, but this goroutine with this ticket, stood in it before
+-- each waiter in the queue, except for this goroutine with this ticket, was in it before
 abbrev pub AddsOnlyIn : ℕ → ℕ → List (ℕ × ℕ) → List (ℕ × ℕ) → Type 0
 AddsOnlyIn t g old new = (u h : ℕ) → is_holder t g (u, h) ≡ false → Entry new u h → Entry old u h
 
--- whoever stands in a queue, but this goroutine with this ticket in the queues of these keys, stood in it before
+-- each waiter in a queue was in it before, except for this goroutine with this ticket in the queues of these keys
 abbrev pub AddsOnly : ℕ → ℕ → List ℕ → WaitQueues → WaitQueues → Type 0
 AddsOnly t g ks old new = (k u h : ℕ) → leaves t g ks k (u, h) ≡ false → Entry (wait_queue_at k new) u h
     → Entry (wait_queue_at k old) u h
 
--- the goroutine stands in the queue of the wait
+-- the goroutine is in the queue of the wait
 abbrev pub StandsIn : ℕ → ℕ → Wait → WaitQueues → Type 0
 StandsIn t g w ls = Entry (wait_queue_at (key w.object.0 w.side) ls) t g
 

@@ -26,7 +26,7 @@ pub struct TicketHolder {
     pub is_gone: bool,
 }
 
-// How many have a smaller ticket.
+// How many entries have a smaller ticket.
 #[inline(always)]
 fn rank_of(holders: &[TicketHolder], ticket: u64) -> usize
     requires { Rises 0 (spots holders.now) }
@@ -63,7 +63,8 @@ pub fn end_of(holders: &[TicketHolder]) -> usize
     end
 }
 
-/// The goroutine is last in the queue, with a ticket that no goroutine that waits there has.
+/// Puts the goroutine at the end of the queue. No waiter in the queue has this ticket. On `Err` every
+/// waiter with a smaller ticket is still in the queue.
 #[inline(always)]
 pub fn join(holders: &mut Line, ticket: u64, goroutine: GoroutineId) -> Result<(), Memory>
     requires { Rises 0 (held holders.old) }
@@ -83,7 +84,7 @@ pub fn join(holders: &mut Line, ticket: u64, goroutine: GoroutineId) -> Result<(
     Ok(())
 }
 
-// Whether the goroutine with this ticket is the one at a place, and is not gone.
+// Whether the entry at a place is that goroutine with this ticket, and not gone.
 #[inline(always)]
 fn is_held_at(holders: &[TicketHolder], at: usize, ticket: u64, goroutine: GoroutineId) -> bool
     ensures { result ≡ is_held_in ticket goroutine.0 (slice_get holders.now at) }
@@ -96,7 +97,7 @@ fn is_held_at(holders: &[TicketHolder], at: usize, ticket: u64, goroutine: Gorou
     }
 }
 
-/// The goroutine with this ticket leaves the queue, if it is there. All others keep their places.
+/// Removes the goroutine with this ticket from the queue, if it is there. All others keep their order.
 #[inline(always)]
 pub fn part(holders: &mut Line, ticket: u64, goroutine: GoroutineId)
     requires { Rises 0 (held holders.old) }
@@ -108,14 +109,14 @@ pub fn part(holders: &mut Line, ticket: u64, goroutine: GoroutineId)
     }
 }
 
-// Whether the goroutine is there.
+// Whether the goroutine is in the roster.
 fn is_among(roster: &Roster, g: GoroutineId) -> bool
     ensures { result ≡ is_in g.0 (keys (plain_entries roster.now.places)) }
 {
     roster.has(g.0)
 }
 
-/// The first entries are gone from memory.
+/// Removes the first `count` entries from memory.
 pub fn drop_front(holders: &mut Vec<TicketHolder>, count: usize)
     requires { count ≤ length holders.old.items }
     ensures { holders.new.items ≡ drop count holders.old.items }
@@ -125,21 +126,22 @@ pub fn drop_front(holders: &mut Vec<TicketHolder>, count: usize)
     holders.truncate(left);
 }
 
-/// Entries that are marked as gone are gone from memory.
+/// Removes the entries that are marked as gone from memory.
 pub fn drop_gone(holders: &mut Vec<TicketHolder>)
     ensures { holders.new.items ≡ filter (λ h. not h.is_gone) holders.old.items }
 {
     holders.retain(|holder| !holder.is_gone);
 }
 
-/// Keeps the entries whose goroutine is there.
+/// Keeps the entries whose goroutine is in the roster.
 pub fn narrow(holders: &mut Vec<TicketHolder>, roster: &Roster)
     ensures { holders.new.items ≡ filter (λ h. is_in h.goroutine.0 (keys (plain_entries roster.now.places))) holders.old.items }
 {
     holders.retain(|holder| is_among(roster, holder.goroutine));
 }
 
-/// Returns the last in the queue whose ticket is below this one, or `None`. It passes over entries that
+/// Returns the last waiter in the queue whose ticket is below this one, or `None`. It passes over entries
+/// that are gone.
 /// are gone.
 pub fn last_before(holders: &[TicketHolder], ticket: u64) -> Option<TicketHolder>
     requires { Rises 0 (spots holders.now) }

@@ -1,6 +1,6 @@
-//! Queues of goroutines that wait, by object and side.
+//! The wait queues of a running program, by object and side.
 //!
-//! - `Queues`: for each object and side those who stood in the queue there, by rising ticket.
+//! - `Queues`: for each object and side the goroutines that entered the queue there, by rising ticket.
 #![tactic(auto)]
 
 mod holders;

@@ -1,6 +1,6 @@
 //! A wait queue in memory.
 //!
-//! Its invariant: the tickets rise, those of entries that are marked as gone too.
+//! The invariant: the tickets rise, also those of entries that are marked as gone.
 
 ghost use Rattle.std.specs.Prelude.{◌≡◌, ◌<◌, ◌≤◌, [], ◌∷◌, ◌++◌, ◌-◌, drop, length, remove, take, IfOk, OnOk, OnErr};
 ghost use Rattle.golf_theory.specs.Maps.{AllBelow, Rises, keys};
@@ -19,9 +19,9 @@ const FEW: usize = 8;
 
 /// The entries of a wait queue, in its order. Some may be marked as gone.
 ///
-/// A goroutine leaves a long queue by a mark, so no other entry is moved. The queue closes up once more
-/// than half of its entries are gone. So a leave moves a few entries on average, however long the queue
-/// is. After a leave the first entry is not gone, nor is the last one.
+/// A goroutine leaves a long queue by a mark, so no other entry is moved. The queue closes up when more
+/// than half of its entries are gone. So one leave moves a few entries on average, however long the queue
+/// is. After a leave neither the first entry nor the last one is gone.
 #[derive(Debug, Drop)]
 pub struct Line {
     entries: Vec<TicketHolder>,
@@ -43,7 +43,7 @@ impl Model for Line {
     ghost invariant = { λ l. IsLine l.front l.entries.items };
 }
 
-// A count without so many, or 0 if they are more.
+// The difference of the two counts, or 0 if the second is larger.
 fn less(count: u32, without: usize) -> u32
     ensures { result ≡ count - without }
 {
@@ -95,7 +95,7 @@ impl Line {
         self.entries.truncate(self.front as usize + at);
     }
 
-    // The entries behind a place move up by one.
+    // Removes the entry at a place. The entries behind it move up by one.
     #[inline(always)]
     fn move_up(&mut self, at: usize)
         requires { at < length self.old }
@@ -104,7 +104,7 @@ impl Line {
         self.entries.remove(self.front as usize + at);
     }
 
-    // The entry at a place is marked as gone.
+    // Marks the entry at a place as gone.
     #[inline(always)]
     fn mark(&mut self, at: usize)
         requires { at < length self.old }
@@ -114,7 +114,7 @@ impl Line {
         self.gone = self.gone.saturating_add(1);
     }
 
-    // Entries that are gone are gone from memory.
+    // Removes all entries that are gone from memory.
     fn close_up(&mut self)
         ensures { held self.new ≡ held self.old }
     {
@@ -124,7 +124,7 @@ impl Line {
         self.gone = 0;
     }
 
-    // Entries at the front that are gone are passed.
+    // Passes the entries at the front that are gone.
     #[inline(always)]
     fn pass_gone(&mut self)
         ensures { held self.new ≡ held self.old }
@@ -135,7 +135,7 @@ impl Line {
         }
     }
 
-    // Entries at the end that are gone are cut off.
+    // Cuts off the entries at the end that are gone.
     #[inline(always)]
     fn cut_gone(&mut self)
         ensures { held self.new ≡ held self.old }
@@ -146,7 +146,8 @@ impl Line {
         self.gone = less(self.gone, count - end);
     }
 
-    // The queue closes up if enough entries are gone. Else its first and last entries are not gone.
+    // Closes the queue up if it is short or enough entries are gone. Else makes its first and last entries
+    // ones that are not gone.
     fn tidy(&mut self)
         ensures { held self.new ≡ held self.old }
     {
@@ -159,7 +160,7 @@ impl Line {
         }
     }
 
-    /// The entry at a place is gone.
+    /// Removes the entry at a place from the queue, by a mark if the queue is long.
     #[inline(always)]
     pub fn take_out(&mut self, at: usize)
         requires { at < length self.old }
@@ -173,7 +174,7 @@ impl Line {
         }
     }
 
-    /// Those whose goroutine is there stay in the queue.
+    /// Keeps the waiters whose goroutine is in the roster.
     pub fn narrow(&mut self, roster: &Roster)
         ensures { held self.new ≡ among (keys (plain_entries roster.now.places)) (held self.old) }
     {

@@ -1,4 +1,6 @@
-//! The queues of all objects.
+//! The wait queues of all objects.
+//!
+//! The invariant: the queues are in rising order of object and side, and the tickets of each rise.
 
 ghost use Rattle.std.specs.Prelude.{◌≡◌, ◌<◌, ◌≤◌, ◌+◌, ℕ, [], ◌∷◌, true, length, OnOk, slice_get};
 ghost use Rattle.golf_theory.specs.Maps.{keys, Entry, Rises};
@@ -27,11 +29,12 @@ pub struct Queue {
     pub holders: Line,
 }
 
-/// For each object and side those who stood in the queue there, by rising ticket. Whoever waits there is
-/// among them; one who does not wait there any more may be left.
+/// The wait queues: for each object and side the goroutines that entered the queue there, by rising ticket.
+/// Each goroutine that waits there is among them. A goroutine that no longer waits there may be among them
+/// too.
 ///
-/// A queue is found by a binary search. It is made with the first who stands in it, and stays until a
-/// collection finds nobody in it.
+/// A binary search finds a queue. The first goroutine that enters a queue makes it. It stays until a
+/// collection finds it empty.
 #[derive(Debug, Drop)]
 pub struct Queues {
     queues: Vec<Queue>,
@@ -45,7 +48,7 @@ impl Model for Queues {
     ghost invariant = { λ q. IsInOrder (wait_queues_of q.queues.items) };
 }
 
-/// The number of a side, in the order in which queues stand.
+/// Returns the number of a side, which orders the queues of one object.
 pub fn side_number(side: Side) -> u8
     ensures { result ≡ side_number side }
 {
@@ -60,7 +63,7 @@ pub fn side_number(side: Side) -> u8
     }
 }
 
-// Queues stand in rising order of object, and those of an object by their sides.
+// The key of a queue: rising in the object, then in the side.
 #[inline(always)]
 fn key_of(object: ObjectId, side: Side) -> u64
     ensures { result ≡ key object.0 side }
@@ -68,7 +71,7 @@ fn key_of(object: ObjectId, side: Side) -> u64
     u64::from(object.0) * 7 + u64::from(side_number(side))
 }
 
-// How many queues stand before the key.
+// How many queues come before the key.
 #[inline(always)]
 fn rank_of(queues: &[Queue], key: u64) -> usize
     requires { Rises 0 (wait_queues_of queues.now) }
@@ -89,7 +92,7 @@ fn stands_at(queues: &[Queue], at: usize, key: u64) -> bool
     }
 }
 
-// In each queue those stand still whose goroutine is there, and nobody else.
+// Keeps in each queue the waiters whose goroutine is in the roster.
 fn narrow_all(queues: &mut Vec<Queue>, roster: &Roster)
     ensures { wait_queues_of queues.new.items ≡ narrowed (keys (plain_entries roster.now.places)) (wait_queues_of queues.old.items) }
 {
@@ -99,7 +102,7 @@ fn narrow_all(queues: &mut Vec<Queue>, roster: &Roster)
 }
 
 impl Queues {
-    /// No queue. It takes no memory.
+    /// Returns the wait queues without any queue. It takes no memory.
     pub fn new(alloc: Global) -> Queues
         ensures { result ≡ [] }
     {
@@ -108,8 +111,8 @@ impl Queues {
         }
     }
 
-    /// Those who stood in the queue for the object with that side. Entries that are gone may be among
-    /// them. The caller passes over these.
+    /// Returns the entries of the wait queue of the object with that side. Entries that are gone may be
+    /// among them, which the caller passes over.
     #[inline(always)]
     pub fn holders(&self, object: ObjectId, side: Side) -> &[TicketHolder]
         ensures holders { held result.now ≡ wait_queue_at (key object.0 side) self.now }
@@ -125,8 +128,8 @@ impl Queues {
         }
     }
 
-    /// The goroutine stands last in the queue for the object with that side, with a ticket that nobody
-    /// who waits there has, and nobody else is added.
+    /// Puts the goroutine at the end of the wait queue of the object with that side. No waiter in the queue
+    /// has this ticket. On `Err` every waiter with a smaller ticket is still in its queue.
     #[inline(always)]
     pub fn enter(
         &mut self,
@@ -160,7 +163,8 @@ impl Queues {
         Ok(())
     }
 
-    /// The goroutine stands last in the queue of each of these waits, and nobody else is added.
+    /// Puts the goroutine at the end of the wait queue of each of these waits. On `Err` every waiter with a
+    /// smaller ticket is still in its queue.
     pub fn enter_all(
         &mut self,
         waits: &[Wait],
@@ -179,8 +183,8 @@ impl Queues {
         Ok(())
     }
 
-    /// The goroutine is gone from the queue for the object with that side, if it stands there with
-    /// this ticket; all others stand where they stood. It takes no memory.
+    /// Removes the goroutine with this ticket from the wait queue of the object with that side, if it is
+    /// there. All others keep their places. It takes no memory.
     #[inline(always)]
     pub fn leave(&mut self, object: ObjectId, side: Side, ticket: u64, goroutine: GoroutineId)
         ensures { IsWithout (leaves ticket goroutine.0 (key object.0 side ∷ [])) self.old self.new }
@@ -192,8 +196,8 @@ impl Queues {
         }
     }
 
-    /// The goroutine is gone from the queues of these waits, if it stands there with this ticket; all
-    /// others stand where they stood. It takes no memory.
+    /// Removes the goroutine with this ticket from each wait queue of these waits that it is in. All others
+    /// keep their places. It takes no memory.
     pub fn leave_all(&mut self, waits: &[Wait], ticket: u64, goroutine: GoroutineId)
         ensures { IsWithout (leaves ticket goroutine.0 (keys_of waits.now)) self.old self.new }
     {
@@ -202,7 +206,7 @@ impl Queues {
         }
     }
 
-    /// Those whose goroutine is there stand in the queue still, and nobody else. It takes no memory.
+    /// Keeps in each queue the waiters whose goroutine is in the roster. It takes no memory.
     pub fn retain(&mut self, roster: &Roster)
         ensures queues { self.new ≡ narrowed (keys (plain_entries roster.now.places)) self.old }
         ensures kept { Keeps (λ t g. is_in g (keys (plain_entries roster.now.places)) ≡ true) self.old self.new }
@@ -211,7 +215,7 @@ impl Queues {
         narrow_all(&mut self.queues, roster);
     }
 
-    /// Queues in which nobody stands are gone. It takes no memory.
+    /// Removes the empty queues. It takes no memory.
     pub fn drop_empty(&mut self)
         ensures queues { self.new ≡ standing self.old }
         ensures kept { Keeps (λ t g. Unit {0}) self.old self.new }

@@ -3,7 +3,7 @@ use Rattle.std.specs.Prelude.{Bool, ℤ, Option, Some, None}
 use Rattle.golf_data.specs.declared.value.Value.{Value}
 use Rattle.golf_data.specs.declared.value.Object.{Object}
 
--- whether the mutex that an object is is locked
+-- whether the mutex is locked, if the object is a mutex
 abbrev pub mutex_of : Option Object → Option Bool
 mutex_of None = None
 mutex_of (Some (Object.Struct fields)) = None
@@ -14,7 +14,7 @@ mutex_of (Some (Object.Group n)) = None
 mutex_of (Some (Object.Rw n)) = None
 mutex_of (Some (Object.Cond v)) = None
 
--- the counter of the wait group that an object is
+-- the counter of the wait group, if the object is one
 abbrev pub group_of : Option Object → Option ℤ
 group_of None = None
 group_of (Some (Object.Struct fields)) = None
@@ -25,7 +25,7 @@ group_of (Some (Object.Group n)) = Some n
 group_of (Some (Object.Rw n)) = None
 group_of (Some (Object.Cond v)) = None
 
--- the count of the reader and writer mutex that an object is
+-- the count of the reader and writer mutex, if the object is one
 abbrev pub rw_of : Option Object → Option ℤ
 rw_of None = None
 rw_of (Some (Object.Struct fields)) = None
@@ -36,7 +36,7 @@ rw_of (Some (Object.Group n)) = None
 rw_of (Some (Object.Rw n)) = Some n
 rw_of (Some (Object.Cond v)) = None
 
--- the mutex of the condition that an object is
+-- the mutex of the condition, if the object is one
 abbrev pub condition_of : Option Object → Option Value
 condition_of None = None
 condition_of (Some (Object.Struct fields)) = None

@@ -1,4 +1,7 @@
-//! Conditions.
+//! Conditions. On `Err` the state is unchanged.
+//!
+//! A signal passes a waiter on to the condition's mutex: the waiter locks it, or waits for it with a new
+//! ticket.
 
 ghost use Rattle.std.specs.Prelude.{◌≡◌, ◌+◌, ◌<◌, ◌^◌, ◌++◌, IfOk, OnErr, IsSome, drop, length};
 ghost use Rattle.golf_theory.specs.Maps.{find, IsRising};
@@ -21,7 +24,7 @@ use golf_state::{
 };
 use std::alloc::Global;
 
-// Unlocks the mutex of a condition, and blocks on the condition.
+// Unlocks the mutex of a condition, and blocks the goroutine on the condition.
 fn await_with(
     alloc: Global,
     state: &mut State,
@@ -53,7 +56,7 @@ fn await_with(
     Ok(Outcome::Blocked)
 }
 
-// Blocks on a condition.
+// Blocks the goroutine on a condition.
 fn await_at(
     alloc: Global,
     state: &mut State,
@@ -74,9 +77,9 @@ fn await_at(
     }
 }
 
-/// The goroutine in its turn waits on the condition that is its last operand: it unlocks the
-/// condition's mutex as its holder would, and blocks. If the mutex is unlocked, that is a fatal
-/// error; it panics on nil, and if the mutex is nil.
+/// Waits on the condition that is the last operand, for the goroutine whose turn it is. The goroutine
+/// unlocks the condition's mutex and blocks. An unlocked mutex is a fatal error. If the condition or its
+/// mutex is nil, it panics.
 pub fn cond_wait(alloc: Global, state: &mut State, acting: Acting) -> Result<Outcome, Memory>
     requires { Stands acting.goroutine.0 acting.after state.old }
     ensures ok { IfOk result (λ outcome. Comes outcome (λ a. awaits a state.old) acting.goroutine.0 acting.line state.old state.new) }
@@ -92,8 +95,7 @@ pub fn cond_wait(alloc: Global, state: &mut State, acting: Acting) -> Result<Out
     }
 }
 
-// The waiters of a condition, the first one or all by rising ticket, are passed on to a mutex. It
-// takes no memory.
+// Passes all waiters of a condition on to a mutex, by rising ticket. It takes no memory.
 fn pass_all(state: &mut State, condition: ObjectId, mutex: ObjectId)
     requires tickets { state.old.next_ticket + length state.old.goroutines < 2 ^ 64 }
     requires mutex { IsSome (mutex_of (find mutex.0 state.old.objects)) }
@@ -104,7 +106,7 @@ fn pass_all(state: &mut State, condition: ObjectId, mutex: ObjectId)
     }
 }
 
-// The first waiter of a condition is passed on to a mutex. It takes no memory.
+// Passes the first waiter of a condition on to a mutex. It takes no memory.
 fn pass_first(state: &mut State, condition: ObjectId, mutex: ObjectId)
     requires { state.old.next_ticket + length state.old.goroutines < 2 ^ 64 }
     ensures { state.new ≡ apply_all (passes_on mutex.0 (first_only (first condition.0 Side.Cond state.old.goroutines))) state.old }
@@ -114,8 +116,7 @@ fn pass_first(state: &mut State, condition: ObjectId, mutex: ObjectId)
     }
 }
 
-// The goroutine goes on, and waiters of a condition are passed on to its mutex: the first one, or
-// all.
+// Lets the goroutine go on, and passes waiters of a condition on to its mutex: all, or only the first one.
 fn notify_with(
     state: &mut State,
     acting: Acting,
@@ -140,7 +141,7 @@ fn notify_with(
     Outcome::Done
 }
 
-// Waiters of a condition with this mutex are passed on, if anyone waits: the first one, or all.
+// Passes waiters of a condition on to this mutex, if there is a waiter: all, or only the first one.
 fn notify_by(
     state: &mut State,
     acting: Acting,
@@ -163,7 +164,7 @@ fn notify_by(
     }
 }
 
-// Waiters of a condition are passed on: the first one, or all.
+// Passes waiters of a condition on: all, or only the first one.
 fn notify_at(state: &mut State, acting: Acting, condition: ObjectId, all: bool) -> Outcome
     requires stands { Stands acting.goroutine.0 acting.after state.old }
     requires tickets { state.old.next_ticket + length state.old.goroutines < 2 ^ 64 }
@@ -175,7 +176,7 @@ fn notify_at(state: &mut State, acting: Acting, condition: ObjectId, all: bool) 
     }
 }
 
-// The condition that is the last operand.
+// Passes waiters of the condition that is the last operand on: all, or only the first one.
 fn notify(state: &mut State, acting: Acting, all: bool) -> Outcome
     requires stands { Stands acting.goroutine.0 acting.after state.old }
     requires tickets { state.old.next_ticket + length state.old.goroutines < 2 ^ 64 }
@@ -191,9 +192,9 @@ fn notify(state: &mut State, acting: Acting, all: bool) -> Outcome
     }
 }
 
-/// The goroutine in its turn passes the first waiter on, if anyone waits on the condition that is
-/// its last operand: if the condition's mutex is unlocked, that becomes locked and the waiter
-/// runs; else the waiter waits for the mutex from now on. It panics on nil. It takes no memory.
+/// Signals the condition that is the last operand, for the goroutine whose turn it is. Without a waiter
+/// nothing else happens. If the condition's mutex is unlocked, it becomes locked and the first waiter runs.
+/// Else that waiter waits for the mutex from now on. It panics on nil. It takes no memory.
 pub fn cond_signal(state: &mut State, acting: Acting) -> Outcome
     requires stands { Stands acting.goroutine.0 acting.after state.old }
     requires tickets { state.old.next_ticket + length state.old.goroutines < 2 ^ 64 }
@@ -202,8 +203,8 @@ pub fn cond_signal(state: &mut State, acting: Acting) -> Outcome
     notify(state, acting, false)
 }
 
-/// The goroutine in its turn passes all waiters on, by rising ticket, who wait on the condition that
-/// is its last operand. It panics on nil. It takes no memory.
+/// Broadcasts to the condition that is the last operand, for the goroutine whose turn it is: it passes all
+/// waiters on, by rising ticket. It panics on nil. It takes no memory.
 pub fn cond_broadcast(state: &mut State, acting: Acting) -> Outcome
     requires stands { Stands acting.goroutine.0 acting.after state.old }
     requires tickets { state.old.next_ticket + length state.old.goroutines < 2 ^ 64 }

@@ -1,4 +1,6 @@
-//! Wait groups.
+//! Wait groups. On `Err` the state is unchanged.
+//!
+//! All waiters go on when the counter becomes 0 (package sync, `WaitGroup`).
 
 ghost use Rattle.std.specs.Prelude.{◌≡◌, IfOk, OnErr, drop};
 ghost use Rattle.golf_theory.specs.Maps.{find};
@@ -49,9 +51,9 @@ fn add_to(state: &mut State, acting: Acting, group: Value, delta: i64) -> Outcom
     }
 }
 
-/// The goroutine in its turn adds its last operand to the counter of the wait group before it, which
-/// wraps at 64 bits: at 0 all who wait go on. Below 0 it panics and the counter stays, and it panics
-/// on nil. It takes no memory.
+/// Adds the last operand to the counter of the wait group before it, for the goroutine whose turn it is.
+/// The counter wraps at 64 bits. At 0 all waiters go on. Below 0 it panics, and the counter stays. It
+/// panics on nil. It takes no memory.
 pub fn group_add(state: &mut State, acting: Acting) -> Outcome
     requires { Stands acting.goroutine.0 acting.after state.old }
     ensures { Comes result (λ a. adds a state.old) acting.goroutine.0 acting.line state.old state.new }
@@ -65,7 +67,7 @@ pub fn group_add(state: &mut State, acting: Acting) -> Outcome
     }
 }
 
-// Goes on at 0, or blocks on the wait group.
+// Goes on if the counter is 0, and else blocks on the wait group.
 fn wait_at(
     alloc: Global,
     state: &mut State,
@@ -87,8 +89,8 @@ fn wait_at(
     Ok(Outcome::Done)
 }
 
-/// The goroutine in its turn waits for the wait group that is its last operand: it goes on if the
-/// counter is 0, and blocks else. It panics on nil.
+/// Waits for the wait group that is the last operand, for the goroutine whose turn it is. The goroutine
+/// goes on if the counter is 0, and else blocks. It panics on nil.
 pub fn group_wait(alloc: Global, state: &mut State, acting: Acting) -> Result<Outcome, Memory>
     requires { Stands acting.goroutine.0 acting.after state.old }
     ensures ok { IfOk result (λ outcome. Comes outcome (λ a. waits a state.old) acting.goroutine.0 acting.line state.old state.new) }

@@ -1,4 +1,5 @@
-//! Mutexes.
+//! Mutexes. On `Err` the state is unchanged. An unlock hands the mutex to its first waiter, so it stays
+//! locked.
 
 ghost use Rattle.std.specs.Prelude.{◌≡◌, IfOk, OnErr, drop, true};
 ghost use Rattle.golf_theory.specs.Maps.{find};
@@ -41,7 +42,7 @@ fn lock_at(
     Ok(Outcome::Done)
 }
 
-/// The goroutine in its turn locks the mutex that is its last operand; it blocks if that is
+/// Locks the mutex that is the last operand, for the goroutine whose turn it is. It blocks if the mutex is
 /// locked, and panics on nil.
 #[inline(always)]
 pub fn lock(alloc: Global, state: &mut State, acting: Acting) -> Result<Outcome, Memory>
@@ -59,7 +60,7 @@ pub fn lock(alloc: Global, state: &mut State, acting: Acting) -> Result<Outcome,
     }
 }
 
-/// A mutex stays locked and its first waiter runs; if nobody waits it becomes unlocked. It takes
+/// Hands a locked mutex to this waiter, which runs. Without a waiter the mutex becomes unlocked. It takes
 /// no memory.
 #[inline(always)]
 pub fn hand_over(state: &mut State, mutex: ObjectId, waiting: Option<Waiting>)
@@ -90,8 +91,8 @@ fn unlock_at(state: &mut State, acting: Acting, mutex: ObjectId) -> Outcome
     Outcome::Done
 }
 
-/// The goroutine in its turn unlocks the mutex that is its last operand: its first waiter gets it.
-/// To unlock an unlocked mutex is a fatal error, and it panics on nil. It takes no memory.
+/// Unlocks the mutex that is the last operand, for the goroutine whose turn it is. Its first waiter gets
+/// it. The unlock of an unlocked mutex is a fatal error. It panics on nil. It takes no memory.
 #[inline(always)]
 pub fn unlock(state: &mut State, acting: Acting) -> Outcome
     requires { Stands acting.goroutine.0 acting.after state.old }

@@ -1,4 +1,6 @@
-//! Objects of package sync, by number.
+//! Objects of package sync, found by number.
+//!
+//! A number that names no such object gives `None`. Then no rule fits.
 
 ghost use Rattle.std.specs.Prelude.{◌≡◌, IsSome, Some};
 ghost use Rattle.golf_theory.specs.Maps.{find};
@@ -10,7 +12,7 @@ use golf_base::ObjectId;
 use golf_data::{Object, Value};
 use golf_state::State;
 
-/// Whether the mutex of this number is locked, if there is one.
+/// Returns whether the mutex of this number is locked. `None` if the object is no mutex.
 #[inline(always)]
 pub fn mutex_at(state: &State, object: ObjectId) -> Option<bool>
     ensures { result ≡ mutex_of (find object.0 state.now.objects) }
@@ -26,7 +28,7 @@ pub fn mutex_at(state: &State, object: ObjectId) -> Option<bool>
     }
 }
 
-// A mutex becomes locked or unlocked.
+// Locks or unlocks a mutex.
 #[inline(always)]
 fn set_locked(object: &mut Object, is_locked: bool)
     requires { IsSome (mutex_of (Some object.old)) }
@@ -43,8 +45,8 @@ fn set_locked(object: &mut Object, is_locked: bool)
     }
 }
 
-/// The object of this number, if it is there, becomes a mutex, locked or unlocked. One that is a mutex
-/// changes in its place.
+/// Replaces the object of this number, if it is there, by a mutex, locked or unlocked. A mutex changes in
+/// its place.
 #[inline(always)]
 pub fn put_mutex(state: &mut State, object: ObjectId, is_locked: bool)
     ensures { state.new ≡ replace object.0 (Object.Mutex is_locked) state.old }
@@ -56,7 +58,7 @@ pub fn put_mutex(state: &mut State, object: ObjectId, is_locked: bool)
     }
 }
 
-/// The counter of the wait group of this number, if there is one.
+/// Returns the counter of the wait group of this number, or `None`.
 pub fn group_at(state: &State, object: ObjectId) -> Option<i64>
     ensures { result ≡ group_of (find object.0 state.now.objects) }
 {
@@ -71,7 +73,7 @@ pub fn group_at(state: &State, object: ObjectId) -> Option<i64>
     }
 }
 
-/// The count of the reader and writer mutex of this number, if there is one.
+/// Returns the count of the reader and writer mutex of this number, or `None`.
 pub fn rw_at(state: &State, object: ObjectId) -> Option<i64>
     ensures { result ≡ rw_of (find object.0 state.now.objects) }
 {
@@ -86,7 +88,7 @@ pub fn rw_at(state: &State, object: ObjectId) -> Option<i64>
     }
 }
 
-/// The mutex of the condition of this number, if there is one.
+/// Returns the mutex of the condition of this number, or `None`.
 pub fn condition_at(state: &State, object: ObjectId) -> Option<Value>
     ensures { result ≡ condition_of (find object.0 state.now.objects) }
 {

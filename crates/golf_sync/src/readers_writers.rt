@@ -1,4 +1,6 @@
-//! Reader and writer mutexes.
+//! Reader and writer mutexes. On `Err` the state is unchanged.
+//!
+//! The count is -1 if a writer holds the mutex, and else how many readers do.
 
 ghost use Rattle.std.specs.Prelude.{◌≡◌, ◌||◌, IfOk, OnErr, drop, true, is_some};
 ghost use Rattle.golf_model.specs.Values.{is_minus_one};
@@ -22,13 +24,14 @@ use golf_state::{
 };
 use std::alloc::Global;
 
-/// The most readers that hold a reader and writer mutex at a time.
+/// The most readers that hold a reader and writer mutex at the same time.
 const MOST_READERS: i64 = 1_073_741_823;
 
-/// Who gets a reader and writer mutex that is free.
+/// The next holders of a free reader and writer mutex.
 #[derive(Clone, Copy, Debug, PartialEq, Eq)]
 pub enum Served {
-    /// So many readers, those with a ticket below this one, or all.
+    /// The count of readers, and the bound on their tickets: each ticket is below it. Without a bound all
+    /// readers get it.
     Readers(i64, Option<u64>),
     Writer(Waiting),
 }
@@ -40,7 +43,7 @@ fn readers(state: &State, rw: ObjectId, below: Option<u64>) -> Served
     Served::Readers(state.readers_next(rw, below) as i64, below)
 }
 
-// Whoever waits first gets the mutex, all readers if nobody waits to write.
+// The next holders of the mutex: the first waiter, or all readers if no goroutine waits to write.
 fn next_served(state: &State, rw: ObjectId) -> Served
     ensures next { result ≡ next_in rw.0 state.now.goroutines (first rw.0 Side.Write state.now.goroutines) (first rw.0 Side.Read state.now.goroutines) }
     ensures blocked { IsBlockedIn state.now (first rw.0 Side.Write state.now.goroutines) }
@@ -60,7 +63,7 @@ fn next_served(state: &State, rw: ObjectId) -> Served
     }
 }
 
-// These get the mutex. It takes no memory.
+// Gives the mutex to these goroutines. It takes no memory.
 fn serve(state: &mut State, rw: ObjectId, served: Served)
     requires { is_ready_for served state.old ≡ true }
     ensures { state.new ≡ served_by rw.0 served state.old }
@@ -108,8 +111,8 @@ fn write_lock_at(
     Ok(Outcome::Done)
 }
 
-/// The goroutine in its turn locks the reader and writer mutex that is its last operand for writing;
-/// it blocks if anyone holds it, and panics on nil.
+/// Locks the reader and writer mutex that is the last operand for writing, for the goroutine whose turn it
+/// is. It blocks if any goroutine holds the mutex, and panics on nil.
 pub fn rw_lock(alloc: Global, state: &mut State, acting: Acting) -> Result<Outcome, Memory>
     requires { Stands acting.goroutine.0 acting.after state.old }
     ensures ok { IfOk result (λ outcome. Comes outcome (λ a. write_locks a state.old) acting.goroutine.0 acting.line state.old state.new) }
@@ -125,7 +128,7 @@ pub fn rw_lock(alloc: Global, state: &mut State, acting: Acting) -> Result<Outco
     }
 }
 
-// Unlocks what a writer holds.
+// Unlocks a mutex that a writer holds.
 fn write_unlock_at(state: &mut State, acting: Acting, rw: ObjectId) -> Outcome
     requires { Stands acting.goroutine.0 acting.after state.old }
     ensures { Comes result (λ a. at_rw (write_unlocks_by a (drop 1 a.frame.operands) state.old rw.0) (find rw.0 state.old.objects)) acting.goroutine.0 acting.line state.old state.new }
@@ -142,9 +145,9 @@ fn write_unlock_at(state: &mut State, acting: Acting, rw: ObjectId) -> Outcome
     Outcome::Done
 }
 
-/// The goroutine in its turn unlocks the reader and writer mutex that is its last operand, which a
-/// writer holds: whoever waits first gets it. If no writer holds it, that is a fatal error, and
-/// it panics on nil. It takes no memory.
+/// Unlocks the reader and writer mutex that is the last operand, which a writer holds, for the goroutine
+/// whose turn it is. The first waiter gets it; a reader gets it with all readers before the first writer.
+/// If no writer holds it, that is a fatal error. It panics on nil. It takes no memory.
 pub fn rw_unlock(state: &mut State, acting: Acting) -> Outcome
     requires { Stands acting.goroutine.0 acting.after state.old }
     ensures { Comes result (λ a. write_unlocks a state.old) acting.goroutine.0 acting.line state.old state.new }
@@ -192,8 +195,8 @@ fn read_lock_at(
     Ok(Outcome::Done)
 }
 
-/// The goroutine in its turn locks the reader and writer mutex that is its last operand for reading;
-/// it blocks if a writer holds it or waits for it, and panics on nil. More than 1,073,741,823
+/// Locks the reader and writer mutex that is the last operand for reading, for the goroutine whose turn it
+/// is. It blocks if a writer holds the mutex or waits for it, and panics on nil. More than 1,073,741,823
 /// readers are a fatal error.
 pub fn read_lock(alloc: Global, state: &mut State, acting: Acting) -> Result<Outcome, Memory>
     requires { Stands acting.goroutine.0 acting.after state.old }
@@ -210,7 +213,7 @@ pub fn read_lock(alloc: Global, state: &mut State, acting: Acting) -> Result<Out
     }
 }
 
-// Unlocks for one of so many readers.
+// Unlocks for one reader.
 fn read_unlock_at(state: &mut State, acting: Acting, rw: ObjectId) -> Outcome
     requires { Stands acting.goroutine.0 acting.after state.old }
     ensures { Comes result (λ a. at_rw (read_unlocks_by a (drop 1 a.frame.operands) state.old rw.0) (find rw.0 state.old.objects)) acting.goroutine.0 acting.line state.old state.new }
@@ -233,9 +236,9 @@ fn read_unlock_at(state: &mut State, acting: Acting, rw: ObjectId) -> Outcome
     Outcome::Done
 }
 
-/// The goroutine in its turn unlocks the reader and writer mutex that is its last operand, which
-/// readers hold: after the last one whoever waits first gets it. If no reader holds it, that is
-/// a fatal error, and it panics on nil. It takes no memory.
+/// Unlocks the reader and writer mutex that is the last operand, which readers hold, for the goroutine
+/// whose turn it is. After the last reader the first waiter gets it. If no reader holds it, that is a fatal
+/// error. It panics on nil. It takes no memory.
 pub fn read_unlock(state: &mut State, acting: Acting) -> Outcome
     requires { Stands acting.goroutine.0 acting.after state.old }
     ensures { Comes result (λ a. read_unlocks a state.old) acting.goroutine.0 acting.line state.old state.new }

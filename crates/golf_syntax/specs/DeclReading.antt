@@ -37,7 +37,7 @@ import_by l ts None = text_at ts >>= λ p. Some (imports.One l p.0, p.1)
 import_by l ts (Some us) = list_at text_at punctuations.Semicolon punctuations.CloseParen us >>= λ ps. Some
     (imports.Group l ps.0, ps.1)
 
--- an import after its word, which stands on this line
+-- an import after its keyword, which is on this line
 unfoldable pub import_at : ℕ → List Token → Option (Import × List Token)
 import_at l ts = import_by l ts (after punctuations.OpenParen ts)
 
@@ -102,7 +102,7 @@ abbrev pub func_named : ℕ → Option Receiver → List Token → Option (Decl 
 func_named l r ts = name_at ts >>= λ n. after punctuations.OpenParen n.1 >>= λ us. list_at field_at punctuations.Comma
     punctuations.CloseParen us >>= λ ps. func_behind l r n.0 ps.0 (result_by ps.1 (type_at OfType ps.1))
 
--- a function after its word, which stands on this line
+-- a function after its keyword, which is on this line
 unfoldable pub func_at : ℕ → List Token → Option (Decl × List Token)
 func_at l ts = receiver_by ts (after punctuations.OpenParen ts) >>= λ r. func_named l r.0 r.1
 
@@ -115,7 +115,7 @@ struct_decl l ts =
     name_at ts >>= λ n. after_keyword keywords.Struct n.1 >>= λ us. after punctuations.OpenBrace us >>= λ vs. list_at
     field_at punctuations.Semicolon punctuations.CloseBrace vs >>= λ fs. Some (d.Struct l n.0 fs.0, fs.1)
 
--- a declaration by its word, which stands on this line
+-- a declaration by its keyword, which is on this line
 abbrev pub decl_from : ℕ → Keyword → List Token → Option (Decl × List Token)
 decl_from l keywords.Const ts = const_decl l ts
 decl_from l keywords.Var ts = var_at l ts >>= λ v. Some (d.Var v.0, v.1)

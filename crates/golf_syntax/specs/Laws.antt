@@ -1,4 +1,5 @@
--- What is read at the front of tokens is what is printed there: imports and declarations. A file is read in one way.
+-- The laws of reading, as statements: imports and declarations are found exactly where they are printed, and a file is
+-- read in one way.
 use Rattle.std.specs.Prelude.{◌≡◌, ℕ, true, List, ◌∷◌, Some}
 use Rattle.golf_lex_tokens.specs.declared.token.Token.{Token}
 use Rattle.golf_lex_tokens.specs.declared.token.TokenKind.TheVariants as kinds
@@ -13,7 +14,7 @@ use Rattle.golf_syntax_trees.specs.Reads.{ReadsTokens, Reads}
 use Rattle.golf_syntax_expressions.specs.Front.{after}
 use Rattle.golf_syntax.specs.DeclReading.{import_at, decl_at}
 
--- a well-formed import, and a well-formed declaration, on the line of its word
+-- an import, and a well-formed declaration, are printed at the front of these tokens
 pub record IsImportIn (ts : List Token) (x : Import × List Token) : Type 0 where
   pub words : Spells (print_import x.0) ts x.1
 
@@ -25,7 +26,7 @@ abbrev pub ImportsFound : Type 0
 ImportsFound = (word : Token) (ts : List Token) (x : Import × List Token) → word.kind ≡ kinds.Keyword keywords.Import
     → import_at word.line ts ≡ Some x → IsImportIn (word ∷ ts) x
 
--- an import that is printed begins with its word
+-- the reader finds each import that is printed; the import begins with its keyword
 abbrev pub ImportsRead : Type 0
 ImportsRead = (ts : List Token) (x : Import × List Token) → IsImportIn ts x → (word : Token) × (us : List Token)
     × (ts ≡ word ∷ us) × (word.kind ≡ kinds.Keyword keywords.Import) × (import_at word.line us ≡ Some x)

@@ -1,4 +1,4 @@
--- What reading a file answers.
+-- The answers of the parser.
 use Rattle.std.specs.Prelude.{◌≡◌, ℕ, true, List, [], ◌∷◌, map, Result, Ok, Err, ◌⊎◌}
 use Rattle.std.specs.List.{list_all}
 use Rattle.golf_lex_tokens.specs.declared.token.Token.{Token}
@@ -12,7 +12,7 @@ use Rattle.golf_syntax_trees.specs.Reads.{ReadsTokens, IsFaultOn}
 use Rattle.golf_syntax.specs.declared.parser.SyntaxFault.{SyntaxFault}
 use Rattle.golf_syntax.specs.declared.parser.SyntaxFault.TheVariants as faults
 
--- The tree that reads the tokens, or the line of the fault if none does; out of memory, nothing is told.
+-- The tree that reads the tokens, or the line of the fault if none does. Without memory it says nothing.
 abbrev pub Parsed : List Token → Result File SyntaxFault → Type 0
 Parsed tokens (Ok file) = ReadsTokens tokens file
 Parsed tokens (Err (faults.At line)) = ((file : File) → ReadsTokens tokens file → ⊥) × IsFaultOn tokens line
@@ -22,12 +22,12 @@ Parsed tokens (Err faults.Memory) = Unit {0}
 abbrev pub Accepts : List Token → Result File SyntaxFault → Type 0
 Accepts tokens result = (file : File) → ReadsTokens tokens file → (result ≡ Ok file) ⊎ (result ≡ Err faults.Memory)
 
--- if no tree does, the answer is the line of the fault, unless memory runs out
+-- if no tree reads the tokens, the answer is the line of the fault, unless memory runs out
 abbrev pub Refuses : List Token → Result File SyntaxFault → Type 0
 Refuses tokens result = ((file : File) → ReadsTokens tokens file → ⊥)
     → ((line : ℕ) × (result ≡ Err (faults.At line)) × IsFaultOn tokens line) ⊎ (result ≡ Err faults.Memory)
 
--- no import is the first segment
+-- the first segment is no import
 abbrev pub NoImport : List (List Token) → Type 0
 NoImport [] = Unit {0}
 NoImport (p ∷ ps) = IsImport p → ⊥
@@ -37,13 +37,13 @@ pub record Imported (ts : List Token) (found : List Import) (rest : List Token) 
   pub words : Spells (closed (map print_import found)) ts rest
   pub over : NoImport (segments 0 rest)
 
--- the segments are these declarations, or the line is that of the first one that is none
+-- the segments are these declarations, or the line is that of the first segment that is no declaration
 abbrev pub Declared : List Token → Result (List Decl) SyntaxFault → Type 0
 Declared ts (Ok found) = Spells (closed (map print_decl found)) ts [] × (list_all decl_good found ≡ true)
 Declared ts (Err (faults.At line)) = BreaksOn true (segments 0 ts) line
 Declared ts (Err faults.Memory) = Unit {0}
 
--- the line of the first token, else 1
+-- the line of the first token, or 1 if there are no tokens
 abbrev pub FirstLine : List Token → ℕ → Type 0
 FirstLine [] line = line ≡ 1
 FirstLine (t ∷ ts) line = line ≡ t.line

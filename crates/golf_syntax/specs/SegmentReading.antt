@@ -16,11 +16,11 @@ abbrev pub is_last : Option (List Token) → Bool
 is_last (Some []) = true
 is_last _ = false
 
--- a semicolon stands here, and nothing after it
+-- whether the tokens are a semicolon and nothing after it
 abbrev pub is_end : List Token → Bool
 is_end ts = is_last (after punctuations.Semicolon ts)
 
--- what was found, if the segment ends after it
+-- the construct that was found, if the segment ends after it
 abbrev pub alone : {A : Type 0} → A × List Token → Option A
 alone x = cond (is_end x.1) (Some x.0) None
 
@@ -28,12 +28,12 @@ abbrev pub import_by_word : ℕ → TokenKind → List Token → Option Import
 import_by_word l (kinds.Keyword keywords.Import) ts = import_at l ts >>= alone
 import_by_word l _ ts = None
 
--- a segment that is an import
+-- the import of a segment, if it is one
 abbrev pub import_of : List Token → Option Import
 import_of [] = None
 import_of (t ∷ ts) = import_by_word t.line t.kind ts
 
--- a segment that is a declaration
+-- the declaration of a segment, if it is one
 abbrev pub decl_of : List Token → Option Decl
 decl_of ts = decl_at ts >>= alone
 
@@ -41,6 +41,6 @@ abbrev pub is_main : Option (List ℕ × List Token) → Bool
 is_main None = false
 is_main (Some n) = bytes_eq n.0 (codes "main") && is_end n.1
 
--- a segment that names the package
+-- whether a segment names the package
 abbrev pub is_package : List Token → Bool
 is_package ts = is_main (after_keyword keywords.Package ts >>= name_at)

@@ -1,4 +1,7 @@
-//! Values of constants.
+//! The reader of values of constants (Go specification, "Constant declarations").
+//!
+//! A value is an integer, with or without `-`, a text, `true` or `false`. Other constant
+//! expressions are not read.
 
 ghost use Rattle.std.specs.Prelude.{◌≡◌, ◌<◌, ◌≤◌, length, IfOk, IfSome};
 ghost use Rattle.golf_syntax_expressions.specs.Front.{seen};
@@ -10,7 +13,7 @@ use golf_syntax_expressions::copied;
 use golf_syntax_trees::Const;
 use std::alloc::Global;
 
-// An integer after a `-`.
+// Reads an integer after a `-`.
 fn negative_at(alloc: Global, tokens: &[Token]) -> Result<Option<(Const, &[Token])>, Memory>
     ensures value { IfOk result (λ o. seen o ≡ decl_spec.negative_at tokens.now) }
     ensures shorter { IfOk result (λ o. IfSome o (λ x. length x.1.now ≤ length tokens.now)) }
@@ -24,7 +27,7 @@ fn negative_at(alloc: Global, tokens: &[Token]) -> Result<Option<(Const, &[Token
     }
 }
 
-// `true` or `false`.
+// Returns the constant `true` or `false` of this name, or `None` for another name.
 fn named_const<'a>(name: &List<u8>, rest: &'a [Token]) -> Option<(Const, &'a [Token])>
     ensures value { seen result ≡ decl_spec.named_const name.now rest.now }
     ensures shorter { IfSome result (λ x. length x.1.now ≤ length rest.now) }
@@ -55,7 +58,7 @@ fn const_of<'a>(
     }
 }
 
-/// The value of a constant, and what follows it.
+/// Reads the value of a constant at the front. Returns it and the tokens after it.
 #[tactic(auto, unfolding(crate::specs::DeclReading::const_at))]
 pub fn const_at(alloc: Global, tokens: &[Token]) -> Result<Option<(Const, &[Token])>, Memory>
     ensures value { IfOk result (λ o. seen o ≡ decl_spec.const_at tokens.now) }

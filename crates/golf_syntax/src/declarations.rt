@@ -1,4 +1,7 @@
-//! Declarations.
+//! The reader of declarations (Go specification, "Declarations and scope").
+//!
+//! The keyword of a declaration decides. Nothing here says whether names and types are known: the
+//! checker does.
 
 ghost use Rattle.std.specs.Prelude.{◌≡◌, ◌<◌, ◌≤◌, length, IfOk, IfSome, Some};
 ghost use Rattle.golf_syntax_expressions.specs.Front as front_spec;
@@ -17,7 +20,7 @@ use golf_syntax_statements::{block_at, var_at};
 use golf_syntax_trees::{Decl, Field, Func, Name, OwnedDecl, OwnedType, Receiver};
 use std::alloc::Global;
 
-// A constant after its word, which stands on this line.
+// Reads a constant after its keyword, which is on this line.
 fn const_decl(
     alloc: Global,
     line: u32,
@@ -39,7 +42,7 @@ fn const_decl(
     }
 }
 
-// A struct after its word, which stands on this line.
+// Reads a struct after its keyword, which is on this line.
 fn struct_decl(
     alloc: Global,
     line: u32,
@@ -69,7 +72,7 @@ fn struct_decl(
     }
 }
 
-// `name *type_name)` after the parenthesis.
+// Reads `name *type_name)` after the opening parenthesis of a receiver.
 fn named_receiver(
     alloc: Global,
     tokens: &[Token],
@@ -94,7 +97,7 @@ fn named_receiver(
     Ok(Some((Some(Receiver { name, type_name }), rest)))
 }
 
-// A receiver, or none if no parenthesis opens.
+// Reads a receiver, or none if there is no opening parenthesis.
 fn receiver_at(
     alloc: Global,
     tokens: &[Token],
@@ -108,7 +111,7 @@ fn receiver_at(
     }
 }
 
-// A result type, or none.
+// Reads a result type, or none if there is no type.
 fn result_at(alloc: Global, tokens: &[Token]) -> Result<(Option<OwnedType>, &[Token]), Memory>
     ensures value { IfOk result (λ x. (x.0, x.1.now) ≡ result_by tokens.now (type_spec.type_at OfType tokens.now)) }
     ensures shorter { IfOk result (λ x. length x.1.now ≤ length tokens.now) }
@@ -119,7 +122,7 @@ fn result_at(alloc: Global, tokens: &[Token]) -> Result<(Option<OwnedType>, &[To
     }
 }
 
-// The result and the body of a function.
+// Reads the result and the body of a function.
 fn func_behind(
     alloc: Global,
     line: u32,
@@ -148,7 +151,7 @@ fn func_behind(
     }
 }
 
-// A function after its receiver.
+// Reads a function after its receiver.
 fn func_named(
     alloc: Global,
     line: u32,
@@ -171,7 +174,7 @@ fn func_named(
     }
 }
 
-// A function after its word, which stands on this line.
+// Reads a function after its keyword, which is on this line.
 #[tactic(auto, unfolding(crate::specs::DeclReading::func_at))]
 fn func_at(
     alloc: Global,
@@ -187,7 +190,7 @@ fn func_at(
     }
 }
 
-// A variable after its word, which stands on this line.
+// Reads a variable after its keyword, which is on this line.
 fn var_decl(
     alloc: Global,
     line: u32,
@@ -202,7 +205,7 @@ fn var_decl(
     }
 }
 
-// A declaration after this word, which stands on this line.
+// Reads a declaration after this keyword, which is on this line.
 fn decl_from(
     alloc: Global,
     line: u32,
@@ -221,7 +224,7 @@ fn decl_from(
     }
 }
 
-/// The declaration at the front, and what follows it.
+/// Reads the declaration at the front. Returns it and the tokens after it.
 #[tactic(auto, unfolding(crate::specs::DeclReading::decl_at))]
 pub fn decl_at(alloc: Global, tokens: &[Token]) -> Result<Option<(OwnedDecl, &[Token])>, Memory>
     ensures value { IfOk result (λ o. seen o ≡ decl_spec.decl_at tokens.now) }

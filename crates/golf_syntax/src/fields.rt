@@ -1,4 +1,6 @@
-//! Fields of structs, and parameters.
+//! The reader of fields of structs and of parameters.
+//!
+//! Names that share a type are one `Field`. Every parameter has a name.
 
 ghost use Rattle.std.specs.Prelude.{◌≡◌, ◌<◌, ◌≤◌, length, IfOk, IfSome};
 ghost use Rattle.golf_syntax_expressions.specs.Front.{seen};
@@ -11,7 +13,7 @@ use golf_syntax_expressions::{after, copied, name_at, type_at};
 use golf_syntax_trees::{Field, Name};
 use std::alloc::Global;
 
-// More names, each after a comma.
+// Reads more names, each after a comma.
 fn names_at(alloc: Global, tokens: &[Token]) -> Result<Option<(List<Name>, &[Token])>, Memory>
     ensures value { IfOk result (λ o. seen o ≡ decl_spec.names_at tokens.now) }
     ensures shorter { IfOk result (λ o. IfSome o (λ x. length x.1.now ≤ length tokens.now)) }
@@ -30,7 +32,7 @@ fn names_at(alloc: Global, tokens: &[Token]) -> Result<Option<(List<Name>, &[Tok
     }
 }
 
-/// Names that share a type, and what follows them.
+/// Reads names that share a type. Returns them and the tokens after them.
 #[tactic(auto, unfolding(crate::specs::DeclReading::field_at))]
 pub fn field_at(alloc: Global, tokens: &[Token]) -> Result<Option<(Field, &[Token])>, Memory>
     ensures value { IfOk result (λ o. seen o ≡ decl_spec.field_at tokens.now) }
@@ -56,7 +58,7 @@ pub fn field_at(alloc: Global, tokens: &[Token]) -> Result<Option<(Field, &[Toke
     }
 }
 
-/// Fields with this punctuation mark between, up to the one that closes them, and what follows that.
+/// Reads fields with `separator` between, up to `close`. Returns them and the tokens after `close`.
 pub fn fields_at(
     alloc: Global,
     separator: Punctuation,

@@ -1,4 +1,6 @@
-//! Imports.
+//! The reader of imports (Go specification, "Import declarations").
+//!
+//! An import has one path, or a list of paths in parentheses. A name before a path is not read.
 
 ghost use Rattle.std.specs.Prelude.{◌≡◌, ◌<◌, length, IfOk, IfSome};
 ghost use Rattle.golf_syntax_expressions.specs.Front.{seen};
@@ -11,7 +13,7 @@ use golf_syntax_expressions::{after, copied};
 use golf_syntax_trees::Import;
 use std::alloc::Global;
 
-// The path of an import.
+// Reads the path of an import.
 fn text_at(alloc: Global, tokens: &[Token]) -> Result<Option<(List<u8>, &[Token])>, Memory>
     ensures value { IfOk result (λ o. seen o ≡ decl_spec.text_at tokens.now) }
     ensures shorter { IfOk result (λ o. IfSome o (λ x. length x.1.now < length tokens.now)) }
@@ -25,7 +27,7 @@ fn text_at(alloc: Global, tokens: &[Token]) -> Result<Option<(List<u8>, &[Token]
     }
 }
 
-// Paths with semicolons between, up to the parenthesis that closes them.
+// Reads paths with semicolons between, up to the closing parenthesis.
 fn texts_at(alloc: Global, tokens: &[Token]) -> Result<Option<(List<List<u8>>, &[Token])>, Memory>
     ensures value { IfOk result (λ o. seen o ≡ list_at decl_spec.text_at Punctuation.Semicolon Punctuation.CloseParen tokens.now) }
     ensures shorter { IfOk result (λ o. IfSome o (λ x. length x.1.now < length tokens.now)) }
@@ -50,7 +52,7 @@ fn texts_at(alloc: Global, tokens: &[Token]) -> Result<Option<(List<List<u8>>, &
     }
 }
 
-/// The import after its word, which stands on this line, and what follows it.
+/// Reads the import after its keyword, which is on this line. Returns it and the tokens after it.
 #[tactic(auto, unfolding(crate::specs::DeclReading::import_at))]
 pub fn import_at(
     alloc: Global,

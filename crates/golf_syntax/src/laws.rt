@@ -1,33 +1,37 @@
-//! Laws: what is read is what is printed.
+//! Laws: a reader finds exactly what is printed, and a file is read in one way.
+//!
+//! There are two laws for imports and for declarations: each one that is found is printed there (`found`), and each one
+//! that is printed is found (`read`).
 
 ghost use Rattle.golf_syntax.specs.Laws.{DeclsFound, DeclsRead, ImportsFound, ImportsRead, OneReads, OneTree};
 
-/// An import that is found is printed there, on the line of its word.
+/// States that an import that the reader finds is printed there, on the line of its keyword.
 pub fn imports_found()
     ensures { ImportsFound }
 {}
 
-/// An import that is printed is found.
+/// States that the reader finds each import that is printed.
 pub fn imports_read()
     ensures { ImportsRead }
 {}
 
-/// A declaration that is found is well formed, and printed there, each of its statements and clauses on its line.
+/// States that a declaration that the reader finds is well formed and printed there. Its statements and clauses have
+/// their lines.
 pub fn declarations_found()
     ensures { DeclsFound }
 {}
 
-/// A well-formed declaration that is printed before a semicolon is found.
+/// States that the reader finds each well-formed declaration that is printed before a semicolon.
 pub fn declarations_read()
     ensures { DeclsRead }
 {}
 
-/// At most one tree reads a list of tokens.
+/// States that at most one tree reads a list of tokens.
 pub fn one_reads()
     ensures { OneReads }
 {}
 
-/// At most one tree reads the bytes of a file.
+/// States that at most one tree reads the bytes of a file.
 pub fn one_tree()
     ensures { OneTree }
 {}

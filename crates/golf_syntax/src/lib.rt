@@ -1,8 +1,8 @@
 //! Reads a file from its tokens.
 //!
-//! `specs/` says what imports and declarations are read as, by the first tokens; `laws` says that
-//! it is what the grammar prints: what is found is well formed and printed there, and what is
-//! printed is found, before what ends it.
+//! `specs/` defines by the first tokens as what imports and declarations are read. By `laws` the
+//! reader agrees with the grammar. A construct that is found is well formed and printed there. A
+//! construct that is printed is found, if the token that ends it follows.
 #![tactic(auto)]
 
 mod constants;

@@ -1,4 +1,7 @@
-//! Reads a file from its tokens, segment by segment.
+//! Reads a file from its tokens, segment by segment: the package, the imports, the declarations.
+//!
+//! Before that it looks for a token that costs too much. The first broken segment ends the reading, and its first line
+//! is the line of the fault.
 
 ghost use Rattle.std.specs.Prelude.{◌≡◌, List, IfOk};
 ghost use Rattle.golf_syntax.specs.SegmentReading as segment_spec;
@@ -14,11 +17,11 @@ use golf_syntax_segments::{first_too_complex, front_segment};
 use golf_syntax_trees::{File, Import, OwnedDecl, OwnedDecls};
 use std::alloc::Global;
 
-/// Why tokens are no file.
+/// Why no tree reads the tokens.
 #[derive(Clone, Copy, Debug, PartialEq, Eq)]
 pub enum SyntaxFault {
-    /// The line of the first token that costs more than 1,000. If there is none: 1 for no tokens, and else the line on
-    /// which the first broken segment begins.
+    /// The line of the first token that costs more than 1,000. If there is none, it is the line on which the first
+    /// broken segment begins, or 1 if there are no tokens.
     At { line: u32 },
     /// Out of memory.
     Memory,
@@ -34,7 +37,7 @@ impl From<Memory> for SyntaxFault {
     }
 }
 
-// Whether a semicolon stands here, and nothing after it.
+// Returns whether the tokens are a semicolon and nothing after it.
 fn is_end(tokens: &[Token]) -> bool
     ensures { result ≡ segment_spec.is_end tokens.now }
 {
@@ -44,7 +47,7 @@ fn is_end(tokens: &[Token]) -> bool
     }
 }
 
-// Whether the segment names the package.
+// Returns whether the segment names the package `main`.
 fn is_package(segment: &[Token]) -> bool
     ensures { result ≡ segment_spec.is_package segment.now }
 {
@@ -57,7 +60,7 @@ fn is_package(segment: &[Token]) -> bool
     }
 }
 
-// The import after its word, which stands on this line, where the segment ends after it.
+// Reads the import after its keyword, which is on this line. Returns `None` unless the segment ends after it.
 fn import_behind(alloc: Global, line: u32, tokens: &[Token]) -> Result<Option<Import>, Memory>
     ensures { IfOk result (λ o. o ≡ import_by_word line (TokenKind.Keyword Keyword.Import) tokens.now) }
 {
@@ -71,7 +74,7 @@ fn import_behind(alloc: Global, line: u32, tokens: &[Token]) -> Result<Option<Im
     }
 }
 
-// The import that the segment is.
+// Returns the import of a segment, or `None` if the segment is no import.
 fn import_of(alloc: Global, segment: &[Token]) -> Result<Option<Import>, Memory>
     ensures { IfOk result (λ o. o ≡ segment_spec.import_of segment.now) }
 {
@@ -84,7 +87,7 @@ fn import_of(alloc: Global, segment: &[Token]) -> Result<Option<Import>, Memory>
     }
 }
 
-// The declaration that the segment is.
+// Returns the declaration of a segment, or `None` if the segment is no declaration.
 fn decl_of(alloc: Global, segment: &[Token]) -> Result<Option<OwnedDecl>, Memory>
     ensures { IfOk result (λ o. o ≡ segment_spec.decl_of segment.now) }
 {
@@ -98,7 +101,7 @@ fn decl_of(alloc: Global, segment: &[Token]) -> Result<Option<OwnedDecl>, Memory
     }
 }
 
-// The line of the first token, or 1.
+// Returns the line of the first token, or 1 if there are no tokens.
 fn first_line(tokens: &[Token]) -> u32
     ensures { FirstLine tokens.now result }
 {
@@ -108,7 +111,7 @@ fn first_line(tokens: &[Token]) -> u32
     }
 }
 
-// The imports in front, and the tokens after them.
+// Reads the imports in front. Returns them and the tokens after them.
 fn imports_of(alloc: Global, tokens: &[Token]) -> Result<(List<Import>, &[Token]), Memory>
     ensures { IfOk result (λ x. Imported tokens.now x.0 x.1.now) }
 {
@@ -126,7 +129,7 @@ fn imports_of(alloc: Global, tokens: &[Token]) -> Result<(List<Import>, &[Token]
     }
 }
 
-// The declarations that all segments are.
+// Returns the declarations of all segments, or the line of the first segment that is no declaration.
 fn declarations_of(alloc: Global, tokens: &[Token]) -> Result<OwnedDecls, SyntaxFault>
     ensures { Declared tokens.now result }
 {
@@ -146,7 +149,7 @@ fn declarations_of(alloc: Global, tokens: &[Token]) -> Result<OwnedDecls, Syntax
     }
 }
 
-// The file that the tokens are, segment by segment.
+// Returns the file of the tokens, segment by segment, or its first fault.
 fn file_of(alloc: Global, tokens: &[Token]) -> Result<File, SyntaxFault>
     ensures { Parsed tokens.now result }
 {
@@ -171,16 +174,16 @@ fn file_of(alloc: Global, tokens: &[Token]) -> Result<File, SyntaxFault>
     }
 }
 
-/// The file that the tokens are.
+/// Returns the file that reads the tokens.
 ///
 /// # Errors
 ///
-/// `SyntaxFault::At` if no well-formed tree prints the tokens, and `SyntaxFault::Memory` if memory runs out, which
-/// no clause ties to a cause.
+/// `SyntaxFault::At` if no well-formed tree prints the tokens. `SyntaxFault::Memory` if memory runs out; no clause ties
+/// it to a cause.
 pub fn parse(alloc: Global, tokens: &[Token]) -> Result<File, SyntaxFault>
     ensures answer { Parsed tokens.now result }
 
-    // If a tree reads the tokens, the answer is that tree, and if none does, the line of the fault.
+    // If a tree reads the tokens, the answer is that tree. If none does, it is the line of the fault.
     ensures accepts { Accepts tokens.now result }
     ensures refuses { Refuses tokens.now result }
 {

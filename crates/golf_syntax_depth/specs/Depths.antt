@@ -1,5 +1,4 @@
--- How deep trees are, counted over all parts but left operands and the `else` of an `if`: these two are followed
--- without recursion.
+-- How deep trees are, counted over all parts except for left operands and the `else` of an `if`, which loops follow.
 use Rattle.std.specs.Prelude.{ℕ, ◌+◌, max, List, [], ◌∷◌, map, Option, Some, None}
 use Rattle.golf_syntax_trees.specs.declared.types.TypeExpr.{TypeExpr}
 use Rattle.golf_syntax_trees.specs.declared.types.TypeExpr.TheOpen.{TypeExpr-F, Named, Pointer, SyncPointer, Slice}
@@ -31,7 +30,7 @@ use Rattle.golf_syntax_trees.specs.declared.declarations.Decl.{Decl}
 use Rattle.golf_syntax_trees.specs.declared.declarations.Decl.TheVariants as d
 use Rattle.golf_syntax_trees.specs.declared.declarations.File.{File}
 
--- the largest of some numbers, and 0 of none
+-- the largest of these numbers, or 0 if there are none
 abbrev pub largest : List ℕ → ℕ
 largest [] = 0
 largest (n ∷ ns) = max n (largest ns)
@@ -53,7 +52,7 @@ type_depth_step EmptyStruct = 1
 abbrev pub type_depth : TypeExpr → ℕ
 type_depth = fold-TypeExpr ℕ type_depth_step
 
--- One more than a part; as much as a left operand.
+-- One more than the deepest part; a left operand counts without the one.
 abbrev pub depth_step : Expr-F ℕ ℕ → ℕ
 depth_step (Integer digits) = 1
 depth_step (Text bytes) = 1
@@ -115,7 +114,7 @@ comm_depth (comm.DefineReceived n ok c) = depth c
 abbrev pub call_depth : Expr → List Expr → ℕ
 call_depth f arguments = max (depth f) (1 + largest (map depth arguments))
 
--- One more than a statement in braces; as much as the `else` of an `if`.
+-- One more than the deepest statement in braces; the `else` of an `if` counts without the one.
 abbrev pub stmt_depth_step : Stmt-F ℕ ℕ → ℕ
 stmt_depth_step (Var v) = content_depth v.content
 stmt_depth_step (SimpleStmt x) = simple_depth x

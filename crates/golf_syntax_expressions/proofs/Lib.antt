@@ -8,6 +8,7 @@ pub mod Moves
 pub mod ExprShapes
 pub mod ExprFronts
 pub mod ExprComplete
+pub mod StartSound
 pub mod ExprSound
 pub mod Examples
 pub mod SimpleLaws

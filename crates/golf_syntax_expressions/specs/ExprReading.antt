@@ -19,9 +19,9 @@ use Rattle.golf_syntax_expressions.specs.Front.{after, name_at}
 use Rattle.golf_syntax_expressions.specs.Operators.{unary_at, binary_at}
 use Rattle.golf_syntax_expressions.specs.Starts.{start_at, suffix_at}
 
--- What is read: the rest of an operand, a suffix of one, all its suffixes; an expression with operators in front, one
--- of a level, and what follows on that level; expressions and elements with commas between. In a header no operand
--- outside brackets begins with `&`.
+-- A mode is what is read: the rest of an operand, one suffix, all suffixes; an expression with operators in front, an
+-- expression of a level, the operators that follow on that level; expressions or elements with commas between. In a
+-- header no operand outside brackets begins with `&`.
 pub data Mode : Type 0 where
   Finish : Start → Mode
   Extend : Expr → Suffix → Mode
@@ -40,7 +40,7 @@ Node _ = Expr
 abbrev pub ExprPlan : Type 0 → Type 0
 ExprPlan A = Plan Token Mode Node A
 
--- what is found, with what follows it
+-- the construct that is found, with the tokens after it
 abbrev pub just : {A : Type 0} → A → List Token → ExprPlan A
 just a ts = Done (Some (a, ts))
 
@@ -73,14 +73,14 @@ prefixed_plan header ts (Some o) = Ask (Prefixed header) o.1 (λ x. just (ex.Una
 prefixed_plan header ts None = given (start_at header ts)
     (λ s. Ask (Finish s.0) s.1 (λ x. Ask (Suffixes x.0) x.1 found))
 
--- an operator that binds so tightly, with what is on its right, any number of times
+-- operators that bind at least this tightly, each with its right operand, any number of times
 abbrev pub climb_plan : Bool → ℕ → Expr → List Token → Option (BinaryOperator × List Token) → ExprPlan Expr
 climb_plan header l left ts None = just left ts
 climb_plan header l left ts (Some o) =
     cond (nat_le l (binds o.0)) (Ask (Level header (suc (binds o.0))) o.1
     (λ right. Ask (Climb header l (ex.Binary o.0 left right.0)) right.1 found)) (just left ts)
 
--- after an item: a comma and more, or what closes the list
+-- after an item: a comma and more items, or the mark that closes the list
 abbrev pub items_behind : Punctuation → List Expr → List Token → Option (List Token) → ExprPlan (List Expr)
 items_behind close done ts (Some us) = Ask (Items close done) us found
 items_behind close done ts None = given (after close ts) (just done)
@@ -109,7 +109,7 @@ expr_plan (Items close done) ts = Ask (Level false 1) ts
     (λ x. items_behind close (done ++ x.0 ∷ []) x.1 (after punctuations.Comma x.1))
 expr_plan (Elements done) ts = elements_plan done ts
 
--- a mode asks only for those of lower rank if it has taken no token
+-- a mode that has taken no token asks only for modes of lower rank
 abbrev pub rank : Mode → ℕ
 rank (Finish s) = 5
 rank (Extend base s) = 5
@@ -120,6 +120,6 @@ rank (Climb header l left) = 0
 rank (Items close done) = 4
 rank (Elements done) = 4
 
--- what is read at the front in a mode, and what follows it
+-- what is read at the front in a mode, and the tokens after it
 unfoldable pub expr_at : (m : Mode) → List Token → Option (Node m × List Token)
 expr_at m ts = reads expr_plan (suc (5 * length ts + rank m)) m ts

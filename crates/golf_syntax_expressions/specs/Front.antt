@@ -1,4 +1,4 @@
--- What stands at the front of a list of tokens.
+-- The front of a list of tokens.
 use Rattle.std.specs.Prelude.{ℕ, Bool, cond, List, [], ◌∷◌, Option, Some, None, option_map}
 use Rattle.std.specs.Borrow.{Bor}
 use denote.Enum.Bare.{sameb}
@@ -20,7 +20,7 @@ abbrev pub after_kind : Punctuation → TokenKind → List Token → Option (Lis
 after_kind m (kinds.Punctuation n) rest = cond (same_punctuation n m) (Some rest) None
 after_kind m _ rest = None
 
--- what follows a punctuation mark
+-- the tokens after a punctuation mark
 abbrev pub after : Punctuation → List Token → Option (List Token)
 after m [] = None
 after m (t ∷ ts) = after_kind m t.kind ts
@@ -29,7 +29,7 @@ abbrev pub after_keyword_kind : Keyword → TokenKind → List Token → Option 
 after_keyword_kind k (kinds.Keyword n) rest = cond (same_keyword n k) (Some rest) None
 after_keyword_kind k _ rest = None
 
--- what follows a keyword
+-- the tokens after a keyword
 abbrev pub after_keyword : Keyword → List Token → Option (List Token)
 after_keyword k [] = None
 after_keyword k (t ∷ ts) = after_keyword_kind k t.kind ts
@@ -38,11 +38,11 @@ abbrev pub name_of : TokenKind → List Token → Option (List ℕ × List Token
 name_of (kinds.Name n) rest = Some (n, rest)
 name_of _ rest = None
 
--- a name, and what follows it
+-- a name, and the tokens after it
 abbrev pub name_at : List Token → Option (List ℕ × List Token)
 name_at [] = None
 name_at (t ∷ ts) = name_of t.kind ts
 
--- what a reader found, with the tokens after it
+-- the construct that a reader found, with the tokens after it
 abbrev pub seen : {A : Type 0} → Option (A × Bor (List Token)) → Option (A × List Token)
 seen found = option_map (λ x. (x.0, x.1.now)) found

@@ -1,4 +1,4 @@
--- What is read at the front of tokens is what is printed there.
+-- The laws of readers, as statements: a reader finds exactly what is printed at the front.
 use Rattle.std.specs.Prelude.{◌≡◌, ◌≤◌, Bool, true, false, ◌&&◌, List, Some, None}
 use Rattle.golf_lex_tokens.specs.declared.token.Token.{Token}
 use Rattle.golf_lex_tokens.specs.declared.token.Punctuation.TheVariants as punctuations
@@ -16,18 +16,18 @@ use Rattle.golf_syntax_expressions.specs.TypeReading.{type_at, OfType}
 use Rattle.golf_syntax_expressions.specs.ExprReading.{Level, Prefixed, expr_at}
 use Rattle.golf_syntax_expressions.specs.SimpleReading.{follow_at, simple_at}
 
--- a well-formed type in these tokens, up to those that are left
+-- a well-formed type is printed at the front of these tokens, before the rest
 pub record IsTypeIn (ts : List Token) (x : TypeExpr × List Token) : Type 0 where
   pub words : Spells (print_type x.0) ts x.1
   pub good : (type_form x.0).good ≡ true
 
--- a well-formed expression; in a header no operand outside its brackets begins with `&`
+-- a well-formed expression is printed there; in a header no operand outside its brackets begins with `&`
 pub record IsExprIn (header : Bool) (ts : List Token) (x : Expr × List Token) : Type 0 where
   pub words : Spells (print_expr x.0) ts x.1
   pub good : (form x.0).good ≡ true
   pub clear : (header && (form x.0).ampersand) ≡ false
 
--- one that binds tighter than binary operators do
+-- it is an operand that binds tighter than binary operators
 pub record IsOperandIn (header : Bool) (ts : List Token) (x : Expr × List Token) : Type 0 where
   pub is : IsExprIn header ts x
   pub top : 6 ≤ (form x.0).top
@@ -37,12 +37,12 @@ pub record IsSimpleIn (header : Bool) (ts : List Token) (x : Simple × List Toke
   pub good : (simple_form x.0.kind).good ≡ true
   pub clear : (header && (simple_form x.0.kind).ampersand) ≡ false
 
--- no suffix and no binary operator stands here
+-- no suffix and no binary operator follows
 pub record EndsExpr (ts : List Token) : Type 0 where
   pub suffix : suffix_at ts ≡ None
   pub operator : binary_at ts ≡ None
 
--- nor anything that goes on with a simple statement
+-- nor does anything that continues a simple statement
 pub record EndsSimple (ts : List Token) : Type 0 where
   pub expr : EndsExpr ts
   pub follow : follow_at ts ≡ None

@@ -1,4 +1,4 @@
--- How reading an expression goes on, with what waits for it.
+-- How the reader of expressions goes on, with the constructs that wait.
 use Rattle.std.specs.Prelude.{ℕ, ◌+◌, false, List, [], ◌∷◌, ◌++◌, Option, Some, None}
 use Rattle.std.specs.Borrow.{Bor}
 use Rattle.golf_lex_tokens.specs.declared.token.Token.{Token}
@@ -26,22 +26,22 @@ use Rattle.golf_syntax_expressions.specs.ExprReading.{expr_at}
 abbrev pub Found : Type 0
 Found = Option (Expr × List Token)
 
--- what is found if this is read next
+-- what is found for this goal
 abbrev pub goal_at : Goal → List Token → Found
 goal_at (goals.Level header l) ts = expr_at (Level header l) ts
 goal_at (goals.Prefixed header) ts = expr_at (Prefixed header) ts
 goal_at (goals.Suffixes base) ts = expr_at (Suffixes base) ts
 goal_at (goals.Climb header l left) ts = expr_at (Climb header l left) ts
 
--- what is found with all that stands after an operand
+-- what is found with all suffixes of an operand
 abbrev pub suffixed : Expr → List Token → Found
 suffixed base ts = expr_at (Suffixes base) ts
 
--- what is found after an operand that ends with this punctuation mark
+-- what is found after an operand that this punctuation mark closes
 abbrev pub closed_at : Punctuation → Expr → List Token → Found
 closed_at close base ts = after close ts >>= suffixed base
 
--- after an argument, an item or the value of an element: a comma and more, or what closes the list
+-- after an argument, an item or the value of an element: a comma and more, or the mark that closes the list
 abbrev pub argument_at : Expr → List Expr → List Token → Option (List Token) → Found
 argument_at f done ts (Some us) = expr_at (Items punctuations.CloseParen done) us >>= λ y. suffixed (ex.Call f y.0) y.1
 argument_at f done ts None = closed_at punctuations.CloseParen (ex.Call f done) ts
@@ -55,7 +55,7 @@ abbrev pub element_at : List ℕ → List Element → List Token → Option (Lis
 element_at n done ts (Some us) = expr_at (Elements done) us >>= λ y. suffixed (ex.StructLiteral n y.0) y.1
 element_at n done ts None = closed_at punctuations.CloseBrace (ex.StructLiteral n done) ts
 
--- what is found from an expression on that something waited for
+-- what is found once the waiting construct has its expression
 abbrev pub pending_at : Pending → Expr × List Token → Found
 pending_at pendings.Group x = closed_at punctuations.CloseParen (ex.Parens x.0) x.1
 pending_at (pendings.Sized t) x = closed_at punctuations.CloseParen (ex.MakeSized t x.0) x.1
@@ -68,7 +68,7 @@ pending_at (pendings.Prefix o) x = Some (ex.Unary o x.0, x.1)
 pending_at (pendings.Level header l) x = expr_at (Climb header l x.0) x.1
 pending_at (pendings.Operand header l left o) x = expr_at (Climb header l (ex.Binary o left x.0)) x.1
 
--- what is found if reading goes on so
+-- what is found by this move
 abbrev pub move_at : Move → List Token → Found
 move_at (moves.Found e) ts = Some (e, ts)
 move_at (moves.Seek a) ts = goal_at a ts
@@ -77,11 +77,11 @@ move_at (moves.Wait f a) ts = goal_at a ts >>= pending_at f
 abbrev pub moved : Option (Move × Bor (List Token)) → Found
 moved o = moved_by move_at o
 
--- what is found with all that waits, the last first
+-- what is found once all waiting constructs have theirs, the last one first
 abbrev pub waited : List Pending → Found → Found
 waited fs o = waited_by pending_at fs o
 
--- what is found after how an operand begins
+-- what is found after the beginning of an operand
 abbrev pub field_at : List ℕ → List Element → List Token → Found
 field_at n done ts = name_at ts >>= λ m. after punctuations.Colon m.1 >>= λ us. expr_at
     (Level false 1) us >>= pending_at (pendings.Element n done m.0)
@@ -100,7 +100,7 @@ extended_at base suffixes.Index ts = expr_at (Level false 1) ts >>= pending_at (
 extended_at base suffixes.NoArguments ts = suffixed (ex.Call base []) ts
 extended_at base suffixes.Arguments ts = expr_at (Level false 1) ts >>= pending_at (pendings.Argument base [])
 
--- how many moves there may be before a token is taken or a waiting one goes on
+-- how many moves there can be before a token is taken or a waiting construct goes on
 abbrev pub goal_weight : Goal → ℕ
 goal_weight (goals.Level header l) = 4
 goal_weight (goals.Prefixed header) = 0

@@ -1,4 +1,4 @@
--- Operators at the front.
+-- Operators at the front of tokens.
 use Rattle.std.specs.Prelude.{List, [], ◌∷◌, Option, Some, None}
 use Rattle.golf_lex_tokens.specs.declared.token.Token.{Token}
 use Rattle.golf_lex_tokens.specs.declared.token.TokenKind.{TokenKind}
@@ -37,7 +37,7 @@ abbrev pub punctuation_of : TokenKind → Option Punctuation
 punctuation_of (kinds.Punctuation m) = Some m
 punctuation_of _ = None
 
--- an operator at the front, and what follows it
+-- an operator at the front, and the tokens after it
 unfoldable pub unary_at : List Token → Option (UnaryOperator × List Token)
 unary_at [] = None
 unary_at (t ∷ ts) = punctuation_of t.kind >>= λ m. unary_of m >>= λ o. Some (o, ts)

@@ -18,7 +18,7 @@ use Rattle.golf_syntax_expressions.specs.ExprReading.{Level, Prefixed, expr_at}
 abbrev pub Found : Type 0
 Found = Option (SimpleKind × List Token)
 
--- what a punctuation mark after the first expression of a simple statement begins
+-- what a punctuation mark begins after the first expression of a simple statement
 abbrev pub follow_of : Punctuation → Option Follow
 follow_of punctuations.Arrow = Some follows.Sends
 follow_of punctuations.Increment = Some follows.Increments
@@ -35,7 +35,7 @@ unfoldable pub follow_at : List Token → Option (Follow × List Token)
 follow_at [] = None
 follow_at (t ∷ ts) = punctuation_of t.kind >>= λ m. follow_of m >>= λ f. Some (f, ts)
 
--- a second expression
+-- the second expression
 abbrev pub second : Bool → (Expr → SimpleKind) → List Token → Found
 second header wrap ts = expr_at (Level header 1) ts >>= λ v. Some (wrap v.0, v.1)
 
@@ -67,7 +67,7 @@ behind_names header n m ts None = after punctuations.Assign ts >>= received head
 unfoldable pub pair_at : Bool → List ℕ → List Token → Found
 pair_at header n ts = name_at ts >>= λ m. behind_names header n m.0 m.1 (after punctuations.Define m.1)
 
--- what stands after a first name: `:=`, a comma, or an expression that begins with it
+-- what follows a first name: `:=`, a comma, or the rest of an expression
 abbrev pub behind_name : Bool → List ℕ → List Token → Option (List Token) → Option (List Token) → Found
 behind_name header n ts (Some us) comma = second header (s.Define n) us
 behind_name header n ts None (Some us) = pair_at header n us
@@ -80,7 +80,7 @@ kind_by header ts (Some n) = behind_name header n.0 ts (after punctuations.Defin
 unfoldable pub kind_at : Bool → List Token → Found
 kind_at header ts = kind_by header ts (name_at ts)
 
--- the simple statement at the front, on the line of its first token, and what follows it
+-- the simple statement at the front, with the line of its first token, and the tokens after it
 unfoldable pub simple_at : Bool → List Token → Option (Simple × List Token)
 simple_at header [] = None
 simple_at header (t ∷ ts) = kind_at header (t ∷ ts) >>= λ x. Some (record { line = t.line; kind = x.0 }, x.1)

@@ -1,4 +1,4 @@
--- How operands begin, and what may stand after them.
+-- How operands begin, and which suffixes follow them.
 use Rattle.std.specs.Prelude.{ℕ, Bool, cond, List, [], ◌∷◌, Option, Some, None}
 use Rattle.std.specs.Str.{bytes_eq}
 use Rattle.golf_lex_tokens.specs.declared.token.Token.{Token}
@@ -24,7 +24,7 @@ use Rattle.golf_syntax_expressions.specs.TypeReading.{type_at, OfType}
 abbrev pub Started : Type 0
 Started = Option (Start × List Token)
 
--- an operand that stands there whole
+-- an operand that is whole already
 abbrev pub whole : Expr → List Token → Started
 whole x ts = Some (starts.Whole x, ts)
 
@@ -104,7 +104,7 @@ start_from header (kinds.Name n) ts = named_start n ts
 start_from header (kinds.Keyword k) ts = keyword_start k ts
 start_from header (kinds.Punctuation m) ts = punctuation_start header m ts
 
--- how the operand at the front begins, and what follows that beginning
+-- the beginning of the operand at the front, and the tokens after it
 unfoldable pub start_at : Bool → List Token → Started
 start_at header [] = None
 start_at header (t ∷ ts) = start_from header t.kind ts
@@ -125,6 +125,6 @@ abbrev pub suffix_by : List Token → Option (List Token) → Option (Suffix × 
 suffix_by ts (Some us) = name_at us >>= λ n. Some (suffixes.Field n.0, n.1)
 suffix_by ts None = no_field ts (after punctuations.OpenBracket ts)
 
--- what stands after an operand
+-- the suffix at the front, and the tokens after it
 unfoldable pub suffix_at : List Token → Option (Suffix × List Token)
 suffix_at ts = suffix_by ts (after punctuations.Dot ts)

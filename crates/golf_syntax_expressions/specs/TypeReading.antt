@@ -68,6 +68,6 @@ abbrev pub type_plan : Mode → List Token → TypePlan
 type_plan m [] = Done None
 type_plan m (t ∷ ts) = type_from t.kind ts
 
--- the type at the front, and what follows it
+-- the type at the front, and the tokens after it
 unfoldable pub type_at : Mode → List Token → Option (TypeExpr × List Token)
 type_at m ts = reads type_plan (suc (length ts)) m ts

@@ -1,4 +1,7 @@
-//! Expressions. Nothing recurs here: what waits for an expression stands in a list.
+//! The reader of expressions (Go specification, "Expressions").
+//!
+//! It does not recur: the constructs that wait for an expression are in a list. A `Move` says how the reader goes on.
+//! Each move takes a token, lowers the weight, or lets a waiting construct go on, so the reader ends.
 
 ghost use Rattle.std.specs.Prelude.{false, Some, ◌≡◌, ◌+◌, ◌*◌, ◌<◌, length, IfOk, IfSome};
 ghost use Rattle.golf_syntax_expressions.specs.Front as front_spec;
@@ -19,14 +22,14 @@ use golf_lex_tokens::{Punctuation, Token};
 use golf_syntax_trees::{Name, OwnedElements, OwnedExpr, OwnedExprs, OwnedType};
 use std::alloc::Global;
 
-// An expression inside brackets.
+// Reads an expression inside brackets next, for which `pending` waits.
 fn inside(pending: Pending) -> Move
     ensures value { result ≡ Move.Wait pending (Goal.Level false 1) }
 {
     Move::Wait(pending, Goal::Level(false, 1))
 }
 
-// The next element of a struct literal.
+// Reads the name and the colon of the next element of a struct literal.
 fn field_move(
     alloc: Global,
     name: Name,
@@ -46,7 +49,7 @@ fn field_move(
     Ok(Some((inside(Pending::Element(name, done, field)), valued)))
 }
 
-// After the beginning of an operand.
+// Goes on after the beginning of an operand.
 fn start_move(
     alloc: Global,
     start: Start,
@@ -67,7 +70,7 @@ fn start_move(
     }
 }
 
-// After one suffix more.
+// Goes on after one more suffix.
 fn suffix_move(
     alloc: Global,
     base: OwnedExpr,
@@ -98,7 +101,7 @@ fn suffix_move(
     }
 }
 
-// An operand with its operators in front.
+// Reads an operator in front of an operand, or the beginning of the operand.
 #[tactic(auto, using(crate::proofs::Moves::prefixed_steps))]
 fn prefixed_move(
     alloc: Global,
@@ -120,7 +123,7 @@ fn prefixed_move(
     }
 }
 
-// What stands after an operand.
+// Reads the next suffix of an operand, if there is one.
 #[tactic(auto, using(crate::proofs::Moves::suffixes_steps))]
 fn suffixes_move(
     alloc: Global,
@@ -136,7 +139,7 @@ fn suffixes_move(
     }
 }
 
-// The operators of a level.
+// Reads the next operator of a level, if there is one.
 #[tactic(auto, using(crate::proofs::Moves::climb_steps))]
 fn climb_move(header: bool, lowest: u8, left: OwnedExpr, tokens: &[Token]) -> (Move, &[Token])
     ensures value { moves_spec.moved (Some result) ≡ expr_at (Climb header lowest left) tokens.now }
@@ -157,7 +160,7 @@ fn climb_move(header: bool, lowest: u8, left: OwnedExpr, tokens: &[Token]) -> (M
     }
 }
 
-// What is read next.
+// Reads what a goal asks for.
 #[tactic(auto, using(crate::proofs::Moves::level_steps))]
 fn goal_move(
     alloc: Global,
@@ -178,7 +181,7 @@ fn goal_move(
     }
 }
 
-// After an argument: a comma and more, or the closing parenthesis.
+// Reads a comma and the next argument, or the closing parenthesis.
 #[tactic(auto, using(crate::proofs::Moves::resume_steps))]
 fn argument_move(
     alloc: Global,
@@ -201,7 +204,7 @@ fn argument_move(
     }
 }
 
-// After an item of a slice literal: a comma and more, or the closing brace.
+// Reads a comma and the next item of a slice literal, or the closing brace.
 #[tactic(auto, using(crate::proofs::Moves::resume_steps))]
 fn item_move(element: OwnedType, done: OwnedExprs, tokens: &[Token]) -> Option<(Move, &[Token])>
     ensures value { moves_spec.moved result ≡ item_at element done tokens.now (front_spec.after Punctuation.Comma tokens.now) }
@@ -219,7 +222,7 @@ fn item_move(element: OwnedType, done: OwnedExprs, tokens: &[Token]) -> Option<(
     }
 }
 
-// After an element of a struct literal: a comma and more, or the closing brace.
+// Reads a comma and the next element of a struct literal, or the closing brace.
 #[tactic(auto, using(crate::proofs::Moves::resume_steps))]
 fn element_move(
     alloc: Global,
@@ -242,7 +245,7 @@ fn element_move(
     }
 }
 
-// After an expression in brackets that stands for itself: what closes them.
+// Reads the closing bracket after an expression in brackets.
 fn closed_move(close: Punctuation, whole: OwnedExpr, tokens: &[Token]) -> Option<(Move, &[Token])>
     ensures value { moves_spec.moved result ≡ closed_at close whole tokens.now }
     ensures less { IfSome result (λ x. weight x.0 + 8 * length x.1.now < 8 * length tokens.now) }
@@ -253,7 +256,7 @@ fn closed_move(close: Punctuation, whole: OwnedExpr, tokens: &[Token]) -> Option
     }
 }
 
-// What waits goes on with the expression that it waited for.
+// Goes on with the construct that waited for this expression.
 fn resume(
     alloc: Global,
     pending: Pending,
@@ -316,7 +319,7 @@ fn resume(
     }
 }
 
-// All that is read from this on.
+// Reads all that this goal asks for, with a list of the constructs that wait.
 #[tactic(auto, using(crate::proofs::Moves::read_steps))]
 fn read(
     alloc: Global,
@@ -348,7 +351,7 @@ fn read(
     }
 }
 
-// An expression whose operators bind at least so tightly, and what follows it; in a header, if that is true.
+// Reads an expression whose operators bind at least as tightly as `lowest`. Returns it and the tokens after it.
 #[tactic(auto, using(crate::proofs::Moves::shorter_steps))]
 pub(crate) fn level_at(
     alloc: Global,
@@ -362,7 +365,7 @@ pub(crate) fn level_at(
     read(alloc, Goal::Level(header, lowest), tokens)
 }
 
-// An operand with the operators before it, and what follows it; in a header, if that is true.
+// Reads an operand with the operators before it. Returns it and the tokens after it.
 #[tactic(auto, using(crate::proofs::Moves::shorter_steps))]
 pub(crate) fn prefixed_at(
     alloc: Global,
@@ -375,7 +378,7 @@ pub(crate) fn prefixed_at(
     read(alloc, Goal::Prefixed(header), tokens)
 }
 
-/// The expression at the front, and what follows it.
+/// Reads the expression at the front. Returns it and the tokens after it, or `None` if there is none.
 pub fn expression_at(
     alloc: Global,
     place: Context,
@@ -387,7 +390,8 @@ pub fn expression_at(
     level_at(alloc, in_header(place), 1, tokens)
 }
 
-/// The operand at the front with the operators before it, outside headers, and what follows it.
+/// Reads the operand at the front with the operators before it, outside headers. Returns it and the tokens after it, or
+/// `None` if there is none.
 pub fn operand_at(alloc: Global, tokens: &[Token]) -> Result<Option<(OwnedExpr, &[Token])>, Memory>
     ensures value { IfOk result (λ o. seen o ≡ expr_at (Prefixed false) tokens.now) }
     ensures shorter { IfOk result (λ o. IfSome o (λ x. length x.1.now < length tokens.now)) }

@@ -1,4 +1,7 @@
-//! What stands at the front of tokens.
+//! The front of a list of tokens: punctuation marks, keywords and names.
+//!
+//! Each call except for `copied` looks at the first token only. It returns the tokens after it, or
+//! `None` if the token is another one.
 
 ghost use Rattle.std.specs.Prelude.{◌≡◌, ◌<◌, length, IfOk, IfSome, option_map};
 ghost use Rattle.golf_syntax_expressions.specs.Front as front_spec;
@@ -7,7 +10,7 @@ use golf_base::{List, Memory};
 use golf_lex_tokens::{Keyword, Punctuation, Token, TokenKind};
 use std::alloc::Global;
 
-// What follows a punctuation mark.
+/// Returns the tokens after this punctuation mark, or `None` if the tokens do not begin with it.
 pub fn after(tokens: &[Token], punctuation: Punctuation) -> Option<&[Token]>
     ensures value { option_map (λ r. r.now) result ≡ front_spec.after punctuation tokens.now }
     ensures shorter { IfSome result (λ r. length r.now < length tokens.now) }
@@ -25,7 +28,7 @@ pub fn after(tokens: &[Token], punctuation: Punctuation) -> Option<&[Token]>
     }
 }
 
-// What follows a keyword.
+/// Returns the tokens after this keyword, or `None` if the tokens do not begin with it.
 pub fn after_keyword(tokens: &[Token], keyword: Keyword) -> Option<&[Token]>
     ensures value { option_map (λ r. r.now) result ≡ front_spec.after_keyword keyword tokens.now }
     ensures shorter { IfSome result (λ r. length r.now < length tokens.now) }
@@ -39,7 +42,7 @@ pub fn after_keyword(tokens: &[Token], keyword: Keyword) -> Option<&[Token]>
     }
 }
 
-// The bytes once more.
+/// Returns a copy of the bytes.
 pub fn copied(alloc: Global, bytes: &List<u8>) -> Result<List<u8>, Memory>
     ensures { IfOk result (λ copy. copy ≡ bytes.now) }
 {
@@ -48,7 +51,7 @@ pub fn copied(alloc: Global, bytes: &List<u8>) -> Result<List<u8>, Memory>
     Ok(copy)
 }
 
-// A name, and what follows it.
+/// Returns the name at the front and the tokens after it, or `None` if there is none.
 pub fn name_at(tokens: &[Token]) -> Option<(&List<u8>, &[Token])>
     ensures value { option_map (λ x. (x.0.now, x.1.now)) result ≡ front_spec.name_at tokens.now }
     ensures shorter { IfSome result (λ x. length x.1.now < length tokens.now) }

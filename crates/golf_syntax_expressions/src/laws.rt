@@ -1,46 +1,53 @@
-//! Laws: what is read is what is printed.
+//! Laws: a reader finds exactly what is printed at the front.
+//!
+//! There are two laws for each construct. A construct that is found is well formed and printed
+//! there (`found`). A construct that is printed is found (`read`).
 
 ghost use Rattle.golf_syntax_expressions.specs.Laws.{ExpressionsFound, ExpressionsRead, OperandsFound, OperandsRead};
 ghost use Rattle.golf_syntax_expressions.specs.Laws.{SimplesFound, SimplesRead, TypesFound, TypesRead};
 
-/// A type that is found is well formed, and printed there.
+/// States that a type that the reader finds is well formed and printed there.
 pub fn types_found()
     ensures { TypesFound }
 {}
 
-/// A well-formed type that is printed is found, if no dot follows.
+/// States that the reader finds each well-formed type that is printed, if no dot follows it.
 pub fn types_read()
     ensures { TypesRead }
 {}
 
-/// An expression that is found is well formed, and printed there. In a header no operand outside
-/// its brackets begins with `&`.
+/// States that an expression that the reader finds is well formed and printed there. In a header,
+/// no operand outside its brackets begins with `&`.
 pub fn expressions_found()
     ensures { ExpressionsFound }
 {}
 
-/// A well-formed expression that is printed is found, if nothing goes on with it.
+/// States that the reader finds each well-formed expression that is printed, if nothing after it
+/// continues it.
 pub fn expressions_read()
     ensures { ExpressionsRead }
 {}
 
-/// An operand that is found with its operators is well formed, binds tighter than binary operators,
-/// and is printed there.
+/// States that an operand that the reader finds with its operators is well formed and printed
+/// there. It binds tighter than binary operators.
 pub fn operands_found()
     ensures { OperandsFound }
 {}
 
-/// Such an operand that is printed is found, if nothing goes on with it.
+/// States that the reader finds each such operand that is printed, if nothing after it continues
+/// it.
 pub fn operands_read()
     ensures { OperandsRead }
 {}
 
-/// A simple statement that is found is well formed, and printed there on its line.
+/// States that a simple statement that the reader finds is well formed and printed there, on its
+/// line.
 pub fn simples_found()
     ensures { SimplesFound }
 {}
 
-/// A well-formed simple statement that is printed is found, if nothing goes on with it.
+/// States that the reader finds each well-formed simple statement that is printed, if nothing after
+/// it continues it.
 pub fn simples_read()
     ensures { SimplesRead }
 {}

@@ -1,8 +1,10 @@
 //! Readers of types, expressions and simple statements, each at the front of a list of tokens.
 //!
-//! Each call finds what the list begins with, and what follows it. `specs/` says what that is by the first tokens;
-//! `laws` says that it is what the grammar prints: what is found is well formed and printed there, and what is printed
-//! is found, if nothing after it goes on with it.
+//! A reader returns the construct with which the list begins and the tokens after it, or `None` if the list begins with
+//! no such construct. `specs/` defines by the first tokens which construct that is.
+//!
+//! By `laws` the readers agree with the grammar. A construct that is found is well formed and printed there. A
+//! construct that is printed is found, if nothing after it continues it.
 #![tactic(auto)]
 
 mod expressions;

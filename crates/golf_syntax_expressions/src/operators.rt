@@ -1,4 +1,6 @@
-//! Operators.
+//! Operators: how tightly they bind, and how they are read (Go specification, "Operators").
+//!
+//! A binary operator binds with 1 to 5. `-`, `!` and `<-` are the unary operators.
 
 ghost use Rattle.std.specs.Prelude.{◌≡◌, ◌<◌, ◌≤◌, length, IfSome};
 ghost use Rattle.golf_syntax_trees.specs.Expressions as expressions_spec;
@@ -9,7 +11,7 @@ ghost use Rattle.golf_syntax_expressions.specs.Operators.{unary_of, binary_of};
 use golf_lex_tokens::{Punctuation, Token, TokenKind};
 use golf_syntax_trees::{BinaryOperator, UnaryOperator};
 
-// How tightly an operator binds.
+/// Returns how tightly an operator binds, from 1 to 5.
 pub fn binds(operator: BinaryOperator) -> u8
     ensures value { result ≡ expressions_spec.binds operator }
     ensures small { result ≤ 5 }
@@ -60,7 +62,7 @@ fn binary(punctuation: Punctuation) -> Option<BinaryOperator>
     }
 }
 
-// A unary operator at the front, and what follows it.
+/// Reads a unary operator at the front. Returns it and the tokens after it.
 #[tactic(auto, unfolding(crate::specs::Operators::unary_at))]
 pub fn unary_at(tokens: &[Token]) -> Option<(UnaryOperator, &[Token])>
     ensures value { seen result ≡ operators_spec.unary_at tokens.now }
@@ -78,7 +80,7 @@ pub fn unary_at(tokens: &[Token]) -> Option<(UnaryOperator, &[Token])>
     }
 }
 
-// A binary operator at the front, and what follows it.
+/// Reads a binary operator at the front. Returns it and the tokens after it.
 #[tactic(auto, unfolding(crate::specs::Operators::binary_at))]
 pub fn binary_at(tokens: &[Token]) -> Option<(BinaryOperator, &[Token])>
     ensures value { seen result ≡ operators_spec.binary_at tokens.now }

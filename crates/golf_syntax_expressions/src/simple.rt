@@ -1,4 +1,7 @@
-//! Simple statements.
+//! The reader of simple statements (Go specification, "Statements").
+//!
+//! A name and `:=`, or two names, decide by the first tokens. Any other simple statement begins
+//! with an expression, and the mark after it decides.
 
 ghost use Rattle.std.specs.Prelude.{◌≡◌, ◌<◌, ◌≤◌, length, IfOk, IfSome};
 ghost use Rattle.golf_syntax_expressions.specs.Front.{seen};
@@ -16,7 +19,7 @@ use golf_syntax_trees::{
 };
 use std::alloc::Global;
 
-/// What stands after the first expression of a simple statement.
+/// What follows the first expression of a simple statement.
 #[derive(Drop)]
 pub enum Follow {
     Sends,
@@ -60,7 +63,7 @@ fn follow_at(tokens: &[Token]) -> Option<(Follow, &[Token])>
     }
 }
 
-// `<- value` after a channel.
+// Reads the value after `<-`.
 fn sent(
     alloc: Global,
     header: bool,
@@ -79,7 +82,7 @@ fn sent(
     }
 }
 
-// `= value` after a place.
+// Reads the value after `=`.
 fn assigned(
     alloc: Global,
     header: bool,
@@ -98,7 +101,7 @@ fn assigned(
     }
 }
 
-// `+= value` and its like after a place.
+// Reads the value after `+=` and its like.
 fn updated(
     alloc: Global,
     header: bool,
@@ -118,7 +121,7 @@ fn updated(
     }
 }
 
-// What stands after the first expression.
+// Reads what follows the first expression.
 fn followed(
     alloc: Global,
     header: bool,
@@ -144,7 +147,7 @@ fn followed(
     }
 }
 
-// A simple statement that begins with an expression.
+// Reads a simple statement that begins with an expression.
 #[tactic(auto, unfolding(crate::specs::SimpleReading::expression_at))]
 fn expression_at(
     alloc: Global,
@@ -163,7 +166,7 @@ fn expression_at(
     }
 }
 
-// `<-channel` after two names and `:=`.
+// Reads `<-channel` after two names and `:=`.
 fn defined_pair(
     alloc: Global,
     header: bool,
@@ -186,7 +189,7 @@ fn defined_pair(
     }
 }
 
-// `<-channel` after two names and `=`.
+// Reads `<-channel` after two names and `=`.
 fn assigned_pair(
     alloc: Global,
     header: bool,
@@ -209,7 +212,7 @@ fn assigned_pair(
     }
 }
 
-// `, ok := <-channel` or `, ok = <-channel` after a name and its comma.
+// Reads `ok := <-channel` or `ok = <-channel` after a name and its comma.
 #[tactic(auto, unfolding(crate::specs::SimpleReading::pair_at))]
 fn pair_at(
     alloc: Global,
@@ -233,7 +236,7 @@ fn pair_at(
     }
 }
 
-// `:= value` after a name.
+// Reads the value after a name and `:=`.
 fn defined(
     alloc: Global,
     header: bool,
@@ -252,7 +255,7 @@ fn defined(
     }
 }
 
-// What a simple statement is: a definition, or one that begins with an expression.
+// Reads a simple statement without its line.
 #[tactic(auto, unfolding(crate::specs::SimpleReading::kind_at))]
 fn kind_at(
     alloc: Global,
@@ -274,7 +277,8 @@ fn kind_at(
     }
 }
 
-/// The simple statement at the front, on the line of its first token, and what follows it.
+/// Reads the simple statement at the front. It has the line of its first token. Returns it and the
+/// tokens after it.
 #[tactic(auto, unfolding(crate::specs::SimpleReading::simple_at))]
 pub fn simple_at(
     alloc: Global,

@@ -1,4 +1,6 @@
-//! How operands begin, and what may stand after them.
+//! How operands begin, and which suffixes follow them.
+//!
+//! Nothing here reads an expression inside brackets: a `Start` or a `Suffix` says that one follows.
 
 ghost use Rattle.std.specs.Prelude.{◌≡◌, ◌<◌, ◌≤◌, length, IfOk, IfSome};
 ghost use Rattle.golf_syntax_expressions.specs.Front.{seen};
@@ -11,7 +13,7 @@ use golf_lex_tokens::{Keyword, Punctuation, Token, TokenKind};
 use golf_syntax_trees::{Name, OwnedElements, OwnedExpr, OwnedExprs, OwnedType};
 use std::alloc::Global;
 
-/// How an operand begins: it stands there whole, or what is inside its brackets follows.
+/// How an operand begins: it is whole already, or the content of its brackets follows.
 #[derive(Drop)]
 pub enum Start {
     Whole(OwnedExpr),
@@ -25,7 +27,7 @@ pub enum Start {
     Elements(Name),
 }
 
-/// What stands after an operand.
+/// A suffix of an operand.
 #[derive(Drop)]
 pub enum Suffix {
     /// `.f`
@@ -38,7 +40,7 @@ pub enum Suffix {
     Arguments,
 }
 
-// `(T)` or `(T,` after `make`.
+// Reads `(T)` or `(T,` after `make`.
 #[tactic(auto, unfolding(crate::specs::Starts::make_start))]
 fn make_start(alloc: Global, tokens: &[Token]) -> Result<Option<(Start, &[Token])>, Memory>
     ensures value { IfOk result (λ o. seen o ≡ starts_spec.make_start tokens.now) }
@@ -59,7 +61,7 @@ fn make_start(alloc: Global, tokens: &[Token]) -> Result<Option<(Start, &[Token]
     }
 }
 
-// `(T)` or `(sync.T)` after `new`.
+// Reads `(T)` or `(sync.T)` after `new`.
 #[tactic(auto, unfolding(crate::specs::Starts::new_start))]
 fn new_start(alloc: Global, tokens: &[Token]) -> Result<Option<(Start, &[Token])>, Memory>
     ensures value { IfOk result (λ o. seen o ≡ starts_spec.new_start tokens.now) }
@@ -94,7 +96,7 @@ fn new_start(alloc: Global, tokens: &[Token]) -> Result<Option<(Start, &[Token])
     }
 }
 
-// `{}{}` after `struct`.
+// Reads `{}{}` after `struct`.
 #[tactic(auto, unfolding(crate::specs::Starts::empty_start))]
 fn empty_start(tokens: &[Token]) -> Option<(Start, &[Token])>
     ensures value { seen result ≡ starts_spec.empty_start tokens.now }
@@ -107,7 +109,7 @@ fn empty_start(tokens: &[Token]) -> Option<(Start, &[Token])>
     Some((Start::Whole(OwnedExpr::empty_literal()), d))
 }
 
-// `]T{` or `]T{}` after `[`.
+// Reads `]T{` or `]T{}` after `[`.
 #[tactic(auto, unfolding(crate::specs::Starts::slice_start))]
 fn slice_start(alloc: Global, tokens: &[Token]) -> Result<Option<(Start, &[Token])>, Memory>
     ensures value { IfOk result (λ o. seen o ≡ starts_spec.slice_start tokens.now) }
@@ -131,7 +133,7 @@ fn slice_start(alloc: Global, tokens: &[Token]) -> Result<Option<(Start, &[Token
     }
 }
 
-// `T{}` after `&sync.`.
+// Reads `T{}` after `&sync.`.
 #[tactic(auto, unfolding(crate::specs::Starts::sync_start))]
 fn sync_start<'a>(
     alloc: Global,
@@ -159,7 +161,7 @@ fn sync_start<'a>(
     }
 }
 
-// `T{`, `T{}` or `sync.T{}` after `&`.
+// Reads `T{`, `T{}` or `sync.T{}` after `&`.
 #[tactic(auto, unfolding(crate::specs::Starts::literal_start))]
 fn literal_start(alloc: Global, tokens: &[Token]) -> Result<Option<(Start, &[Token])>, Memory>
     ensures value { IfOk result (λ o. seen o ≡ starts_spec.literal_start tokens.now) }
@@ -254,7 +256,8 @@ fn start_from<'a>(
     }
 }
 
-/// How the operand at the front begins, and what follows that beginning. In a header none begins with `&`.
+/// Reads the beginning of the operand at the front. Returns it and the tokens after it. In a header no operand begins
+/// with `&`.
 #[tactic(auto, unfolding(crate::specs::Starts::start_at))]
 pub fn start_at(
     alloc: Global,
@@ -270,7 +273,7 @@ pub fn start_at(
     }
 }
 
-// `(` or `()`.
+// Reads `(` or `()`.
 #[tactic(auto, unfolding(crate::specs::Starts::call_at))]
 fn call_at(tokens: &[Token]) -> Option<(Suffix, &[Token])>
     ensures value { seen result ≡ starts_spec.call_at tokens.now }
@@ -285,7 +288,7 @@ fn call_at(tokens: &[Token]) -> Option<(Suffix, &[Token])>
     }
 }
 
-/// What stands after an operand.
+/// Reads the suffix at the front. Returns it and the tokens after it, or `None` if there is none.
 #[tactic(auto, unfolding(crate::specs::Starts::suffix_at))]
 pub fn suffix_at(alloc: Global, tokens: &[Token]) -> Result<Option<(Suffix, &[Token])>, Memory>
     ensures value { IfOk result (λ o. seen o ≡ starts_spec.suffix_at tokens.now) }

@@ -1,4 +1,6 @@
-//! Types.
+//! The reader of types (Go specification, "Types").
+//!
+//! It recurs for the type inside another one. The cost of tokens bounds how deep types are.
 
 ghost use Rattle.std.specs.Prelude.{◌≡◌, ◌<◌, ◌≤◌, length, IfOk, IfSome};
 ghost use Rattle.golf_syntax_expressions.specs.Plan.{run};
@@ -12,7 +14,7 @@ use golf_lex_tokens::{Keyword, Punctuation, Token, TokenKind};
 use golf_syntax_trees::OwnedType;
 use std::alloc::Global;
 
-// `n` or `sync.m`, after a star.
+// Reads `n` or `sync.m` after a star.
 fn pointer(alloc: Global, tokens: &[Token]) -> Result<Option<(OwnedType, &[Token])>, Memory>
     ensures value { IfOk result (λ o. seen o ≡ type_spec.pointer tokens.now) }
     ensures shorter { IfOk result (λ o. IfSome o (λ x. length x.1.now < length tokens.now)) }
@@ -38,7 +40,7 @@ fn pointer(alloc: Global, tokens: &[Token]) -> Result<Option<(OwnedType, &[Token
     }
 }
 
-// `{}` after `struct`.
+// Reads `{}` after `struct`.
 fn empty_struct(tokens: &[Token]) -> Option<(OwnedType, &[Token])>
     ensures value { seen result ≡ type_spec.empty_struct tokens.now }
     ensures shorter { IfSome result (λ x. length x.1.now < length tokens.now) }
@@ -119,7 +121,7 @@ fn type_from<'a>(
     }
 }
 
-/// The type at the beginning of the tokens, and what follows it.
+/// Reads the type at the front. Returns it and the tokens after it, or `None` if there is none.
 #[cycle(types)]
 #[tactic(auto, using(crate::proofs::TypeSteps::type_steps))]
 pub fn type_at(alloc: Global, tokens: &[Token]) -> Result<Option<(OwnedType, &[Token])>, Memory>

@@ -1,4 +1,4 @@
--- What each token is to the brackets round it.
+-- The role of each token for the brackets around it.
 use Rattle.golf_lex_tokens.specs.declared.token.TokenKind.{TokenKind}
 use Rattle.golf_lex_tokens.specs.declared.token.TokenKind.TheVariants as kinds
 use Rattle.golf_lex_tokens.specs.declared.token.Punctuation.{Punctuation}

@@ -1,4 +1,4 @@
--- The first segment of a list of tokens, and what follows it.
+-- The first segment of a list of tokens, and the tokens after it.
 use Rattle.std.specs.Prelude.{◌≡◌, ℕ, suc, cond, List, [], ◌∷◌, ◌++◌, Option, Some, None}
 use Rattle.std.specs.Borrow.{Bor}
 use Rattle.golf_lex_tokens.specs.declared.token.Token.{Token}
@@ -9,12 +9,12 @@ abbrev pub front_length : ℕ → List Token → ℕ
 front_length depth [] = 0
 front_length depth (t ∷ ts) = cond (ends_segment t.kind depth) 1 (suc (front_length (depth_behind t.kind depth) ts))
 
--- the list is this segment and these tokens, and its segments are this one and theirs
+-- the list is this segment and the rest, and its segments are this one and those of the rest
 pub record Cut (ts segment rest : List Token) : Type 0 where
   pub whole : ts ≡ segment ++ rest
   pub segments : segments 0 ts ≡ segment ∷ segments 0 rest
 
--- the first segment is found if there is a token
+-- the result is the first segment and the rest, or none if there are no tokens
 abbrev pub CutAt : List Token → Option (Bor (List Token) × Bor (List Token)) → Type 0
 CutAt ts None = ts ≡ []
 CutAt ts (Some x) = Cut ts x.0.now x.1.now

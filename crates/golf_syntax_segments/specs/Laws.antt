@@ -1,4 +1,4 @@
--- What imports, declarations and files print is cut into these segments.
+-- The laws of segments, as statements: printed imports, declarations and files are cut where their parts end.
 use Rattle.std.specs.Prelude.{◌≡◌, List, [], ◌∷◌, ◌++◌}
 use Rattle.golf_lex_tokens.specs.declared.token.Token.{Token}
 use Rattle.golf_lex_tokens.specs.declared.token.Punctuation.TheVariants as punctuations
@@ -10,11 +10,11 @@ use Rattle.golf_syntax_trees.specs.Declarations.{print_import, print_decl}
 use Rattle.golf_syntax_trees.specs.Segments.{segments, IsPackage}
 use Rattle.golf_syntax_trees.specs.Reads.{Prints}
 
--- these words and a semicolon
+-- the tokens are these words and a semicolon
 abbrev pub Ended : List Word → List Token → Type 0
 Ended ws p = Spells (ws ++ punctuation punctuations.Semicolon ∷ []) p []
 
--- before whatever else, such tokens are the first segment
+-- such tokens are the first segment, whatever follows
 abbrev pub IsSegment : List Word → Type 0
 IsSegment ws = (p rest : List Token) → Ended ws p → segments 0 (p ++ rest) ≡ p ∷ segments 0 rest
 
@@ -24,7 +24,7 @@ ImportsAreSegments = (i : Import) → IsSegment (print_import i)
 abbrev pub DeclsAreSegments : Type 0
 DeclsAreSegments = (d : Decl) → IsSegment (print_decl d)
 
--- a segment for each declaration, and for each import before them
+-- one segment for each declaration, after one for each import
 abbrev pub DeclSegments : List Decl → List (List Token) → Type 0
 DeclSegments [] ps = ps ≡ []
 DeclSegments (d ∷ ds) [] = ⊥
@@ -35,7 +35,7 @@ ImportSegments [] ds ps = DeclSegments ds ps
 ImportSegments (i ∷ is) ds [] = ⊥
 ImportSegments (i ∷ is) ds (p ∷ ps) = Ended (print_import i) p × ImportSegments is ds ps
 
--- a segment for the package, for each import and for each declaration
+-- one segment for the package, for each import and for each declaration
 abbrev pub FileSegments : File → List (List Token) → Type 0
 FileSegments f [] = ⊥
 FileSegments f (p ∷ ps) = IsPackage p × ImportSegments f.imports f.declarations ps

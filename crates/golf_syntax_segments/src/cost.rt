@@ -1,4 +1,7 @@
-//! What tokens cost: how much a reader must keep open at them.
+//! The cost of tokens: how many tokens and brackets a reader must keep open at them.
+//!
+//! The invariant of `Counts`: `total` is the sum of all counts. A file with a token that costs more than 1,000 is
+//! refused, so recursion over a tree is bounded.
 
 ghost use Rattle.std.specs.Prelude.{◌≡◌, ◌+◌, ◌≤◌, ◌∷◌, IfOk, reverse, sum};
 ghost use Rattle.golf_lex_tokens.specs.Cost.{counted};
@@ -13,7 +16,7 @@ use std::alloc::Global;
 /// The most that a token may cost.
 pub const MOST_COST: u32 = 1_000;
 
-/// What a token is to the brackets round it.
+/// The role of a token for the brackets around it.
 #[derive(Clone, Copy)]
 pub enum Role {
     Opens,
@@ -22,7 +25,7 @@ pub enum Role {
     Ordinary,
 }
 
-// How many tokens stand in the innermost open bracket since the last `;` or `,` in it, in those around it, and in all.
+// The number of tokens since the last `;` or `,` in the innermost open bracket, in each bracket around it, and in all.
 #[derive(Drop)]
 struct Counts {
     inner: u32,
@@ -51,7 +54,7 @@ fn kind_role(kind: &TokenKind) -> Role
     }
 }
 
-// The counts after one more token.
+// Returns the counts after one more token.
 #[tactic(auto, using(crate::proofs::CountSteps::count_steps))]
 fn count(counts: Counts, kind: &TokenKind) -> Result<Counts, Memory>
     requires small { counts.total ≤ MOST_COST }
@@ -98,7 +101,7 @@ fn count(counts: Counts, kind: &TokenKind) -> Result<Counts, Memory>
     }
 }
 
-/// The line of the first token that costs more than `MOST_COST`.
+/// Returns the line of the first token that costs more than `MOST_COST`, or `None` if there is none.
 pub fn first_too_complex(alloc: Global, tokens: &[Token]) -> Result<Option<u32>, Memory>
     ensures { IfOk result (λ o. o ≡ reads_spec.first_too_complex no_counts tokens.now) }
 {

@@ -1,19 +1,19 @@
-//! Laws: what is printed is cut into segments where imports and declarations end.
+//! Laws: a printed file is cut into segments exactly where imports and declarations end.
 
 ghost use Rattle.golf_syntax_segments.specs.Laws.{DeclsAreSegments, FilesAreSegments, ImportsAreSegments};
 
-/// What an import prints is one segment with the semicolon after it: brackets are in pairs, and no other semicolon
-/// stands outside them.
+/// States that a printed import with the semicolon after it is one segment. Its brackets are in pairs, and it has no
+/// other semicolon outside them.
 pub fn imports_are_segments()
     ensures { ImportsAreSegments }
 {}
 
-/// What a declaration prints is one segment with the semicolon after it.
+/// States that a printed declaration with the semicolon after it is one segment.
 pub fn declarations_are_segments()
     ensures { DeclsAreSegments }
 {}
 
-/// The segments of what a file prints are those of its package, of each import and of each declaration.
+/// States that the segments of a printed file are those of its package, of each import and of each declaration.
 pub fn files_are_segments()
     ensures { FilesAreSegments }
 {}

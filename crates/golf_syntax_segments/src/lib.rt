@@ -1,7 +1,7 @@
-//! What tokens cost, and the segments that a list of tokens is cut into.
+//! The cost of tokens, and the segments of a list of tokens.
 //!
-//! A segment ends after each semicolon outside all brackets. `laws` says that what an import or a declaration prints,
-//! with its semicolon, is one segment.
+//! A segment ends after each semicolon outside all brackets. By `laws`, a printed import or declaration with its
+//! semicolon is one segment.
 #![tactic(auto)]
 
 mod cost;

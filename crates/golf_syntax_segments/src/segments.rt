@@ -1,4 +1,6 @@
 //! The first segment of a list of tokens.
+//!
+//! It ends with the first semicolon outside all brackets, or with the list.
 
 ghost use Rattle.std.specs.Prelude.{◌≡◌, ◌<◌, ◌^◌, length, IfSome};
 ghost use Rattle.golf_syntax_trees.specs.Segments as segments_spec;
@@ -7,7 +9,7 @@ ghost use Rattle.golf_syntax_segments.specs.Cut.{CutAt};
 
 use golf_lex_tokens::{Punctuation, Token, TokenKind};
 
-// How many brackets are open after a punctuation mark.
+// Returns how many brackets are open after a punctuation mark.
 fn deeper(punctuation: Punctuation, depth: usize) -> usize
     requires { depth < 2 ^ 63 }
     ensures value { result ≡ segments_spec.depth_behind (TokenKind.Punctuation punctuation) depth }
@@ -44,7 +46,7 @@ fn ends_segment(kind: &TokenKind, depth: usize) -> bool
     }
 }
 
-// How many tokens the first segment has.
+// Returns how many tokens the first segment has.
 fn front_length(tokens: &[Token]) -> usize
     ensures { result ≡ cut_spec.front_length 0 tokens.now }
 {
@@ -60,8 +62,8 @@ fn front_length(tokens: &[Token]) -> usize
     count
 }
 
-/// The first segment and what follows it, or nothing if there is no token. A segment has its semicolon; only the last
-/// one of a list may lack it.
+/// Returns the first segment and the tokens after it, or `None` if there are no tokens. A segment has its semicolon;
+/// only the last segment of a list may lack it.
 pub fn front_segment(tokens: &[Token]) -> Option<(&[Token], &[Token])>
     ensures value { CutAt tokens.now result }
     ensures shorter { IfSome result (λ x. length x.1.now < length tokens.now) }

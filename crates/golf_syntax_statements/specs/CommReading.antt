@@ -19,7 +19,7 @@ use Rattle.golf_syntax_expressions.specs.ExprReading.{Prefixed, expr_at}
 use Rattle.golf_syntax_expressions.specs.SimpleReading.{simple_at}
 pub use Rattle.golf_syntax_trees.specs.Parts.{operand_of, channel_in, channel_of}
 
--- the communication that a simple statement is
+-- the communication of a simple statement, if it is one
 abbrev pub comm_of : SimpleKind → Option Communication
 comm_of (s.Expression e) = channel_of e >>= λ c. Some (comm.Receive c)
 comm_of (s.Send c v) = Some (comm.Send c v)
@@ -36,10 +36,10 @@ comm_by ts (Some n) = after punctuations.Arrow n.1 >>= λ us. expr_at (Prefixed 
     (comm.Assign n.0 c.0, c.1)
 comm_by ts None = simple_at false ts >>= λ x. comm_of x.0.kind >>= λ c. Some (c, x.1)
 
--- the communication at the front, and what follows it
+-- the communication at the front, and the tokens after it
 unfoldable pub comm_at : List Token → Option (Communication × List Token)
 comm_at ts = comm_by ts (assigned_at ts)
 
--- what was found by reference
+-- the values behind the references
 abbrev pub assigned_seen : Option (Bor (List ℕ) × Bor (List Token)) → Option (List ℕ × List Token)
 assigned_seen o = option_map (λ x. (x.0.now, x.1.now)) o

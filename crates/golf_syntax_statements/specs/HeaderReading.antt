@@ -17,12 +17,12 @@ use Rattle.golf_syntax_expressions.specs.Front.{after, after_keyword, name_at}
 use Rattle.golf_syntax_expressions.specs.ExprReading.{Level, expr_at}
 use Rattle.golf_syntax_expressions.specs.SimpleReading.{simple_at}
 
--- a simple statement that is an expression
+-- the expression of a simple statement, if it is one
 abbrev pub expression_of : SimpleKind → Option Expr
 expression_of (s.Expression e) = Some e
 expression_of _ = None
 
--- a condition, with the simple statement before it
+-- a condition, with the simple statement before it, if there is one
 abbrev pub Test : Type 0
 Test = Option Simple × Expr
 
@@ -34,7 +34,7 @@ test_by x ts None = expression_of x.kind >>= λ e. Some ((None, e), ts)
 unfoldable pub test_at : List Token → Option (Test × List Token)
 test_at ts = simple_at true ts >>= λ x. test_by x.0 x.1 (after punctuations.Semicolon x.1)
 
--- the names before a `range`, after the first one
+-- the second of two names before a `range`
 abbrev pub two_names : List ℕ → List Token → Option (RangeNames × List Token)
 two_names n ts = name_at ts >>= λ m. after punctuations.Define m.1 >>= λ us. after_keyword keywords.Range us >>=
     λ vs. Some (names.Two n m.0, vs)
@@ -48,7 +48,7 @@ abbrev pub names_by : List Token → Option (List Token) → Option (RangeNames 
 names_by ts (Some us) = Some (names.Neither, us)
 names_by ts None = name_at ts >>= λ n. names_behind n.0 (after punctuations.Define n.1) (after punctuations.Comma n.1)
 
--- the names before a `range`, up to that word
+-- the names before a `range`, and the tokens after that keyword
 unfoldable pub names_at : List Token → Option (RangeNames × List Token)
 names_at ts = names_by ts (after_keyword keywords.Range ts)
 

@@ -1,5 +1,5 @@
--- What is read at the front of tokens is what is printed there: variables, headers, communications and statements (this
--- repository).
+-- The laws of readers, as statements: a reader of variables, headers, communications or statements finds exactly what
+-- is printed at the front (this repository).
 use Rattle.std.specs.Prelude.{◌≡◌, ◌⊎◌, true, List, [], ◌∷◌, ◌++◌, Some}
 use Rattle.golf_lex_tokens.specs.declared.token.Token.{Token}
 use Rattle.golf_lex_tokens.specs.declared.token.TokenKind.TheVariants as kinds
@@ -20,7 +20,7 @@ use Rattle.golf_syntax_statements.specs.HeaderReading.{Test, test_at, header_at}
 use Rattle.golf_syntax_statements.specs.CommReading.{comm_at}
 use Rattle.golf_syntax_statements.specs.StmtReading.{OfStmt, stmt_at}
 
--- a semicolon or a closing brace stands here
+-- a semicolon or a closing brace follows
 abbrev pub EndsStatement : List Token → Type 0
 EndsStatement ts = (us : List Token) × ((after punctuations.Semicolon ts ≡ Some us)
     ⊎ (after punctuations.CloseBrace ts ≡ Some us))
@@ -29,7 +29,7 @@ EndsStatement ts = (us : List Token) × ((after punctuations.Semicolon ts ≡ So
 abbrev pub BeginsBody : List Token → Type 0
 BeginsBody ts = (us : List Token) × (after punctuations.OpenBrace ts ≡ Some us)
 
--- a well-formed variable on the line of its word, in these tokens and up to those that are left
+-- a well-formed variable is printed, on the line of its keyword, at the front of these tokens and before the rest
 pub record IsVarIn (word : Token) (ts : List Token) (x : Var × List Token) : Type 0 where
   pub var : word.kind ≡ kinds.Keyword keywords.Var
   pub words : Spells (print_var x.0) (word ∷ ts) x.1

@@ -1,4 +1,4 @@
--- How reading a statement goes on, with what waits for it (this repository).
+-- How the reader of statements goes on, with the constructs that wait (this repository).
 use Rattle.std.specs.Prelude.{ℕ, Bool, true, cond, List, [], ◌∷◌, ◌++◌, Option, Some, None}
 use Rattle.std.specs.Borrow.{Bor}
 use Rattle.golf_lex_tokens.specs.declared.token.Token.{Token}
@@ -30,7 +30,7 @@ use Rattle.golf_syntax_statements.specs.StmtReading.{OfStmt, Body, Clauses, Case
 abbrev pub Found : Type 0
 Found = Option (Stmt × List Token)
 
--- what follows the closing brace of statements
+-- what is read after the closing brace of statements
 abbrev pub owned : Owner → Goes Stmt
 owned (owners.Block l) b = just (st.Block l b.0) b.1
 owned (owners.If l i e) b = else_plan l (i, e) b.0 b.1 (after_keyword keywords.Else b.1)
@@ -53,7 +53,7 @@ abbrev pub defaults : Bool → Option Communication → Bool
 defaults has_default (Some c) = has_default
 defaults has_default None = true
 
--- a `select` with one clause more
+-- a `select` with one more clause
 abbrev pub grown : Select → Head → List Stmt → Select
 grown s h b = record {
   line = s.line;
@@ -75,7 +75,7 @@ abbrev pub case_at : Select → Head → List Stmt → List Token → Option (Li
 case_at s h done ts (Some us) = clause_at s h done us
 case_at s h done ts None = after punctuations.CloseBrace ts >>= λ us. selected (grown s h done) ts
 
--- after the colon of a clause, which may be the last token but the closing brace
+-- after the colon of a clause; the closing brace of the `select` can follow at once
 abbrev pub headed_by : Select → Head → List Token → Option (List Token) → Found
 headed_by s h ts (Some us) = selected (grown s h []) ts
 headed_by s h ts None = clause_at s h [] ts
@@ -96,13 +96,13 @@ selected_by s l (kinds.Keyword keywords.Default) ts =
 selected_by s l (kinds.Punctuation punctuations.CloseBrace) ts = Some (st.Select s.line s.clauses, ts)
 selected_by s l _ ts = None
 
--- what is found from a statement on that something waited for
+-- what is found once the waiting construct has its statement
 abbrev pub pending_at : Pending → Stmt × List Token → Found
 pending_at (pendings.Body o done) x = body_at o (done ++ x.0 ∷ []) x.1 (after punctuations.Semicolon x.1)
 pending_at (pendings.Else l i e b) x = Some (st.IfElse l i e b x.0, x.1)
 pending_at (pendings.Clause s h done) x = case_at s h (done ++ x.0 ∷ []) x.1 (after punctuations.Semicolon x.1)
 
--- what is found if reading goes on so
+-- what is found by this move
 abbrev pub move_at : Move → List Token → Found
 move_at (moves.Found s) ts = Some (s, ts)
 move_at moves.Seek ts = stmt_at OfStmt ts
@@ -113,11 +113,11 @@ move_at (moves.Headed s h) ts = colon_at s h ts
 abbrev pub moved : Option (Move × Bor (List Token)) → Found
 moved o = moved_by move_at o
 
--- what is found with all that waits, the last first
+-- what is found once all waiting constructs have theirs, the last one first
 abbrev pub waited : List Pending → Found → Found
 waited fs o = waited_by pending_at fs o
 
--- how many moves there may be before a token is taken or a waiting one goes on
+-- how many moves there can be before a token is taken or a waiting construct goes on
 abbrev pub weight : Move → ℕ
 weight (moves.Found s) = 0
 weight moves.Seek = 1

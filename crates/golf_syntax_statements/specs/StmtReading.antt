@@ -24,8 +24,9 @@ use Rattle.golf_syntax_statements.specs.HeaderReading.{Test, test_at, header_at}
 use Rattle.golf_syntax_statements.specs.CommReading.{comm_at}
 pub use Rattle.golf_syntax_trees.specs.Parts.{call_in, call_of}
 
--- What is read: a statement; statements with semicolons between, up to the brace that closes them; the clauses of a
--- `select`, up to its brace, after a `default` or not; the statements of a clause. The lists hold what was read before.
+-- A mode is what is read: a statement; statements with semicolons between, up to the closing brace; the clauses of a
+-- `select`, up to its brace, with or without a `default` before; the statements of a clause. Lists hold what was read
+-- before.
 pub data Mode : Type 0 where
   OfStmt : Mode
   Body : List Stmt → Mode
@@ -58,7 +59,7 @@ body ts None more = Ask (Body []) ts more
 abbrev pub block : {A : Type 0} → List Token → Goes A → StmtPlan A
 block ts more = given (after punctuations.OpenBrace ts) (λ us. body us (after punctuations.CloseBrace us) more)
 
--- a call, as `go` and `defer` take it
+-- a call after `go` or `defer`
 unfoldable pub call_at : List Token → Option ((Expr × List Expr) × List Token)
 call_at ts = expr_at (Prefixed false) ts >>= λ e. call_of e.0 >>= λ c. Some (c, e.1)
 
@@ -66,7 +67,7 @@ abbrev pub returned : ℕ → List Token → Option (Expr × List Token) → Opt
 returned l ts None = Some (st.Return l None, ts)
 returned l ts (Some e) = Some (st.Return l (Some e.0), e.1)
 
--- a statement that may stand after `else`
+-- whether a statement of this kind can come after `else`
 abbrev pub is_branch_kind : TokenKind → Bool
 is_branch_kind (kinds.Keyword keywords.If) = true
 is_branch_kind (kinds.Punctuation punctuations.OpenBrace) = true
@@ -94,7 +95,7 @@ select_plan l ts = given (after punctuations.OpenBrace ts)
 abbrev pub simple_plan : List Token → StmtPlan Stmt
 simple_plan ts = Done (simple_at false ts >>= λ x. Some (st.Simple x.0, x.1))
 
--- a statement by its first word
+-- a statement by its keyword
 abbrev pub keyword_plan : ℕ → Keyword → List Token → List Token → StmtPlan Stmt
 keyword_plan l keywords.Var ts all = Done (var_at l ts >>= λ v. Some (st.Var v.0, v.1))
 keyword_plan l keywords.Go ts all = Done (call_at ts >>= λ c. Some (st.Go l c.0.0 c.0.1, c.1))
@@ -117,7 +118,7 @@ abbrev pub one_plan : List Token → StmtPlan Stmt
 one_plan [] = Done None
 one_plan (t ∷ ts) = kind_plan t.line t.kind ts (t ∷ ts)
 
--- after a statement in braces: a semicolon and more, or the brace that closes them
+-- after a statement in braces: a semicolon and more, or the closing brace
 abbrev pub body_behind : List Stmt → List Token → Option (List Token) → StmtPlan (List Stmt)
 body_behind done ts (Some us) = Ask (Body done) us found
 body_behind done ts None = given (after punctuations.CloseBrace ts) (just done)
@@ -132,7 +133,7 @@ begins_kind (kinds.Keyword keywords.Case) = true
 begins_kind (kinds.Keyword keywords.Default) = true
 begins_kind _ = false
 
--- a clause begins here
+-- whether a clause begins here
 abbrev pub begins_clause : List Token → Bool
 begins_clause [] = false
 begins_clause (t ∷ ts) = begins_kind t.kind
@@ -170,14 +171,14 @@ stmt_plan (Body done) ts = Ask OfStmt ts (λ s. body_behind (done ++ s.0 ∷ [])
 stmt_plan (Clauses seen done) ts = clauses_plan seen done ts
 stmt_plan (CaseBody done) ts = case_plan done ts
 
--- a mode asks only for those of lower rank if it has taken no token
+-- a mode that has taken no token asks only for modes of lower rank
 abbrev pub rank : Mode → ℕ
 rank OfStmt = 0
 rank (Body done) = 1
 rank (Clauses seen done) = 0
 rank (CaseBody done) = 1
 
--- what is read at the front in a mode, and what follows it
+-- what is read at the front in a mode, and the tokens after it
 unfoldable pub stmt_at : (m : Mode) → List Token → Option (Node m × List Token)
 stmt_at m ts = reads stmt_plan (suc (2 * length ts + rank m)) m ts
 

@@ -26,10 +26,10 @@ abbrev pub content_by : List Token → Option (TypeExpr × List Token) → Found
 content_by ts (Some t) = typed_by t.0 t.1 (after punctuations.Assign t.1)
 content_by ts None = untyped ts
 
--- what a variable begins with, after its name
+-- the type and the value of a variable, after its name
 unfoldable pub content_at : List Token → Found
 content_at ts = content_by ts (type_at OfType ts)
 
--- a variable after its word, which stands on this line
+-- a variable after its keyword, which is on this line
 unfoldable pub var_at : ℕ → List Token → Option (Var × List Token)
 var_at l ts = name_at ts >>= λ n. content_at n.1 >>= λ c. Some (record { line = l; name = n.0; content = c.0 }, c.1)

@@ -1,4 +1,6 @@
-//! The clauses of `select`.
+//! The reader of the clauses of `select` (Go specification, "Select statements").
+//!
+//! A clause ends where the next one begins, or at the closing brace of the `select`. A second `default` is not read.
 
 ghost use Rattle.std.specs.Prelude.{◌≡◌, ◌+◌, ◌*◌, ◌<◌, ◌≤◌, length, IfOk, IfSome, Some};
 ghost use Rattle.golf_syntax_expressions.specs.Front as front_spec;
@@ -15,7 +17,7 @@ use golf_syntax_expressions::after;
 use golf_syntax_trees::OwnedStmts;
 use std::alloc::Global;
 
-// Whether a clause begins here.
+// Returns whether a clause begins here.
 fn begins_clause(tokens: &[Token]) -> bool
     ensures { result ≡ stmt_spec.begins_clause tokens.now }
 {
@@ -30,7 +32,7 @@ fn begins_clause(tokens: &[Token]) -> bool
     }
 }
 
-// The statements of a clause from here on: another clause begins, or a statement.
+// Reads on in the body of a clause: the next clause begins here, or a statement does.
 fn clause_move(
     alloc: Global,
     select: Select,
@@ -51,7 +53,7 @@ fn clause_move(
     Ok((OwnedMove::wait(alloc, pending)?, tokens))
 }
 
-/// After a statement of a clause: a semicolon and more, or the brace that closes the `select`, which stays.
+/// Reads a semicolon and more after a statement of a clause, or finds the closing brace of the `select`, which stays.
 pub fn case_move(
     alloc: Global,
     select: Select,
@@ -74,7 +76,7 @@ pub fn case_move(
     }
 }
 
-// After the colon of a clause.
+// Goes on after the colon of a clause.
 #[tactic(auto, unfolding(crate::specs::Moves::headed_at))]
 fn headed_move(
     alloc: Global,
@@ -94,7 +96,7 @@ fn headed_move(
     }
 }
 
-/// After the head of a clause: its colon.
+/// Reads the colon after the head of a clause.
 pub fn colon_move(
     alloc: Global,
     select: Select,
@@ -110,7 +112,7 @@ pub fn colon_move(
     }
 }
 
-// After `case`, which stands on this line.
+// Reads the communication after `case`. `line` is the line of `case`.
 fn case_head(
     alloc: Global,
     select: Select,
@@ -132,7 +134,7 @@ fn case_head(
     }
 }
 
-// After `default`, which stands on this line.
+// Goes on after `default`. `line` is the line of `default`. A second `default` is not read.
 fn default_head(
     alloc: Global,
     select: Select,
@@ -152,7 +154,7 @@ fn default_head(
     Ok(Some((OwnedMove::headed(alloc, select, head)?, tokens)))
 }
 
-// A clause by its first word, which stands on this line.
+// Reads a clause by its keyword. `line` is the line of the keyword.
 fn keyword_clause<'a>(
     alloc: Global,
     select: Select,
@@ -170,7 +172,7 @@ fn keyword_clause<'a>(
     }
 }
 
-// A clause by the kind of its first token, which stands on this line, or the closing brace.
+// Reads a clause by the kind of its first token, which is on this line, or the closing brace.
 fn kind_clause<'a>(
     alloc: Global,
     select: Select,
@@ -194,7 +196,7 @@ fn kind_clause<'a>(
     }
 }
 
-/// The clauses of a `select` that are left, and its closing brace.
+/// Reads the remaining clauses of a `select`, and its closing brace.
 pub fn clauses_move(
     alloc: Global,
     select: Select,

@@ -1,4 +1,7 @@
-//! Communications of `select`.
+//! The reader of communications of `select` (Go specification, "Select statements").
+//!
+//! `name = <-channel` is read by its first tokens. Any other communication is read as a simple
+//! statement and converted.
 
 ghost use Rattle.std.specs.Prelude.{◌≡◌, ◌<◌, ◌≤◌, length, IfOk, IfSome, Some};
 ghost use Rattle.golf_syntax_expressions.specs.Front.{seen};
@@ -13,7 +16,7 @@ use golf_syntax_trees::{
 };
 use std::alloc::Global;
 
-// The channel that an expression receives from.
+// Returns the channel of a receive, or `None` if it is no receive.
 fn channel_of(e: OwnedExpr) -> Option<OwnedExpr>
     ensures { result ≡ comm_spec.channel_of e }
 {
@@ -23,7 +26,7 @@ fn channel_of(e: OwnedExpr) -> Option<OwnedExpr>
     }
 }
 
-// A receive.
+// Returns the communication that receives.
 fn receive(e: OwnedExpr) -> Option<OwnedCommunication>
     ensures { result ≡ comm_spec.comm_of (SimpleKind.Expression e) }
 {
@@ -33,7 +36,7 @@ fn receive(e: OwnedExpr) -> Option<OwnedCommunication>
     }
 }
 
-// A receive into a new name.
+// Returns the communication that receives into a new name.
 fn define(name: Name, e: OwnedExpr) -> Option<OwnedCommunication>
     ensures { result ≡ comm_spec.comm_of (SimpleKind.Define name e) }
 {
@@ -43,21 +46,21 @@ fn define(name: Name, e: OwnedExpr) -> Option<OwnedCommunication>
     }
 }
 
-// A send.
+// Returns the communication that sends.
 fn send(channel: OwnedExpr, value: OwnedExpr) -> Option<OwnedCommunication>
     ensures { result ≡ comm_spec.comm_of (SimpleKind.Send channel value) }
 {
     Some(OwnedCommunication::new(Communication::Send(channel, value)))
 }
 
-// A receive into two new names.
+// Returns the communication that receives into two new names.
 fn define_received(name: Name, ok: Name, channel: OwnedExpr) -> Option<OwnedCommunication>
     ensures { result ≡ comm_spec.comm_of (SimpleKind.DefineReceived name ok channel) }
 {
     Some(OwnedCommunication::new(Communication::DefineReceived(name, ok, channel)))
 }
 
-// The communication that a simple statement is that begins with names.
+// Returns the communication of a simple statement that begins with names, or `None` if it is none.
 #[tactic(auto, using(crate::proofs::Channels::kind_steps))]
 fn named(kind: SimpleKind) -> Option<OwnedCommunication>
     requires no_expression { (e : _) → kind ≡ SimpleKind.Expression e → ⊥ }
@@ -71,7 +74,7 @@ fn named(kind: SimpleKind) -> Option<OwnedCommunication>
     }
 }
 
-// The communication that a simple statement is.
+// Returns the communication of a simple statement, or `None` if it is none.
 fn comm_of(kind: OwnedSimpleKind) -> Option<OwnedCommunication>
     ensures { result ≡ comm_spec.comm_of kind }
 {
@@ -82,7 +85,7 @@ fn comm_of(kind: OwnedSimpleKind) -> Option<OwnedCommunication>
     }
 }
 
-// A name and the `=` after it.
+// Reads a name and the `=` after it.
 fn assigned_at(tokens: &[Token]) -> Option<(&Name, &[Token])>
     ensures value { assigned_seen result ≡ comm_spec.assigned_at tokens.now }
     ensures shorter { IfSome result (λ x. length x.1.now < length tokens.now) }
@@ -92,7 +95,7 @@ fn assigned_at(tokens: &[Token]) -> Option<(&Name, &[Token])>
     Some((name, rest))
 }
 
-// `<-channel` after a name and `=`.
+// Reads `<-channel` after a name and `=`.
 fn received(
     alloc: Global,
     name: Name,
@@ -113,7 +116,7 @@ fn received(
     }
 }
 
-/// The communication at the front, and what follows it.
+/// Reads the communication at the front. Returns it and the tokens after it.
 #[tactic(auto, unfolding(crate::specs::CommReading::comm_at))]
 pub fn comm_at(
     alloc: Global,

@@ -1,4 +1,7 @@
-//! Headers of `if` and `for`.
+//! The readers of headers of `if` and `for` (Go specification, "If statements", "For statements").
+//!
+//! In a header no operand outside brackets begins with `&`, since a brace in it opens the body. A
+//! post statement has no `:=`.
 
 ghost use Rattle.std.specs.Prelude.{◌≡◌, ◌<◌, ◌≤◌, length, IfOk, IfSome};
 ghost use Rattle.golf_syntax_trees.specs.Simple.{simple_form};
@@ -17,10 +20,10 @@ use golf_syntax_trees::{
 };
 use std::alloc::Global;
 
-/// A condition, with the simple statement before it.
+/// A condition, with the simple statement before it, if there is one.
 type Test = (Option<OwnedSimple>, OwnedExpr);
 
-// The expression that a simple statement is.
+// Returns the expression of a simple statement, or `None` if it is no expression.
 fn expression_of(kind: OwnedSimpleKind) -> Option<OwnedExpr>
     ensures { result ≡ header_spec.expression_of kind }
 {
@@ -37,7 +40,7 @@ fn expression_of(kind: OwnedSimpleKind) -> Option<OwnedExpr>
     }
 }
 
-// Whether a simple statement has a `:=`.
+// Returns whether a simple statement has a `:=`.
 fn defines(kind: &SimpleKind) -> bool
     ensures { result ≡ (simple_form kind.now).defines }
 {
@@ -53,7 +56,8 @@ fn defines(kind: &SimpleKind) -> bool
     }
 }
 
-// The condition after the first simple statement of an `if`, or that statement itself.
+// Reads the condition after the first simple statement of an `if`. Without a semicolon that
+// statement is the condition.
 fn test_behind(
     alloc: Global,
     first: OwnedSimple,
@@ -74,7 +78,7 @@ fn test_behind(
     }
 }
 
-/// The header of an `if`: its condition, with the simple statement before it.
+/// Reads the header of an `if`: its condition, with the simple statement before it.
 #[tactic(auto, unfolding(crate::specs::HeaderReading::test_at))]
 pub fn test_at(alloc: Global, tokens: &[Token]) -> Result<Option<(Test, &[Token])>, Memory>
     ensures value { IfOk result (λ o. seen o ≡ header_spec.test_at tokens.now) }
@@ -86,7 +90,7 @@ pub fn test_at(alloc: Global, tokens: &[Token]) -> Result<Option<(Test, &[Token]
     }
 }
 
-// The second of two names before a `range`.
+// Reads the second of two names before a `range`.
 fn two_names(
     alloc: Global,
     first: Name,
@@ -107,7 +111,8 @@ fn two_names(
     Ok(Some((RangeNames::Two(first, copied(alloc, second)?), rest)))
 }
 
-// The names before a `range`, and what follows that word.
+// Reads the names before a `range`, and that keyword. Returns the names and the tokens after the
+// keyword.
 #[tactic(auto, unfolding(crate::specs::HeaderReading::names_at))]
 fn names_at(alloc: Global, tokens: &[Token]) -> Result<Option<(RangeNames, &[Token])>, Memory>
     ensures value { IfOk result (λ o. seen o ≡ header_spec.names_at tokens.now) }
@@ -131,7 +136,7 @@ fn names_at(alloc: Global, tokens: &[Token]) -> Result<Option<(RangeNames, &[Tok
     }
 }
 
-// The last part of a three-part header, from its semicolon on.
+// Reads the last part of a three-part header, from its semicolon on.
 #[tactic(auto, unfolding(crate::specs::HeaderReading::post_at))]
 fn post_at(
     alloc: Global,
@@ -159,7 +164,7 @@ fn post_at(
     }
 }
 
-// A three-part header, after its first semicolon.
+// Reads a three-part header after its first semicolon.
 #[tactic(auto, unfolding(crate::specs::HeaderReading::steps_at))]
 fn steps_at(
     alloc: Global,
@@ -175,7 +180,7 @@ fn steps_at(
     }
 }
 
-// After the first simple statement of a header.
+// Reads on after the first simple statement of a header.
 fn first_behind(
     alloc: Global,
     first: OwnedSimple,
@@ -193,7 +198,7 @@ fn first_behind(
     }
 }
 
-// A header without `range`.
+// Reads a header without `range`.
 #[tactic(auto, unfolding(crate::specs::HeaderReading::without_range_at))]
 fn without_range_at(
     alloc: Global,
@@ -211,7 +216,7 @@ fn without_range_at(
     }
 }
 
-/// The header of a `for`, up to its body.
+/// Reads the header of a `for`, up to its body. Returns it and the tokens after it.
 #[tactic(auto, unfolding(crate::specs::HeaderReading::header_at))]
 pub fn header_at(alloc: Global, tokens: &[Token]) -> Result<Option<(OwnedHeader, &[Token])>, Memory>
     ensures value { IfOk result (λ o. seen o ≡ header_spec.header_at tokens.now) }

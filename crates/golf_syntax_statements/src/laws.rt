@@ -1,54 +1,59 @@
-//! Laws: what is read is what is printed.
+//! Laws: a reader finds exactly what is printed at the front.
+//!
+//! There are two laws for each construct. A construct that is found is well formed and printed there (`found`). A
+//! construct that is printed is found (`read`), if the token that ends it follows.
 
 ghost use Rattle.golf_syntax_statements.specs.Laws.{CommsFound, CommsRead, HeadersFound, HeadersRead, StatementsFound};
 ghost use Rattle.golf_syntax_statements.specs.Laws.{StatementsRead, TestsFound, TestsRead, VarsFound, VarsRead};
 
-/// A variable that is found is well formed, and printed there on the line of its word.
+/// States that a variable that the reader finds is well formed and printed there, on the line of its keyword.
 pub fn variables_found()
     ensures { VarsFound }
 {}
 
-/// A well-formed variable that is printed is found, if its statement ends.
+/// States that the reader finds each well-formed variable that is printed, if its statement ends there.
 pub fn variables_read()
     ensures { VarsRead }
 {}
 
-/// A condition of an `if` that is found, with the simple statement before it, is well formed, and printed there.
+/// States that a condition that the reader finds, with the simple statement before it, is well formed and printed
+/// there.
 pub fn tests_found()
     ensures { TestsFound }
 {}
 
-/// A well-formed condition that is printed before a body is found.
+/// States that the reader finds each well-formed condition that is printed before a body.
 pub fn tests_read()
     ensures { TestsRead }
 {}
 
-/// A header of a `for` that is found is well formed, and printed there.
+/// States that a header of a `for` that the reader finds is well formed and printed there.
 pub fn headers_found()
     ensures { HeadersFound }
 {}
 
-/// A well-formed header that is printed before a body is found.
+/// States that the reader finds each well-formed header that is printed before a body.
 pub fn headers_read()
     ensures { HeadersRead }
 {}
 
-/// A communication that is found is well formed, and printed there.
+/// States that a communication that the reader finds is well formed and printed there.
 pub fn communications_found()
     ensures { CommsFound }
 {}
 
-/// A well-formed communication that is printed before a colon is found.
+/// States that the reader finds each well-formed communication that is printed before a colon.
 pub fn communications_read()
     ensures { CommsRead }
 {}
 
-/// A statement that is found is well formed, and printed there, each of its statements and clauses on its line.
+/// States that a statement that the reader finds is well formed and printed there. Its statements and clauses have
+/// their lines.
 pub fn statements_found()
     ensures { StatementsFound }
 {}
 
-/// A well-formed statement that is printed is found, if it ends.
+/// States that the reader finds each well-formed statement that is printed, if it ends there.
 pub fn statements_read()
     ensures { StatementsRead }
 {}

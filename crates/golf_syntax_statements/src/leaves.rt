@@ -1,4 +1,7 @@
-//! Statements that no statement is inside of.
+//! The readers of statements that contain no other statement.
+//!
+//! Each reads what follows the keyword of its statement, and returns a move with the whole
+//! statement. A simple statement has no keyword.
 
 ghost use Rattle.std.specs.Prelude.{◌≡◌, ◌+◌, ◌*◌, ◌<◌, ◌≤◌, length, IfOk, IfSome};
 ghost use Rattle.golf_syntax_expressions.specs.Plan.{run};
@@ -16,7 +19,7 @@ use golf_syntax_expressions::{Context, expression_at, operand_at, simple_at};
 use golf_syntax_trees::{OwnedExpr, OwnedExprs, OwnedStmt, Stmt};
 use std::alloc::Global;
 
-// The callee and the arguments of a call.
+// Returns callee and arguments of a call, or `None` if it is no call.
 fn call_of(e: OwnedExpr) -> Option<(OwnedExpr, OwnedExprs)>
     ensures { result ≡ stmt_spec.call_of e }
 {
@@ -31,7 +34,7 @@ fn call_of(e: OwnedExpr) -> Option<(OwnedExpr, OwnedExprs)>
     }
 }
 
-// A call, as `go` and `defer` take it.
+// Reads a call after `go` or `defer`.
 #[tactic(auto, unfolding(crate::specs::StmtReading::call_at))]
 fn call_at(
     alloc: Global,
@@ -49,7 +52,7 @@ fn call_at(
     }
 }
 
-/// After `var`, which stands on this line.
+/// Reads the variable after `var`. `line` is the line of `var`.
 pub fn variable_at(
     alloc: Global,
     line: u32,
@@ -67,7 +70,7 @@ pub fn variable_at(
     }
 }
 
-/// After `go`, which stands on this line.
+/// Reads the call after `go`. `line` is the line of `go`.
 pub fn go_at(
     alloc: Global,
     line: u32,
@@ -90,7 +93,7 @@ pub fn go_at(
     }
 }
 
-/// After `defer`, which stands on this line.
+/// Reads the call after `defer`. `line` is the line of `defer`.
 pub fn defer_at(
     alloc: Global,
     line: u32,
@@ -113,7 +116,7 @@ pub fn defer_at(
     }
 }
 
-/// After `return`, which stands on this line.
+/// Reads the value after `return`, if there is one. `line` is the line of `return`.
 pub fn return_at(
     alloc: Global,
     line: u32,
@@ -137,7 +140,7 @@ pub fn return_at(
     }
 }
 
-/// A simple statement.
+/// Reads a simple statement.
 pub fn simple_statement_at(
     alloc: Global,
     tokens: &[Token],

@@ -1,4 +1,7 @@
-//! What waits for a statement, and how reading goes on.
+//! The constructs that wait for a statement, and how the reader goes on.
+//!
+//! A `Pending` has the part of a construct that is before the statement, so that the reader needs no recursion. A
+//! `Move` says how the reader goes on. Both are held in boxes, since they are large to move.
 
 ghost use Rattle.std.specs.Prelude.{◌∷◌, ◌++◌, [], ◌≡◌, ◌+◌, ◌*◌, ◌<◌, ◌≤◌, length, IfOk, IfSome};
 ghost use Rattle.golf_syntax_statements.specs.Moves as moves_spec;
@@ -14,9 +17,9 @@ use golf_syntax_trees::{
 use std::alloc::Global;
 use std::marker::Model;
 
-/// What statements in braces belong to. The number is the line of its first token.
+/// The owner of statements in braces. The number is the line of the owner's first token.
 pub enum Owner {
-    /// nothing: they are a block
+    /// none: the statements are a block
     Block(u32),
     /// `if first; test`
     If(u32, Option<OwnedSimple>, OwnedExpr),
@@ -24,20 +27,20 @@ pub enum Owner {
     For(u32, OwnedHeader),
 }
 
-/// A `select`, as far as it is read.
+/// A `select`, as far as it has been read.
 pub struct Select {
     pub line: u32,
     pub has_default: bool,
     pub clauses: OwnedClauses,
 }
 
-/// The head of a clause of `select`, on the line of its word: a communication for `case`, none for `default`.
+/// The head of a clause of `select`, with the line of its keyword. `default` has no communication.
 pub struct Head {
     pub line: u32,
     pub communication: Option<OwnedCommunication>,
 }
 
-/// What waits for a statement: what stands before it.
+/// A construct that waits for a statement: the part of it before the statement.
 #[derive(Drop)]
 pub enum Pending {
     /// `owner { s; ..;`
@@ -77,7 +80,7 @@ impl Drop for Head {
     }
 }
 
-/// What waits for a statement, owned: in a box, since it is large to move.
+/// A construct that waits for a statement, owned. It is in a box, since it is large to move.
 pub struct OwnedPending {
     inner: Boxed<Pending>,
 }
@@ -110,14 +113,14 @@ impl OwnedPending {
         })
     }
 
-    /// Statements in braces wait.
+    /// Returns statements in braces, which wait for their next statement.
     pub fn body(alloc: Global, owner: Owner, done: OwnedStmts) -> Result<OwnedPending, Memory>
         ensures { IfOk result (λ p. p ≡ Pending.Body owner done) }
     {
         OwnedPending::new(alloc, Pending::Body(owner, done))
     }
 
-    /// An `if` waits for the statement that its `else` has.
+    /// Returns an `if`, which waits for the statement of its `else`.
     pub fn otherwise(
         alloc: Global,
         line: u32,
@@ -130,7 +133,7 @@ impl OwnedPending {
         OwnedPending::new(alloc, Pending::Else(line, first, test, done))
     }
 
-    /// A clause of a `select` waits.
+    /// Returns a clause of a `select`, which waits for its next statement.
     pub fn clause(
         alloc: Global,
         select: Select,
@@ -142,7 +145,7 @@ impl OwnedPending {
         OwnedPending::new(alloc, Pending::Clause(select, head, done))
     }
 
-    /// What waits goes on with the statement that it waited for.
+    /// Goes on with the construct, which now has the statement that it waited for.
     pub fn resume(
         self,
         alloc: Global,
@@ -166,22 +169,22 @@ impl OwnedPending {
     }
 }
 
-/// How reading goes on.
+/// How the reader goes on.
 #[derive(Drop)]
 pub enum Move {
     /// a statement is read
     Found(OwnedStmt),
     /// a statement is read next
     Seek,
-    /// something waits for the statement that is read next
+    /// a construct waits for the statement that is read next
     Wait(OwnedPending),
-    /// the clauses of a `select` that are left are read next
+    /// the remaining clauses of a `select` are read next
     Clauses(Select),
     /// the colon after the head of a clause is read next
     Headed(Select, Head),
 }
 
-/// How reading goes on, owned: in a box, since it is large to move.
+/// How the reader goes on, owned. It is in a box, since it is large to move.
 pub struct OwnedMove {
     inner: Boxed<Move>,
 }
@@ -214,6 +217,7 @@ impl OwnedMove {
         })
     }
 
+    /// Returns the move itself.
     pub fn into_inner(self) -> Move
         ensures { result ≡ self }
     {
@@ -221,35 +225,35 @@ impl OwnedMove {
         inner.into_inner()
     }
 
-    /// This statement is read.
+    /// Returns the move for a statement that is read.
     pub fn found(alloc: Global, found: OwnedStmt) -> Result<OwnedMove, Memory>
         ensures { IfOk result (λ m. m ≡ Move.Found found) }
     {
         OwnedMove::new(alloc, Move::Found(found))
     }
 
-    /// A statement is read next.
+    /// Returns the move that reads a statement next.
     pub fn seek(alloc: Global) -> Result<OwnedMove, Memory>
         ensures { IfOk result (λ m. m ≡ Move.Seek) }
     {
         OwnedMove::new(alloc, Move::Seek)
     }
 
-    /// This waits for the statement that is read next.
+    /// Returns the move that reads a statement next, for which this construct waits.
     pub fn wait(alloc: Global, pending: OwnedPending) -> Result<OwnedMove, Memory>
         ensures { IfOk result (λ m. m ≡ Move.Wait pending) }
     {
         OwnedMove::new(alloc, Move::Wait(pending))
     }
 
-    /// The clauses of this `select` that are left are read next.
+    /// Returns the move that reads the remaining clauses of this `select` next.
     pub fn clauses(alloc: Global, select: Select) -> Result<OwnedMove, Memory>
         ensures { IfOk result (λ m. m ≡ Move.Clauses select) }
     {
         OwnedMove::new(alloc, Move::Clauses(select))
     }
 
-    /// The colon after this head is read next.
+    /// Returns the move that reads the colon after this head next.
     pub fn headed(alloc: Global, select: Select, head: Head) -> Result<OwnedMove, Memory>
         ensures { IfOk result (λ m. m ≡ Move.Headed select head) }
     {
@@ -258,7 +262,7 @@ impl OwnedMove {
 }
 
 impl Head {
-    // Whether a `select` has a `default` with this clause, if it had one before or not.
+    // Returns whether a `select` has a `default` with this clause. `has_default` says whether it had one before.
     fn defaults(&self, has_default: bool) -> bool
         ensures { result ≡ moves_spec.defaults has_default self.now.communication }
     {
@@ -268,7 +272,7 @@ impl Head {
         }
     }
 
-    // The clauses with this one more.
+    // Returns the clauses with this one added.
     fn added(self, clauses: OwnedClauses, body: OwnedStmts) -> Result<OwnedClauses, Memory>
         ensures { IfOk result (λ all. all ≡ clauses ++ moves_spec.clause_of self.line self.communication body ∷ []) }
     {
@@ -288,7 +292,7 @@ impl Head {
 }
 
 impl Select {
-    /// The `select` with one clause more.
+    /// Returns the `select` with one more clause.
     pub fn grown(self, head: Head, body: OwnedStmts) -> Result<Select, Memory>
         ensures { IfOk result (λ s. s ≡ moves_spec.grown self head body) }
     {
@@ -306,7 +310,7 @@ impl Select {
         })
     }
 
-    /// The statement that a `select` with these clauses is.
+    /// Returns the statement of this `select` with its clauses.
     pub fn whole(self, alloc: Global) -> Result<OwnedStmt, Memory>
         ensures { IfOk result (λ s. s ≡ Stmt.Select self.line self.clauses) }
     {
@@ -320,7 +324,7 @@ impl Select {
 }
 
 impl Owner {
-    /// After the closing brace of statements.
+    /// Goes on after the closing brace of the statements.
     #[tactic(auto, unfolding(crate::specs::Moves::closed_at))]
     pub fn closed(
         self,

@@ -1,4 +1,5 @@
-//! Statements. Nothing recurs here: what waits for a statement stands in a list.
+//! The reader of statements. It does not recur: the constructs that wait for a statement are in a
+//! list.
 
 ghost use Rattle.std.specs.Prelude.{◌∷◌, ◌++◌, ◌≡◌, ◌+◌, ◌*◌, ◌<◌, ◌≤◌, [], length, IfOk, IfSome};
 ghost use Rattle.golf_syntax_expressions.specs.Plan.{run};
@@ -23,7 +24,7 @@ use golf_syntax_trees::{
 };
 use std::alloc::Global;
 
-// Whether a statement begins here that may stand after `else`.
+// Returns whether a statement begins here that can come after `else`.
 fn is_branch(tokens: &[Token]) -> bool
     ensures { result ≡ stmt_spec.is_branch tokens.now }
 {
@@ -37,7 +38,7 @@ fn is_branch(tokens: &[Token]) -> bool
     }
 }
 
-/// After the body of an `if`: `else` and a branch, or the end.
+/// Reads `else` and a branch after the body of an `if`, or ends the `if` there.
 pub fn else_move(
     alloc: Global,
     line: u32,
@@ -65,7 +66,7 @@ pub fn else_move(
     Ok(Some((OwnedMove::wait(alloc, pending)?, behind)))
 }
 
-// After the opening brace of statements.
+// Goes on after the opening brace of statements.
 #[tactic(auto, using(crate::proofs::Moves::body_steps), unfolding(crate::specs::Moves::closed_at))]
 fn opened_move(
     alloc: Global,
@@ -84,7 +85,7 @@ fn opened_move(
     }
 }
 
-// Statements in braces.
+// Reads statements in braces.
 fn block_move(
     alloc: Global,
     owner: Owner,
@@ -99,7 +100,7 @@ fn block_move(
     }
 }
 
-// After a statement in braces: a semicolon and more, or the closing brace.
+// Reads a semicolon and more after a statement in braces, or the closing brace.
 fn body_move(
     alloc: Global,
     owner: Owner,
@@ -119,7 +120,7 @@ fn body_move(
     }
 }
 
-// The `if` with this first statement and this test.
+// Returns the `if` with this first statement and this condition, as an owner.
 fn if_owner(line: u32, tested: (Option<OwnedSimple>, OwnedExpr)) -> Owner
     ensures { result ≡ Owner.If line tested.0 tested.1 }
 {
@@ -127,7 +128,7 @@ fn if_owner(line: u32, tested: (Option<OwnedSimple>, OwnedExpr)) -> Owner
     Owner::If(line, first, test)
 }
 
-// After `if`.
+// Reads on after `if`.
 fn if_move(
     alloc: Global,
     line: u32,
@@ -142,14 +143,14 @@ fn if_move(
     }
 }
 
-// The `for` with this header.
+// Returns the `for` with this header, as an owner.
 fn for_owner(line: u32, header: OwnedHeader) -> Owner
     ensures { result ≡ Owner.For line header }
 {
     Owner::For(line, header)
 }
 
-// After `for`.
+// Reads on after `for`.
 fn for_move(
     alloc: Global,
     line: u32,
@@ -164,7 +165,7 @@ fn for_move(
     }
 }
 
-// After `select`.
+// Reads on after `select`.
 #[tactic(auto, unfolding(crate::specs::Moves::selected))]
 fn select_move(
     alloc: Global,
@@ -185,7 +186,7 @@ fn select_move(
     Ok(Some((OwnedMove::clauses(alloc, select)?, behind)))
 }
 
-// A statement by its first word, which stands on this line.
+// Reads a statement by its keyword. `line` is the line of the keyword.
 fn keyword_move<'a>(
     alloc: Global,
     line: u32,
@@ -217,7 +218,7 @@ fn keyword_move<'a>(
     }
 }
 
-// A statement by the kind of its first token, which stands on this line.
+// Reads a statement by the kind of its first token, which is on this line.
 fn kind_move<'a>(
     alloc: Global,
     line: u32,
@@ -241,7 +242,7 @@ fn kind_move<'a>(
     }
 }
 
-// The statement at the front.
+// Reads the statement at the front, one move far.
 fn stmt_move(alloc: Global, tokens: &[Token]) -> Result<Option<(OwnedMove, &[Token])>, Memory>
     ensures value { IfOk result (λ o. moves_spec.moved o ≡ stmt_spec.stmt_at OfStmt tokens.now) }
     ensures less { IfOk result (λ o. IfSome o (λ x. weight x.0 + 8 * length x.1.now < 8 * length tokens.now)) }
@@ -252,7 +253,7 @@ fn stmt_move(alloc: Global, tokens: &[Token]) -> Result<Option<(OwnedMove, &[Tok
     }
 }
 
-// The statement that an `if` with an `else` is.
+// Returns the statement of an `if` with an `else`.
 fn if_else(
     alloc: Global,
     line: u32,
@@ -270,7 +271,7 @@ fn if_else(
     )
 }
 
-// The statements with one more. A body that has one statement alone takes no room for others.
+// Returns the statements with one added. A body of only one statement takes no room for others.
 fn with_statement(alloc: Global, done: OwnedStmts, found: OwnedStmt) -> Result<OwnedStmts, Memory>
     ensures { IfOk result (λ all. all ≡ done ++ found ∷ []) }
 {
@@ -282,7 +283,7 @@ fn with_statement(alloc: Global, done: OwnedStmts, found: OwnedStmt) -> Result<O
     Ok(all)
 }
 
-/// Statements in braces, after one more of them.
+/// Goes on with statements in braces, which have one more statement now.
 pub fn resume_body(
     alloc: Global,
     owner: Owner,
@@ -296,7 +297,7 @@ pub fn resume_body(
     body_move(alloc, owner, with_statement(alloc, done, found)?, tokens)
 }
 
-/// An `if`, after the statement that its `else` has.
+/// Ends an `if`, which has the statement of its `else` now.
 pub fn resume_else(
     alloc: Global,
     line: u32,
@@ -310,7 +311,7 @@ pub fn resume_else(
     Ok(OwnedMove::found(alloc, if_else(alloc, line, first, test, done, found)?)?)
 }
 
-/// A clause of a `select`, after one more statement.
+/// Goes on with a clause of a `select`, which has one more statement now.
 pub fn resume_clause(
     alloc: Global,
     select: Select,
@@ -331,7 +332,7 @@ pub fn resume_clause(
     )
 }
 
-// All that is read from this on.
+// Reads the whole statement at the front, with a list of the constructs that wait.
 fn read(alloc: Global, tokens: &[Token]) -> Result<Option<(OwnedStmt, &[Token])>, Memory>
     ensures value { IfOk result (λ o. seen o ≡ stmt_spec.stmt_at OfStmt tokens.now) }
 {
@@ -360,7 +361,7 @@ fn read(alloc: Global, tokens: &[Token]) -> Result<Option<(OwnedStmt, &[Token])>
     }
 }
 
-/// The statement at the front, and what follows it.
+/// Reads the statement at the front. Returns it and the tokens after it.
 #[tactic(auto, using(crate::proofs::Moves::shorter_steps))]
 pub fn stmt_at(alloc: Global, tokens: &[Token]) -> Result<Option<(OwnedStmt, &[Token])>, Memory>
     ensures value { IfOk result (λ o. seen o ≡ stmt_spec.stmt_at OfStmt tokens.now) }
@@ -369,14 +370,15 @@ pub fn stmt_at(alloc: Global, tokens: &[Token]) -> Result<Option<(OwnedStmt, &[T
     read(alloc, tokens)
 }
 
-// The statements of a block.
+// Returns the statements of a block, or `None` if it is no block.
 fn statements_of(statement: OwnedStmt) -> Option<OwnedStmts>
     ensures { result ≡ moves_spec.statements_of statement }
 {
     statement.into_inner().into_statements()
 }
 
-/// The statements in braces at the front, and what follows the closing brace.
+/// Reads the statements in braces at the front. Returns them and the tokens after the closing
+/// brace.
 #[tactic(auto, using(crate::proofs::Moves::braces_steps))]
 pub fn block_at(alloc: Global, tokens: &[Token]) -> Result<Option<(OwnedStmts, &[Token])>, Memory>
     ensures value { IfOk result (λ o. seen o ≡ stmt_spec.block_at tokens.now) }

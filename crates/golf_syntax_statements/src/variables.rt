@@ -1,4 +1,6 @@
-//! Variables.
+//! The reader of variables (Go specification, "Variable declarations").
+//!
+//! A variable has one name. After it comes a type, a value, or both.
 
 ghost use Rattle.std.specs.Prelude.{◌≡◌, ◌<◌, ◌≤◌, length, IfOk, IfSome};
 ghost use Rattle.golf_syntax_expressions.specs.Front as front_spec;
@@ -12,7 +14,7 @@ use golf_syntax_expressions::{Context, after, copied, expression_at, name_at, ty
 use golf_syntax_trees::{OwnedType, OwnedVar, OwnedVarContent, Var, VarContent};
 use std::alloc::Global;
 
-// After a type: a value, or nothing.
+// Reads a value after a type, if there is one.
 fn typed(
     alloc: Global,
     of_type: OwnedType,
@@ -33,7 +35,7 @@ fn typed(
     }
 }
 
-// `= value` after a name.
+// Reads `= value` after a name.
 fn untyped(alloc: Global, tokens: &[Token]) -> Result<Option<(OwnedVarContent, &[Token])>, Memory>
     ensures value { IfOk result (λ o. seen o ≡ var_spec.untyped tokens.now) }
     ensures shorter { IfOk result (λ o. IfSome o (λ x. length x.1.now ≤ length tokens.now)) }
@@ -47,7 +49,7 @@ fn untyped(alloc: Global, tokens: &[Token]) -> Result<Option<(OwnedVarContent, &
     }
 }
 
-// What stands after the name of a variable.
+// Reads the type and the value after the name of a variable.
 #[tactic(auto, unfolding(crate::specs::VarReading::content_at))]
 fn content_at(
     alloc: Global,
@@ -62,7 +64,8 @@ fn content_at(
     }
 }
 
-/// The variable after a `var`, which stands on this line, and what follows it.
+/// Reads the variable after `var`. `line` is the line of `var`. Returns the variable and the tokens
+/// after it.
 #[tactic(auto, unfolding(crate::specs::VarReading::var_at))]
 pub fn var_at(
     alloc: Global,

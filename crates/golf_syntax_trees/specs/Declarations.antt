@@ -1,4 +1,4 @@
--- What declarations and files print, and which are well formed.
+-- The words that declarations and files print, and which declarations are well formed.
 use Rattle.std.specs.Prelude.{ℕ, Bool, true, ◌&&◌, List, [], ◌∷◌, ◌++◌, map, codes}
 use Rattle.std.specs.List.{list_all}
 use Rattle.golf_lex_tokens.specs.declared.token.TokenKind.TheVariants as kinds

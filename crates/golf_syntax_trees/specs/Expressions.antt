@@ -1,4 +1,4 @@
--- What expressions print, and which are well formed.
+-- The words that expressions print, and which expressions are well formed.
 use Rattle.std.specs.Str.{bytes_eq}
 use Rattle.std.specs.List.{list_all}
 use Rattle.std.specs.Prelude.{ℕ, Bool, true, false, not, ◌&&◌, ◌||◌, nat_le, nat_lt, List, [], ◌∷◌, ◌++◌, codes}
@@ -20,7 +20,7 @@ use Rattle.golf_syntax_trees.specs.declared.expressions.Expr.TheFolds.{fold-Expr
 use Rattle.golf_syntax_trees.specs.Words.{Word, word, punctuation, keyword, name, separated}
 use Rattle.golf_syntax_trees.specs.Types.{sync, print_type, type_form}
 
--- the names `make` and `new`, which are no operands
+-- the names `make` and `new`, which cannot be operands
 abbrev pub make : List ℕ
 make = codes "make"
 
@@ -102,8 +102,8 @@ print_expr = fold-Expr (List Word) (List Word) print_step print_element_step
 abbrev pub print_element : Element → List Word
 print_element = fold-Element (List Word) (List Word) print_step print_element_step
 
--- How tightly a tree's top binds: a unary operator 6, what can be called or indexed 7.
--- Whether an operand outside its brackets begins with `&`. Whether it is well formed.
+-- The form of an expression: how tightly its top binds (a unary operator 6, an expression that can be called or indexed
+-- 7), whether an operand outside its brackets begins with `&`, and whether it is well formed.
 pub record Form : Type 0 where
   pub top : ℕ
   pub ampersand : Bool
@@ -116,14 +116,14 @@ all_good (f ∷ fs) = f.good && all_good fs
 abbrev pub is_operand_name : List ℕ → Bool
 is_operand_name n = not (bytes_eq n make) && not (bytes_eq n new)
 
--- an operand that begins with no `&`
+-- the form of an operand that does not begin with `&`
 abbrev pub operand : Bool → Form
 operand good = record { top = 7; ampersand = false; good = good }
 
 abbrev pub literal : Bool → Form
 literal good = record { top = 7; ampersand = true; good = good }
 
--- An operand of a binary operator binds tighter than it does, or alike on the left.
+-- An operand of a binary operator binds tighter than the operator; a left operand may also bind alike.
 abbrev pub form_step : Expr-F Form Bool → Form
 form_step (Integer digits) = operand true
 form_step (Text bytes) = operand true

@@ -25,7 +25,7 @@ abbrev pub channel_in : Expr-F Expr Element → Option Expr
 channel_in (Unary o c) = operand_of o c
 channel_in _ = None
 
--- the channel that an expression receives from
+-- the channel of a receive
 abbrev pub channel_of : Expr → Option Expr
 channel_of e = channel_in (out-Expr e)
 

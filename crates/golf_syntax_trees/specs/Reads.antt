@@ -1,4 +1,4 @@
--- Which file reads a list of tokens, and where the fault is if none does.
+-- Which file reads a list of tokens, and on which line the fault is if none does.
 use Rattle.std.specs.Prelude.{◌≡◌, ℕ, Bool, true, false, cond, nat_lt, List, [], ◌∷◌, map, sum, Option, Some, None}
 use Rattle.std.specs.List.{list_all}
 use Rattle.golf_lex_tokens.specs.declared.token.Token.{Token}
@@ -10,27 +10,26 @@ use Rattle.golf_syntax_trees.specs.Words.{Spells}
 use Rattle.golf_syntax_trees.specs.Declarations.{print_file, decl_good}
 use Rattle.golf_syntax_trees.specs.Segments.{segments, FileBreaksOn}
 
--- the most that a token may cost
+-- the most that a token can cost
 unfoldable pub most : ℕ
 most = 1000
 
--- the counts with which a list of tokens begins
+-- the counts before the first token
 abbrev pub no_counts : List ℕ
 no_counts = 0 ∷ []
 
--- no token costs more, after these counts
+-- whether no token costs more than this, after these counts
 abbrev pub is_affordable : List ℕ → List TokenKind → Bool
 is_affordable counts [] = true
 is_affordable counts (k ∷ ks) = cond (nat_lt most (sum (counted k counts))) false (is_affordable (counted k counts) ks)
 
--- the line of the first token that costs more
+-- the line of the first token that costs more than this
 abbrev pub first_too_complex : List ℕ → List Token → Option ℕ
 first_too_complex counts [] = None
 first_too_complex counts (t ∷ ts) = cond (nat_lt most (sum (counted t.kind counts))) (Some t.line)
     (first_too_complex (counted t.kind counts) ts)
 
--- the tree prints the tokens; each statement, declaration and clause has the line of the token at which its print
--- begins
+-- the tree prints the tokens; each statement, declaration and clause has the line of the first token that it prints
 abbrev pub Prints : File → List Token → Type 0
 Prints p tokens = Spells (print_file p) tokens []
 
@@ -49,12 +48,13 @@ pub record Reads (bytes : List ℕ) (p : File) : Type 0 where
   pub lexes : Lexes bytes tokens
   pub reads : ReadsTokens tokens p
 
--- the line of a fault if no token costs too much
+-- the line of the fault if no token costs too much
 abbrev pub BrokenOn : List Token → ℕ → Type 0
 BrokenOn [] line = line ≡ 1
 BrokenOn (t ∷ ts) line = FileBreaksOn (segments 0 (t ∷ ts)) line
 
--- The line of a syntax fault: of the first token that costs too much, else of the first broken segment, else 1.
+-- The line of a syntax fault: that of the first token that costs too much, else that of the first broken segment, else
+-- 1.
 abbrev pub FaultOn : Option ℕ → List Token → ℕ → Type 0
 FaultOn (Some first) tokens line = line ≡ first
 FaultOn None tokens line = BrokenOn tokens line

@@ -10,7 +10,7 @@ use Rattle.golf_syntax_trees.specs.declared.declarations.Decl.{Decl}
 use Rattle.golf_syntax_trees.specs.Words.{punctuation, Spells}
 use Rattle.golf_syntax_trees.specs.Declarations.{package_words, print_import, print_decl, decl_good}
 
--- how many brackets are open after a punctuation mark: a closing one that closes nothing counts for nothing
+-- how many brackets are open after a punctuation mark; a closing bracket without an open one counts for nothing
 abbrev pub deeper : Punctuation → ℕ → ℕ
 deeper punctuations.OpenParen depth = suc depth
 deeper punctuations.OpenBracket depth = suc depth
@@ -24,7 +24,7 @@ abbrev pub depth_behind : TokenKind → ℕ → ℕ
 depth_behind (kinds.Punctuation m) depth = deeper m depth
 depth_behind _ depth = depth
 
--- whether a segment ends with this token: a semicolon outside all brackets
+-- whether a segment ends with this token, a semicolon outside all brackets
 abbrev pub ends_segment : TokenKind → ℕ → Bool
 ends_segment (kinds.Punctuation punctuations.Semicolon) zero = true
 ends_segment _ _ = false
@@ -63,7 +63,7 @@ pub record IsDecl (p : List Token) : Type 0 where
 abbrev pub IsWhole : Bool → List Token → Type 0
 IsWhole declared p = (IsImport p × (declared ≡ false)) ⊎ IsDecl p
 
--- the first broken segment begins on this line; `declared` says whether a declaration stands before the segments
+-- the first broken segment begins on this line; `declared` says whether there is a declaration before these segments
 abbrev pub BreaksOn : Bool → List (List Token) → ℕ → Type 0
 BreaksOn declared [] line = ⊥
 BreaksOn declared (p ∷ ps) line =

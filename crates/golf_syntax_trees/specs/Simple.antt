@@ -1,4 +1,4 @@
--- What simple statements, variables, headers and communications print, and which are well formed.
+-- The words that simple statements, variables, headers and communications print, and which are well formed.
 use Rattle.std.specs.Prelude.{Bool, true, false, not, ◌&&◌, ◌||◌, nat_le, List, [], ◌∷◌, ◌++◌, Option, Some, None}
 use Rattle.golf_lex_tokens.specs.declared.token.Punctuation.{Punctuation}
 use Rattle.golf_lex_tokens.specs.declared.token.Punctuation.TheVariants as punctuations
@@ -46,7 +46,8 @@ print_simple_kind (s.AssignReceived n ok c) = name n ∷ punctuation punctuation
 abbrev pub print_simple : Simple → List Word
 print_simple x = on_line x.line (print_simple_kind x.kind)
 
--- Whether an operand outside its brackets begins with `&`. Whether it has a `:=`. Whether it is well formed.
+-- The form of a simple statement: whether an operand outside its brackets begins with `&`, whether it has a `:=`, and
+-- whether it is well formed.
 pub record SimpleForm : Type 0 where
   pub ampersand : Bool
   pub defines : Bool
@@ -92,7 +93,7 @@ content_good (content.Zero t) = (type_form t).good
 content_good (content.Typed t v) = (type_form t).good && (form v).good
 content_good (content.Untyped v) = (form v).good
 
--- the words of what may be there
+-- the words of an optional part
 abbrev pub optional : {A : Type 0} → (A → List Word) → Option A → List Word
 optional print None = []
 optional print (Some x) = print x

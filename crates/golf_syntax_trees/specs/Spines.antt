@@ -1,4 +1,4 @@
--- The way down the left operands of an expression, and ways down trees in general.
+-- The spine of an expression, which is its path down left operands, and spines of trees in general.
 use Rattle.std.specs.Prelude.{◌≡◌, ℕ, ◌≤◌, List, [], ◌∷◌, map, Option, Some, None}
 use Rattle.std.specs.Borrow.{Bor}
 use Rattle.golf_syntax_trees.specs.declared.expressions.Expr.{Expr, out-Expr}
@@ -16,22 +16,22 @@ left_step _ = None
 unfoldable pub left_of : Expr → Option Expr
 left_of e = left_step (out-Expr e)
 
--- what the references in a list point to
+-- the values behind the references in a list
 abbrev pub shown : {T : Type 0} → List (Bor T) → List T
 shown ws = map (λ w. w.now) ws
 
--- These trees begin with the first one, and each has the next one below it. The last one has the innermost one below
--- it.
+-- A spine from e: e is the first tree of the list, each tree has the next one below it, and the last one has `inner`
+-- below it.
 abbrev pub IsSpine : {T : Type 0} → (T → Option T) → T → List T → T → Type 0
 IsSpine below e [] inner = e ≡ inner
 IsSpine below e (x ∷ xs) inner = (e ≡ x) × ((next : _) × ((below x ≡ Some next) × IsSpine below next xs inner))
 
--- none of these is deeper
+-- none of these trees is larger than n
 abbrev pub Within : {T : Type 0} → (T → ℕ) → ℕ → List T → Type 0
 Within size n [] = Unit {0}
 Within size n (e ∷ es) = (size e ≤ n) × Within size n es
 
--- What comes of a value of the innermost one: each tree raises what came of the one below it, the last one first.
+-- a value at the innermost tree, raised by each tree of the spine, the last one first
 abbrev pub risen : {T A : Type 0} → (T → A → A) → List T → A → A
 risen raise [] x = x
 risen raise (e ∷ es) x = raise e (risen raise es x)

@@ -1,4 +1,4 @@
--- What statements print, and which are well formed.
+-- The words that statements print, and which statements are well formed.
 use Rattle.std.specs.Prelude.{ℕ, ◌+◌, Bool, true, false, ◌&&◌, cond, nat_le, List, [], ◌∷◌, ◌++◌, map}
 use Rattle.std.specs.List.{list_all}
 use Rattle.golf_lex_tokens.specs.declared.token.Punctuation.TheVariants as punctuations
@@ -27,7 +27,7 @@ pub record ClauseWords : Type 0 where
   pub opening : List Word
   pub body : List (List Word)
 
--- Clauses: each statement has a semicolon after it, but for one right before the brace that ends them all.
+-- Clauses: each statement has a semicolon after it, except for one right before the brace that ends all clauses.
 abbrev pub clauses : List ClauseWords → List Word
 clauses [] = []
 clauses (c ∷ []) = c.opening ++ separated punctuations.Semicolon c.body
@@ -73,7 +73,7 @@ print_stmt = fold-Stmt ClauseWords (List Word) print_clause_step print_stmt_step
 abbrev pub print_clause : Clause → ClauseWords
 print_clause = fold-Clause ClauseWords (List Word) print_clause_step print_stmt_step
 
--- Whether a statement may stand after `else`. Whether it is well formed.
+-- The form of a statement: whether it can come after `else`, and whether it is well formed.
 pub record StmtForm : Type 0 where
   pub branch : Bool
   pub good : Bool

@@ -1,4 +1,4 @@
--- What types print, and which are well formed.
+-- The words that types print, and which types are well formed.
 use Rattle.std.specs.Prelude.{ℕ, Bool, true, false, not, ◌&&◌, List, [], ◌∷◌, codes}
 use Rattle.golf_lex_tokens.specs.declared.token.Punctuation.TheVariants as punctuations
 use Rattle.golf_lex_tokens.specs.declared.token.Keyword.TheVariants as keywords

@@ -1,4 +1,4 @@
--- What trees print: words, and the tokens that they stand for.
+-- The words that trees print, and the tokens for which they stand.
 use Rattle.std.specs.Prelude.{◌≡◌, ℕ, List, [], ◌∷◌, ◌++◌, Option, Some, None}
 use Rattle.golf_lex_tokens.specs.declared.token.Token.{Token}
 use Rattle.golf_lex_tokens.specs.declared.token.TokenKind.{TokenKind}
@@ -29,7 +29,7 @@ abbrev pub on_line : ℕ → List Word → List Word
 on_line l [] = []
 on_line l (w ∷ ws) = record { kind = w.kind; line = Some l } ∷ ws
 
--- texts after separators, each with its own
+-- each text after a separator
 abbrev pub behind : Punctuation → List (List Word) → List Word
 behind m [] = []
 behind m (x ∷ xs) = punctuation m ∷ (x ++ behind m xs)
@@ -44,7 +44,7 @@ abbrev pub closed : List (List Word) → List Word
 closed [] = []
 closed (x ∷ xs) = x ++ punctuation punctuations.Semicolon ∷ closed xs
 
--- a line that is told is the token's
+-- the token is on the line of its word, if the word has one
 abbrev pub OnLine : Option ℕ → ℕ → Type 0
 OnLine None line = Unit {0}
 OnLine (Some l) line = line ≡ l
@@ -52,7 +52,7 @@ OnLine (Some l) line = line ≡ l
 abbrev pub IsWord : Word → Token → Type 0
 IsWord w t = (t.kind ≡ w.kind) × OnLine w.line t.line
 
--- the tokens of the first list, up to the second, are these words
+-- the tokens of the first list, up to the second list, are these words
 abbrev pub Spells : List Word → List Token → List Token → Type 0
 Spells [] ts rest = ts ≡ rest
 Spells (w ∷ ws) [] rest = ⊥

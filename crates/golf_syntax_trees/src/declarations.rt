@@ -1,4 +1,7 @@
-//! Files and their declarations. Each has the line of its first token.
+//! Files and their declarations.
+//!
+//! Each declaration has the line of its first token. The trees hold types and expressions by owners
+//! (`owned.rt`).
 
 use crate::owned::{OwnedType, OwnedVar};
 use crate::statements::Stmt;
@@ -11,7 +14,7 @@ pub struct File {
     pub declarations: List<Decl>,
 }
 
-// Written out once here, so that no other crate goes through the trees where it lets a file go.
+// Written out once here, so that no other crate has to prove the drop of a whole file.
 impl Drop for File {
     fn drop(self) {
         let File {

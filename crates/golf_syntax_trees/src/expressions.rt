@@ -1,4 +1,7 @@
-//! Expressions. Parentheses are nodes of their own.
+//! Expressions (Go specification, "Expressions").
+//!
+//! Parentheses are nodes of their own, so that a tree prints exactly the tokens from which it was read. An expression
+//! has no line: the statement around it has one.
 
 use crate::owned::OwnedType;
 use crate::types::{Name, TypeExpr};
@@ -33,9 +36,9 @@ pub enum BinaryOperator {
 /// An expression.
 #[cycle(expression)]
 pub enum Expr {
-    /// The digits of an integer literal, also of one that is too large.
+    /// The digits of an integer literal. It may be too large for an `int`.
     Integer(List<u8>),
-    /// The bytes that a string literal stands for.
+    /// The bytes for which a string literal stands.
     Text(List<u8>),
     Name(Name),
     /// `(e)`
@@ -66,8 +69,8 @@ pub enum Expr {
     Binary(BinaryOperator, Boxed<Expr>, Boxed<Expr>),
 }
 
-// Left operands, whose number nothing bounds, are taken off by the loop. The cost of tokens bounds how deep all other
-// parts are, so these are dropped by recursion.
+// Nothing bounds the number of left operands in one another, so the loop drops them. The cost of tokens bounds the
+// depth of all other parts, so recursion drops them.
 impl Drop for Expr {
     #[cycle(expression)]
     fn drop(mut self) {
@@ -120,7 +123,7 @@ impl Expr {
     ghost use Rattle.std.specs.Prelude.{◌≡◌};
     ghost use Rattle.golf_syntax_trees.specs.Parts.{call_of, channel_of};
 
-    /// Returns callee and arguments, if it is a call.
+    /// Returns callee and arguments of a call, or `None` if it is no call.
     #[tactic(auto, using(crate::proofs::Parts::call_parts))]
     pub fn into_call(self) -> Option<(Boxed<Expr>, List<Expr>)>
         ensures { result ≡ call_of self }
@@ -146,7 +149,7 @@ impl Expr {
         }
     }
 
-    /// Returns the channel, if it is a receive.
+    /// Returns the channel of a receive, or `None` if it is no receive.
     #[tactic(auto, using(crate::proofs::Parts::channel_parts))]
     pub fn into_channel(self) -> Option<Boxed<Expr>>
         ensures { result ≡ channel_of self }

@@ -1,8 +1,8 @@
-//! The way down the left operands of an expression.
+//! The path down the left operands of an expression, its spine.
 //!
 //! The cost of tokens bounds how deep all other parts of an expression are. Nothing bounds the number of left operands
-//! in one another, as in `1 + 1 + ..`. So the code that reads expressions follows them by a loop over `spine`, and
-//! recurs for the other parts alone.
+//! in one another, as in `1 + 1 + ..`. So the code that reads expressions follows them by a loop over `spine`. It
+//! recurs only for the other parts.
 
 ghost use Rattle.std.specs.Prelude.{◌≡◌, ◌<◌, ◌≤◌, None, IfOk, IfSome};
 ghost use Rattle.std.specs.Option.{option_map};
@@ -13,7 +13,7 @@ use crate::expressions::Expr;
 use golf_base::{List, Memory};
 use std::alloc::Global;
 
-/// Returns the left operand of an expression: of a selector, an index, a call or a binary operator.
+/// Returns the left operand of a selector, an index, a call or a binary operator, or `None` for any other expression.
 #[tactic(auto, unfolding(crate::specs::Spines::left_of))]
 pub fn left_operand(e: &Expr) -> Option<&Expr>
     ensures is { option_map (λ x. x.now) result ≡ left_of e.now }
@@ -40,9 +40,9 @@ pub fn left_operand(e: &Expr) -> Option<&Expr>
     }
 }
 
-/// Returns the expressions on the way down the left operands, the outermost first, and the innermost left operand.
+/// Returns the expressions on the path down the left operands, the outermost first, and the innermost left operand.
 ///
-/// Each of them has the next one as its left operand. The innermost one has none, and is not in the list.
+/// Each of them has the next one as its left operand. The innermost one has no left operand, and is not in the list.
 pub fn spine<'a>(alloc: Global, e: &'a Expr) -> Result<(List<&'a Expr>, &'a Expr), Memory>
     ensures down { IfOk result (λ x. IsSpine left_of e.now (shown x.0) x.1.now) }
     ensures within { IfOk result (λ x. Within size-Expr (size-Expr e.now) (shown x.0)) }

@@ -1,6 +1,10 @@
 //! Trees of the accepted language, and which of them reads a list of tokens.
+//!
+//! `specs/` says which words a tree prints, and which trees are well formed. A tree reads a file if
+//! it prints the file's tokens and is well formed.
 #![tactic(auto)]
 
+mod branches;
 mod builders;
 mod declarations;
 mod expressions;
@@ -10,6 +14,7 @@ mod owned_lists;
 mod statements;
 mod types;
 
+pub use branches::behind_else;
 pub use declarations::{Const, Decl, Field, File, Func, Import, Receiver};
 pub use expressions::{BinaryOperator, Element, Expr, UnaryOperator};
 pub use left_operands::{left_operand, spine};

@@ -1,8 +1,8 @@
-//! Trees that are owned, each behind a type that contracts see as the tree itself.
+//! Owned trees, each behind a type that contracts see as the tree itself.
 //!
-//! A tree by value is laid out in full in each proof that holds it, and its drop is written out wherever it may be let
-//! go. An owner here keeps both in this crate: a proof elsewhere sees a value and a call. So what makes trees holds
-//! owners, what reads them goes by references, and only this crate drops them.
+//! A tree by value is laid out in full in each proof that holds it. Its drop is expensive to prove at each place where
+//! it happens. An owner keeps both in this crate, and a proof elsewhere sees a value and a call. So code that makes
+//! trees holds owners, code that reads them takes references, and only this crate drops them.
 
 ghost use Rattle.std.specs.Prelude.{◌≡◌, IfOk};
 
@@ -39,6 +39,7 @@ impl Drop for OwnedType {
 }
 
 impl OwnedType {
+    /// Returns a type that frees itself when it is dropped.
     pub fn new(inner: TypeExpr) -> OwnedType
         ensures { result ≡ inner }
     {
@@ -52,6 +53,7 @@ impl OwnedType {
         &self.inner
     }
 
+    /// Returns the tree itself.
     pub fn into_inner(self) -> TypeExpr
         ensures { result ≡ self }
     {
@@ -85,6 +87,7 @@ impl Drop for OwnedExpr {
 }
 
 impl OwnedExpr {
+    /// Returns an expression that frees itself when it is dropped.
     pub fn new(inner: Expr) -> OwnedExpr
         ensures { result ≡ inner }
     {
@@ -98,6 +101,7 @@ impl OwnedExpr {
         &self.inner
     }
 
+    /// Returns the tree itself.
     pub fn into_inner(self) -> Expr
         ensures { result ≡ self }
     {
@@ -106,7 +110,7 @@ impl OwnedExpr {
     }
 }
 
-/// What a simple statement is, owned.
+/// The kind of a simple statement, owned.
 pub struct OwnedSimpleKind {
     inner: SimpleKind,
 }
@@ -131,6 +135,7 @@ impl Drop for OwnedSimpleKind {
 }
 
 impl OwnedSimpleKind {
+    /// Returns a kind of simple statement that frees itself when it is dropped.
     pub fn new(inner: SimpleKind) -> OwnedSimpleKind
         ensures { result ≡ inner }
     {
@@ -144,6 +149,7 @@ impl OwnedSimpleKind {
         &self.inner
     }
 
+    /// Returns the tree itself.
     pub fn into_inner(self) -> SimpleKind
         ensures { result ≡ self }
     {
@@ -177,6 +183,7 @@ impl Drop for OwnedSimple {
 }
 
 impl OwnedSimple {
+    /// Returns a simple statement that frees itself when it is dropped.
     pub fn new(inner: Simple) -> OwnedSimple
         ensures { result ≡ inner }
     {
@@ -190,6 +197,7 @@ impl OwnedSimple {
         &self.inner
     }
 
+    /// Returns the tree itself.
     pub fn into_inner(self) -> Simple
         ensures { result ≡ self }
     {
@@ -198,7 +206,7 @@ impl OwnedSimple {
     }
 }
 
-/// What a variable begins with, owned.
+/// The initial value of a variable, owned.
 pub struct OwnedVarContent {
     inner: VarContent,
 }
@@ -223,6 +231,7 @@ impl Drop for OwnedVarContent {
 }
 
 impl OwnedVarContent {
+    /// Returns a content of a variable declaration that frees itself when it is dropped.
     pub fn new(inner: VarContent) -> OwnedVarContent
         ensures { result ≡ inner }
     {
@@ -236,6 +245,7 @@ impl OwnedVarContent {
         &self.inner
     }
 
+    /// Returns the tree itself.
     pub fn into_inner(self) -> VarContent
         ensures { result ≡ self }
     {
@@ -269,6 +279,7 @@ impl Drop for OwnedVar {
 }
 
 impl OwnedVar {
+    /// Returns a variable declaration that frees itself when it is dropped.
     pub fn new(inner: Var) -> OwnedVar
         ensures { result ≡ inner }
     {
@@ -282,6 +293,7 @@ impl OwnedVar {
         &self.inner
     }
 
+    /// Returns the tree itself.
     pub fn into_inner(self) -> Var
         ensures { result ≡ self }
     {
@@ -315,6 +327,7 @@ impl Drop for OwnedHeader {
 }
 
 impl OwnedHeader {
+    /// Returns a header of a loop that frees itself when it is dropped.
     pub fn new(inner: Header) -> OwnedHeader
         ensures { result ≡ inner }
     {
@@ -328,6 +341,7 @@ impl OwnedHeader {
         &self.inner
     }
 
+    /// Returns the tree itself.
     pub fn into_inner(self) -> Header
         ensures { result ≡ self }
     {
@@ -361,6 +375,7 @@ impl Drop for OwnedCommunication {
 }
 
 impl OwnedCommunication {
+    /// Returns a communication that frees itself when it is dropped.
     pub fn new(inner: Communication) -> OwnedCommunication
         ensures { result ≡ inner }
     {
@@ -374,6 +389,7 @@ impl OwnedCommunication {
         &self.inner
     }
 
+    /// Returns the tree itself.
     pub fn into_inner(self) -> Communication
         ensures { result ≡ self }
     {
@@ -382,7 +398,7 @@ impl OwnedCommunication {
     }
 }
 
-/// A statement, owned: in a box, since it is large to move.
+/// A statement, owned. It is in a box, since it is large to move.
 pub struct OwnedStmt {
     inner: Boxed<Stmt>,
 }
@@ -407,6 +423,7 @@ impl Drop for OwnedStmt {
 }
 
 impl OwnedStmt {
+    /// Returns a statement that frees itself when it is dropped. `Err` if memory is refused.
     pub fn new(alloc: Global, inner: Stmt) -> Result<OwnedStmt, Memory>
         ensures { IfOk result (λ s. s ≡ inner) }
     {
@@ -422,6 +439,7 @@ impl OwnedStmt {
         self.inner.get()
     }
 
+    /// Returns the tree itself.
     pub fn into_inner(self) -> Stmt
         ensures { result ≡ self }
     {
@@ -429,7 +447,7 @@ impl OwnedStmt {
         inner.into_inner()
     }
 
-    /// The statement in a box, as an `else` holds it.
+    /// Returns the statement in a box, as an `else` holds it.
     pub fn boxed(self) -> Boxed<Stmt>
         ensures { result ≡ self }
     {
@@ -463,6 +481,7 @@ impl Drop for OwnedDecl {
 }
 
 impl OwnedDecl {
+    /// Returns a declaration that frees itself when it is dropped.
     pub fn new(inner: Decl) -> OwnedDecl
         ensures { result ≡ inner }
     {
@@ -476,6 +495,7 @@ impl OwnedDecl {
         &self.inner
     }
 
+    /// Returns the tree itself.
     pub fn into_inner(self) -> Decl
         ensures { result ≡ self }
     {

@@ -1,4 +1,7 @@
-//! Lists of trees that are owned, each behind a type that contracts see as the list itself.
+//! Owned lists of trees, each behind a type that contracts see as the list itself.
+//!
+//! As for single trees (`owned.rt`), only this crate drops them. A push that returns `Err` leaves
+//! the list as it was.
 
 ghost use Rattle.std.specs.Prelude.{◌≡◌, ◌∷◌, ◌++◌, [], IfOk, OnOk, OnErr};
 
@@ -37,12 +40,14 @@ impl Drop for OwnedExprs {
 }
 
 impl OwnedExprs {
+    /// Returns a list that frees its trees when it is dropped.
     pub fn new(inner: List<Expr>) -> OwnedExprs
         ensures { result ≡ inner }
     {
         OwnedExprs { inner }
     }
 
+    /// Returns an empty list.
     pub fn empty(alloc: Global) -> OwnedExprs
         ensures { result ≡ [] }
     {
@@ -58,6 +63,7 @@ impl OwnedExprs {
         &self.inner
     }
 
+    /// Returns the list itself.
     pub fn into_inner(self) -> List<Expr>
         ensures { result ≡ self }
     {
@@ -65,7 +71,7 @@ impl OwnedExprs {
         inner
     }
 
-    /// Adds an expression at the end.
+    /// Adds an expression at the end. On `Err` the list is unchanged.
     pub fn push(&mut self, item: OwnedExpr) -> Result<(), Memory>
         ensures ok { OnOk result (self.new ≡ self.old ++ item ∷ []) }
         ensures err { OnErr result (self.new ≡ self.old) }
@@ -100,12 +106,14 @@ impl Drop for OwnedElements {
 }
 
 impl OwnedElements {
+    /// Returns a list that frees its trees when it is dropped.
     pub fn new(inner: List<Element>) -> OwnedElements
         ensures { result ≡ inner }
     {
         OwnedElements { inner }
     }
 
+    /// Returns an empty list.
     pub fn empty(alloc: Global) -> OwnedElements
         ensures { result ≡ [] }
     {
@@ -121,6 +129,7 @@ impl OwnedElements {
         &self.inner
     }
 
+    /// Returns the list itself.
     pub fn into_inner(self) -> List<Element>
         ensures { result ≡ self }
     {
@@ -128,7 +137,7 @@ impl OwnedElements {
         inner
     }
 
-    /// Adds an element at the end.
+    /// Adds an element at the end. On `Err` the list is unchanged.
     pub fn push(&mut self, field: Name, value: OwnedExpr) -> Result<(), Memory>
         ensures ok { OnOk result (self.new ≡ self.old ++ (record { field = field; value = value }) ∷ []) }
         ensures err { OnErr result (self.new ≡ self.old) }
@@ -166,12 +175,14 @@ impl Drop for OwnedStmts {
 }
 
 impl OwnedStmts {
+    /// Returns a list that frees its trees when it is dropped.
     pub fn new(inner: List<Stmt>) -> OwnedStmts
         ensures { result ≡ inner }
     {
         OwnedStmts { inner }
     }
 
+    /// Returns an empty list.
     pub fn empty(alloc: Global) -> OwnedStmts
         ensures { result ≡ [] }
     {
@@ -180,7 +191,7 @@ impl OwnedStmts {
         }
     }
 
-    /// A list of one statement. It takes no room for a second one.
+    /// Returns a list of one statement. It takes no room for a second one.
     pub fn one(alloc: Global, item: OwnedStmt) -> Result<OwnedStmts, Memory>
         ensures { IfOk result (λ all. all ≡ item ∷ []) }
     {
@@ -198,6 +209,7 @@ impl OwnedStmts {
         &self.inner
     }
 
+    /// Returns the list itself.
     pub fn into_inner(self) -> List<Stmt>
         ensures { result ≡ self }
     {
@@ -205,7 +217,7 @@ impl OwnedStmts {
         inner
     }
 
-    /// Adds a statement at the end.
+    /// Adds a statement at the end. On `Err` the list is unchanged.
     pub fn push(&mut self, item: OwnedStmt) -> Result<(), Memory>
         ensures ok { OnOk result (self.new ≡ self.old ++ item ∷ []) }
         ensures err { OnErr result (self.new ≡ self.old) }
@@ -240,12 +252,14 @@ impl Drop for OwnedClauses {
 }
 
 impl OwnedClauses {
+    /// Returns a list that frees its trees when it is dropped.
     pub fn new(inner: List<Clause>) -> OwnedClauses
         ensures { result ≡ inner }
     {
         OwnedClauses { inner }
     }
 
+    /// Returns an empty list.
     pub fn empty(alloc: Global) -> OwnedClauses
         ensures { result ≡ [] }
     {
@@ -261,6 +275,7 @@ impl OwnedClauses {
         &self.inner
     }
 
+    /// Returns the list itself.
     pub fn into_inner(self) -> List<Clause>
         ensures { result ≡ self }
     {
@@ -268,7 +283,7 @@ impl OwnedClauses {
         inner
     }
 
-    /// Adds a clause at the end.
+    /// Adds a clause at the end. On `Err` the list is unchanged.
     pub fn push(&mut self, item: Clause) -> Result<(), Memory>
         ensures ok { OnOk result (self.new ≡ self.old ++ item ∷ []) }
         ensures err { OnErr result (self.new ≡ self.old) }
@@ -303,12 +318,14 @@ impl Drop for OwnedDecls {
 }
 
 impl OwnedDecls {
+    /// Returns a list that frees its trees when it is dropped.
     pub fn new(inner: List<Decl>) -> OwnedDecls
         ensures { result ≡ inner }
     {
         OwnedDecls { inner }
     }
 
+    /// Returns an empty list.
     pub fn empty(alloc: Global) -> OwnedDecls
         ensures { result ≡ [] }
     {
@@ -324,6 +341,7 @@ impl OwnedDecls {
         &self.inner
     }
 
+    /// Returns the list itself.
     pub fn into_inner(self) -> List<Decl>
         ensures { result ≡ self }
     {
@@ -331,7 +349,7 @@ impl OwnedDecls {
         inner
     }
 
-    /// Adds a declaration at the end.
+    /// Adds a declaration at the end. On `Err` the list is unchanged.
     pub fn push(&mut self, item: OwnedDecl) -> Result<(), Memory>
         ensures ok { OnOk result (self.new ≡ self.old ++ item ∷ []) }
         ensures err { OnErr result (self.new ≡ self.old) }

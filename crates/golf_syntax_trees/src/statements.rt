@@ -1,4 +1,6 @@
-//! Statements. Each has the line of its first token.
+//! Statements (Go specification, "Statements").
+//!
+//! Each statement has the line of its first token, and each clause of a `select` the line of its keyword.
 
 use crate::expressions::Expr;
 use crate::owned::{
@@ -26,7 +28,7 @@ pub struct Simple {
     pub kind: OwnedSimpleKind,
 }
 
-/// What a simple statement is.
+/// The kind of a simple statement.
 #[derive(Drop)]
 pub enum SimpleKind {
     Expression(OwnedExpr),
@@ -56,7 +58,7 @@ pub struct Var {
     pub content: OwnedVarContent,
 }
 
-/// What a variable begins with.
+/// The initial value of a variable.
 #[derive(Drop)]
 pub enum VarContent {
     Zero(OwnedType),
@@ -64,7 +66,7 @@ pub enum VarContent {
     Untyped(OwnedExpr),
 }
 
-/// The part of a `for` between the word and the body.
+/// The header of a `for`: the part between the keyword and the body.
 #[derive(Drop)]
 pub enum Header {
     Forever,
@@ -113,14 +115,14 @@ pub enum Stmt {
     Block(u32, List<Stmt>),
     /// `if init; condition body`
     If(u32, Option<OwnedSimple>, OwnedExpr, List<Stmt>),
-    /// `if init; condition body else otherwise`: the last is an `If`, an `IfElse` or a `Block`.
+    /// `if init; condition body else otherwise`. The last is an `If`, an `IfElse` or a `Block`.
     IfElse(u32, Option<OwnedSimple>, OwnedExpr, List<Stmt>, Boxed<Stmt>),
     For(u32, OwnedHeader, List<Stmt>),
     Select(u32, List<Clause>),
 }
 
-// Nothing bounds the number of `else if` in one another, so the loop follows them. The cost of tokens bounds how deep
-// all other parts are, and these are dropped by recursion.
+// Nothing bounds the number of `else if` in one another, so the loop follows them. The cost of tokens bounds the depth
+// of all other parts, so recursion drops them.
 impl Drop for Stmt {
     #[cycle(statement)]
     fn drop(mut self) {
@@ -161,7 +163,7 @@ impl Stmt {
     ghost use Rattle.std.specs.Prelude.{◌≡◌};
     ghost use Rattle.golf_syntax_trees.specs.Parts.{statements_of};
 
-    /// Returns the statements, if it is a block.
+    /// Returns the statements of a block, or `None` if it is no block.
     #[tactic(auto, using(crate::proofs::Parts::block_parts))]
     pub fn into_statements(self) -> Option<OwnedStmts>
         ensures { result ≡ statements_of self }
@@ -183,7 +185,7 @@ impl Stmt {
     }
 }
 
-/// A clause of `select`, on the line of its word.
+/// A clause of `select`, with the line of its keyword.
 #[derive(Drop)]
 #[cycle(statement)]
 pub enum Clause {

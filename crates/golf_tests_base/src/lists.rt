@@ -1,4 +1,4 @@
-//! What a list, a room and a box hold.
+//! Tests of lists, rooms and boxes.
 
 use crate::wanted::{holds, is};
 use golf_base::{Boxed, List, Room};

@@ -1,4 +1,4 @@
-//! What a ring holds.
+//! Tests of rings.
 
 use crate::wanted::{holds, is};
 use golf_base::List;

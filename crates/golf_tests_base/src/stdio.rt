@@ -1,5 +1,5 @@
-//! The real streams over a reader and a writer of the tests, which give and take few bytes a call
-//! and fail when they are told to.
+//! Tests of the real streams, over a reader and a writer that take few bytes a call and fail at a given
+//! call.
 
 use crate::wanted::{holds, is};
 use golf_base::{
@@ -10,7 +10,7 @@ use std::alloc::Global;
 use std::io;
 use std::io::{Read, Write};
 
-/// Gives at most so many bytes a call. The call of this number, from 1, fails.
+/// A reader that gives at most `most` bytes a call. The call with the number `fails`, from 1, fails.
 #[derive(Drop)]
 struct Giver<'a> {
     left: &'a [u8],
@@ -33,7 +33,8 @@ impl Read for Giver<'_> {
     }
 }
 
-/// Takes at most so many bytes a call. The write and the flush of these numbers, from 1, fail.
+/// A writer that takes at most `most` bytes a call. The write and the flush with these numbers, from 1,
+/// fail.
 #[derive(Drop)]
 struct Taker {
     taken: Vec<u8>,
@@ -86,7 +87,8 @@ fn writer_of(alloc: Global, most: usize, fails: u32, flush_fails: u32) -> Taker 
     }
 }
 
-// The ten bytes that a reader of so many bytes a call gives, of which the call of this number fails, if it is not 0.
+// Reads ten bytes from a reader of at most `most` bytes a call. The call with the number `fails` fails,
+// unless that is 0.
 fn read_ten(alloc: Global, most: usize, fails: u32) -> Result<List<u8>, ReadError> {
     let mut source = StreamSource::new(reader_of(most, fails));
     read_file(alloc, &mut source, 10)
@@ -98,7 +100,7 @@ fn a_source_goes_on_to_the_end_of_a_reader_that_gives_one_byte_a_call(rt: HostRu
     is(&rt, "the bytes", &bytes.as_slice(), &TEN);
 }
 
-// Ten calls give a byte each, and the eleventh would tell the end.
+// Ten calls give a byte each. The eleventh call would give the end.
 #[test]
 fn a_read_that_fails_is_no_end(rt: HostRuntime) {
     for before in 0..11u32 {
@@ -139,7 +141,8 @@ fn a_short_write_counts_what_was_taken(rt: HostRuntime) {
     );
 }
 
-// What a writer of one byte a call has taken, and whether all was written.
+// Writes ten bytes to a writer of one byte a call. Returns whether all were written, and the bytes that it
+// took.
 fn written(alloc: Global, fails: u32, flush_fails: u32) -> (Result<(), WriteFault>, Vec<u8>) {
     let mut writer = writer_of(alloc, 1, fails, flush_fails);
     let mut sink = StreamSink::new(&mut writer);

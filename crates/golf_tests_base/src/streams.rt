@@ -1,4 +1,4 @@
-//! Sources and sinks in memory: what they give and take, and if they fail.
+//! Tests of sources and sinks in memory, also of those that fail.
 
 use crate::wanted::{holds, is};
 use golf_base::{

@@ -1,14 +1,14 @@
-//! Assertions as functions: each is proved once, and a call of it costs little.
+//! Assertions as functions: each is proved once, so a call of it is cheap to prove.
 
 use std::fmt::Debug;
 use std::process::Abort;
 
-/// What is named here is as wanted.
+/// Fails the test unless the named value is the wanted one.
 pub fn is<T: PartialEq + Debug>(rt: &impl Abort, what: &str, found: &T, wanted: &T) {
     assert_eq!(rt; found, wanted, "{what}");
 }
 
-/// What is said here holds.
+/// Fails the test unless this holds.
 pub fn holds(rt: &impl Abort, what: &str, found: bool) {
     assert!(rt; found, "{what}");
 }

@@ -1,4 +1,5 @@
-//! Expressions. Expected verdicts are from the Go specification, "Expressions", and the rules of the language.
+//! Tests of expressions. Expected verdicts are from the Go specification, "Expressions", and from the rules
+//! of the language.
 
 use crate::verdicts::expect;
 

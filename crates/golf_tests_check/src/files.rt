@@ -1,5 +1,5 @@
-//! Imports, declarations, `main`, globals. Expected verdicts are from the Go specification,
-//! "Declarations and scope", "Import declarations", "Program execution", and the rules of the
+//! Tests of imports, declarations, `main` and globals. Expected verdicts are from the Go specification,
+//! "Declarations and scope", "Import declarations", "Program execution", and from the rules of the
 //! language.
 
 use crate::verdicts::{expect, expect_types};

@@ -1,6 +1,6 @@
-//! What is no channel, what is no value, and what nil is. Expected verdicts are from the Go
+//! Tests of operands of the wrong kind: no channel, no value, or nil. Expected verdicts are from the Go
 //! specification, "Send statements", "Comparison operators", "Assignability", "Short variable
-//! declarations", and the rules of the language.
+//! declarations", and from the rules of the language.
 
 use crate::verdicts::{expect, expect_in_main};
 

@@ -1,4 +1,4 @@
-//! Tests of the type checker: which rule a file breaks first, and on which line.
+//! Tests of the type checker: the first rule that a file breaks, and its line.
 #![tactic(auto)]
 
 #[cfg(test)]

@@ -1,5 +1,5 @@
-//! For each rule a file that breaks it, and one that is nearly alike and breaks none. Expected verdicts are from the Go
-//! specification and the rules of the language.
+//! For each rule a file that breaks it, and a similar file that breaks no rule. Expected verdicts are from
+//! the Go specification and the rules of the language.
 
 use crate::verdicts::{expect, expect_in_main};
 

@@ -1,7 +1,10 @@
-//! Files that break two rules: the first in the order of the walk is named. Expected verdicts are
-//! from the rules of the language: imports, declared names, written types, `main`, then constants,
-//! initialisers and bodies in source order; parts before the whole, from left to right; for one
-//! node the rules in rising number.
+//! Tests of files that break two rules: the checker names the first one in walk order. Expected verdicts
+//! are from the rules of the language. The walk order is:
+//!
+//! - imports, declared names, written types and `main`, one after another,
+//! - then constants, initialisers and bodies, in source order,
+//! - parts before the whole, from left to right,
+//! - for one node the rules in rising order of number.
 
 use crate::verdicts::{expect, expect_in_main};
 

@@ -1,5 +1,5 @@
-//! What names mean in each kind of scope. Expected verdicts are from the Go specification, "Declarations and scope",
-//! "Blocks".
+//! Tests of names in each kind of scope. Expected verdicts are from the Go specification, "Declarations and
+//! scope", "Blocks".
 
 use crate::verdicts::{expect, expect_in_main};
 

@@ -1,4 +1,5 @@
-//! Statements. Expected verdicts are from the Go specification, "Statements", "Blocks", and the rules of the language.
+//! Tests of statements. Expected verdicts are from the Go specification, "Statements", "Blocks", and from
+//! the rules of the language.
 
 use crate::verdicts::expect;
 

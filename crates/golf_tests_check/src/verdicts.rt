@@ -1,4 +1,4 @@
-//! The verdict on a text.
+//! The verdict of the checker on a text.
 
 use golf_check::{Checked, check};
 use golf_check_types::{Base, GoType, TypeFault};
@@ -6,7 +6,7 @@ use std::alloc::Global;
 use std::process::Abort;
 use std::test::Fail;
 
-// What the checker answers to a text that is a file of the language.
+// The answer of the checker to a text that parses.
 fn checked(rt: &impl Abort, alloc: Global, source: &str) -> Result<Checked, TypeFault> {
     assert!(rt; source.len() < 100_000);
     match golf_lex::tokens(alloc, source.as_bytes()) {
@@ -18,7 +18,7 @@ fn checked(rt: &impl Abort, alloc: Global, source: &str) -> Result<Checked, Type
     }
 }
 
-// The line and the rule that a file breaks first, or zeros if it is typed.
+// The line and the rule that a file breaks first, or zeros if it breaks none.
 fn verdict(rt: &impl Abort, alloc: Global, source: &str) -> (u32, u32) {
     match checked(rt, alloc, source) {
         Ok(_) => (0, 0),
@@ -27,7 +27,7 @@ fn verdict(rt: &impl Abort, alloc: Global, source: &str) -> (u32, u32) {
     }
 }
 
-// The number that a word of a head is.
+// The number that a word of a head writes.
 fn number(rt: &impl Abort, word: Option<&str>) -> u32 {
     match word {
         None => panic!(rt; "a head without its line and rule"),
@@ -38,7 +38,7 @@ fn number(rt: &impl Abort, word: Option<&str>) -> u32 {
     }
 }
 
-// The line and the rule of a head; what stands after them is a remark.
+// The line and the rule of a head. The words behind them are a remark.
 fn line_and_rule(rt: &impl Abort, head: &str) -> (u32, u32) {
     let mut words = head.split_whitespace();
     let line = number(rt, words.next());
@@ -46,8 +46,9 @@ fn line_and_rule(rt: &impl Abort, head: &str) -> (u32, u32) {
     (line, rule)
 }
 
-/// Each text breaks the rule of its head on that line first, or none if both are 0. A head is
-/// `\n--- LINE RULE`, and the text stands on the lines after it, up to the next head or the end.
+/// Fails the test unless each text first breaks the rule of its head, on that line. If both numbers are 0,
+/// the text breaks no rule. A head is `\n--- LINE RULE`. Its text is on the lines after it, up to the next
+/// head or the end.
 pub(crate) fn expect<R: AllocGlobal + Abort>(rt: &R, rows: &str) {
     for row in rows.split("\n--- ") {
         match row.split_once('\n') {
@@ -60,7 +61,7 @@ pub(crate) fn expect<R: AllocGlobal + Abort>(rt: &R, rows: &str) {
     }
 }
 
-// The file of which this is the body of `main`.
+// The file that has this body of `main`.
 fn file_of(rt: &impl Abort, alloc: Global, body: &str) -> String {
     match format!(in alloc; "package main\nfunc main() {{\n{body}\n}}") {
         Ok(text) => text,
@@ -68,7 +69,7 @@ fn file_of(rt: &impl Abort, alloc: Global, body: &str) -> String {
     }
 }
 
-/// The same of bodies of `main`, of which the first line is 3.
+/// Does the same as `expect` for bodies of `main`, whose first line is line 3.
 pub(crate) fn expect_in_main<R: AllocGlobal + Abort>(rt: &R, rows: &str) {
     for row in rows.split("\n--- ") {
         match row.split_once('\n') {
@@ -101,7 +102,7 @@ fn word(t: &Option<GoType>) -> &'static str {
     }
 }
 
-// A word for each type of a typed file, in their order, with one space between.
+// One word for each type of a typed file, in order, with one space between.
 fn type_words(checked: &Checked, alloc: Global) -> Result<String, Fail> {
     let mut words = String::new(alloc);
     for t in checked.types(alloc)?.as_slice() {
@@ -113,7 +114,7 @@ fn type_words(checked: &Checked, alloc: Global) -> Result<String, Fail> {
     Ok(words)
 }
 
-/// The expressions of a typed file have types of these words, in their order.
+/// Fails the test unless the expressions of a typed file have types of these words, in order.
 pub(crate) fn expect_types<R: AllocGlobal + Abort>(
     rt: &R,
     source: &str,

@@ -1,4 +1,5 @@
-//! The code of constructs. The expected code is by hand, from the rules of the language and its tables of instructions.
+//! Tests of the code of constructs. The expected code is written by hand, from the rules of the language
+//! and its tables of instructions.
 
 use crate::told::expect;
 use std::test::Fail;
@@ -45,7 +46,7 @@ fn loops_have_their_code(rt: HostRuntime) -> Result<(), Fail> {
     Ok(())
 }
 
-// The function that `docs/MEANING.md` works through.
+// The function that `docs/MEANING.md` explains.
 #[test]
 fn a_function_that_gathers_what_it_receives_has_its_code(rt: HostRuntime) -> Result<(), Fail> {
     expect(

@@ -1,4 +1,5 @@
-//! Whole files. The expected code is by hand, from the rules of the language and its tables of instructions.
+//! Tests of the code of whole files. The expected code is written by hand, from the rules of the language
+//! and its tables of instructions.
 
 use crate::told::expect;
 use std::test::Fail;

@@ -1,4 +1,5 @@
-//! More constructs. The expected code is by hand, from the rules of the language and its tables of instructions.
+//! Tests of the code of more constructs. The expected code is written by hand, from the rules of the
+//! language and its tables of instructions.
 
 use crate::told::expect;
 use std::test::Fail;

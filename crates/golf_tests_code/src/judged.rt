@@ -1,4 +1,4 @@
-//! Code that is that of its file, and code of which one instruction is another.
+//! Tests of how code is judged: code of its file, and the same code with one other instruction.
 
 ghost use Rattle.std.specs.Prelude.{◌≡◌};
 ghost use Rattle.golf_check_types.specs.Files.{facts_in};
@@ -18,7 +18,7 @@ const UP: u32 = 1;
 
 const MAIN: u32 = 2;
 
-// The place of the first such instruction, or the end.
+// The place of the first such instruction, or the number of lines if there is none.
 fn first_place(lines: &[CodeLine], instr: &Instr) -> usize {
     for at in 0..lines.len() {
         if lines[at].instr.is(instr) {
@@ -28,7 +28,7 @@ fn first_place(lines: &[CodeLine], instr: &Instr) -> usize {
     lines.len()
 }
 
-// Makes the first `Add` of a function a `Sub`.
+// Replaces the first `Add` of a function by `Sub`.
 fn subtract(rt: &impl Abort, code: &mut Code, number: u32) {
     let number = number as usize;
     assert!(rt; number < code.functions.len());
@@ -45,7 +45,7 @@ fn subtract(rt: &impl Abort, code: &mut Code, number: u32) {
     );
 }
 
-// What a function is judged to be.
+// Whether a function is judged to have the code of the file.
 fn judged(rt: &impl Abort, alloc: Global, checked: &Checked, code: &Code, number: u32) -> bool
     requires scope { checked.now.scope ≡ scope_of checked.now.file }
     requires facts { checked.now.facts ≡ facts_in checked.now.file }
@@ -77,7 +77,7 @@ fn there_is_no_such_function(rt: HostRuntime) -> Result<(), Fail> {
     Ok(())
 }
 
-// Whether all functions are judged to be those of the file.
+// Whether all functions are judged to have the code of the file.
 fn all_judged(rt: &impl Abort, alloc: Global, checked: &Checked, code: &Code) -> bool
     requires scope { checked.now.scope ≡ scope_of checked.now.file }
     requires facts { checked.now.facts ≡ facts_in checked.now.file }

@@ -1,4 +1,4 @@
-//! Tests of the code of files, against code that was written by hand, and of how code is judged by its file.
+//! Tests of the code of files, against code that was written by hand, and of how code is judged.
 #![tactic(auto)]
 
 #[cfg(test)]

@@ -1,4 +1,4 @@
-//! What the checker finds of a text, and its code.
+//! The result of the checker for a text, and its code.
 
 ghost use Rattle.std.specs.Prelude.{◌≡◌};
 ghost use Rattle.golf_check_types.specs.Files.{facts_in};
@@ -11,7 +11,7 @@ use golf_data::Code;
 use std::alloc::Global;
 use std::process::Abort;
 
-/// What the checker finds of a file.
+/// Returns the result of the checker for a file that breaks no rule.
 pub(crate) fn checked(rt: &impl Abort, alloc: Global, source: &str) -> Checked
     ensures scope { result.scope ≡ scope_of result.file }
     ensures facts { result.facts ≡ facts_in result.file }
@@ -29,7 +29,7 @@ pub(crate) fn checked(rt: &impl Abort, alloc: Global, source: &str) -> Checked
     }
 }
 
-/// The code of a checked file.
+/// Returns the code of a checked file.
 pub(crate) fn code_of(rt: &impl Abort, alloc: Global, checked: &Checked) -> Code
     requires scope { checked.now.scope ≡ scope_of checked.now.file }
     requires facts { checked.now.facts ≡ facts_in checked.now.file }

@@ -1,6 +1,6 @@
 //! Files whose code is judged.
 
-/// A method, `up`, that adds, and then `main`.
+/// A method, `up`, that adds, and then the function `main`.
 pub(crate) const METHOD: &str = "\
     package main\n\
     import \"fmt\"\n\
@@ -21,7 +21,7 @@ pub(crate) const METHOD: &str = "\
     \ta[3] = 1\n\
     }\n";
 
-/// A pool of workers: a method, `add`, and the functions `work`, `ask`, `answer` and `main`.
+/// A worker pool: a method, `add`, and the functions `work`, `ask`, `answer` and `main`.
 pub(crate) const WORKER_POOL: &str = "\
     package main\n\
     \n\

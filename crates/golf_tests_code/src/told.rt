@@ -1,4 +1,4 @@
-//! The code of a text, as a text.
+//! The code of a text, written as a text.
 
 use crate::made::{checked, code_of};
 use golf_data::{Code, Function};
@@ -6,7 +6,7 @@ use std::alloc::{AllocError, Global};
 use std::process::Abort;
 use std::test::Fail;
 
-// The line, the slots, the depth, and each instruction with its line.
+// The line of a function, its parameters, slots and depth, and each instruction with its line.
 fn told_function(alloc: Global, function: &Function) -> Result<String, AllocError> {
     let mut out = format!(in alloc;
         "{}: {} {} {}",
@@ -27,8 +27,8 @@ fn told(alloc: Global, code: &Code) -> Result<String, AllocError> {
     Ok(out)
 }
 
-/// The functions of a text are told so: on which line each is declared, its parameters, slots and
-/// depth, and its instructions with their lines.
+/// Fails the test unless the functions of a text are written so. Each has the line of its declaration, its
+/// parameters, slots and depth, and its instructions with their lines.
 pub(crate) fn expect(
     rt: &impl Abort,
     alloc: Global,

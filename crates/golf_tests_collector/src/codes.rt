@@ -5,7 +5,7 @@ use golf_data::{Code, Instr, Value};
 use golf_tests_support::{code, function, lines};
 use std::alloc::Global;
 
-// The code of `main` and of a function 1 with an argument.
+// The code of `main` and of function 1, which has one argument.
 fn program(alloc: Global, main: Vec<Instr>, other: Vec<Instr>) -> Result<Code, Memory> {
     let mut functions = List::new(alloc);
     functions.push(function(alloc, 0, lines(alloc, main)?)?)?;
@@ -13,8 +13,8 @@ fn program(alloc: Global, main: Vec<Instr>, other: Vec<Instr>) -> Result<Code, M
     code(alloc, functions, &[Value::Nil], &[Value::Nil])
 }
 
-/// The classic leak: a goroutine receives from a channel that nobody else knows, while `main` goes on and then
-/// collects.
+/// Returns the classic leak: a goroutine receives from a channel that no other goroutine has. Meanwhile
+/// `main` goes on, and then collects.
 pub fn leak(alloc: Global) -> Result<Code, Memory> {
     let main = vec![in alloc;
         Instr::Int(0),
@@ -41,7 +41,7 @@ pub fn leak(alloc: Global) -> Result<Code, Memory> {
     program(alloc, main, receiver)
 }
 
-/// Two goroutines print what they were given, and `main` prints and collects.
+/// Returns a code in which two goroutines print their arguments, and `main` prints and collects.
 pub fn printers(alloc: Global) -> Result<Code, Memory> {
     let main = vec![in alloc;
         Instr::Int(1),
@@ -59,7 +59,7 @@ pub fn printers(alloc: Global) -> Result<Code, Memory> {
     program(alloc, main, printer)
 }
 
-/// It never ends.
+/// Returns a code that never ends.
 pub fn endless(alloc: Global) -> Result<Code, Memory> {
     let main = vec![in alloc; Instr::Jump(0)]?;
     let other = vec![in alloc; Instr::Return]?;

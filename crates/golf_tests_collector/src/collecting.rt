@@ -14,7 +14,7 @@ use std::thread::Threads;
 /// How many collections a book of the tests has at most.
 const MOST: u32 = 100;
 
-/// A collection by two markers; otherwise as `collect_by`.
+/// Collects with two markers, and otherwise as `collect_by`.
 pub fn collect_once<R: Threads + Sync>(
     rt: &R,
     alloc: Global,
@@ -34,8 +34,9 @@ pub fn collect_once<R: Threads + Sync>(
     collect_by(rt, alloc, code, state, book, options, &OpenGate)
 }
 
-/// A collection of a state that the code led to, which stays one. The gate is that of its second
-/// marking. If the program has ended, or the book has counted `MOST` collections, the answer is `Memory`.
+/// Collects a state that the code led to. The code leads to the state afterwards too. The gate is that of
+/// the second marking. If the program has ended, or the book has counted `MOST` collections, the answer is
+/// `Memory`.
 pub fn collect_by<R: Threads + Sync, G: Gate + Sync>(
     rt: &R,
     alloc: Global,

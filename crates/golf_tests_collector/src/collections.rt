@@ -1,4 +1,4 @@
-//! What a collection reports, and by how many markers it marks.
+//! Tests of the report of a collection, and of the number of its markers.
 
 ghost use Rattle.std.specs.Prelude.{◌<◌, ◌≤◌};
 
@@ -12,7 +12,7 @@ use std::alloc::Global;
 use std::test::Fail;
 use std::thread::Threads;
 
-// A goroutine receives from a channel that nobody else knows.
+// A goroutine receives from a channel that no other goroutine has.
 fn stuck_receiver(alloc: Global) -> Result<Code, Memory> {
     let main = vec![in alloc;
         Instr::Int(0),
@@ -54,7 +54,7 @@ fn a_removed_goroutine_that_is_there_again_is_reported_again(rt: HostRuntime) ->
     Ok(())
 }
 
-// How often so many markers pass the gate of the second marking.
+// How often `markers` markers pass the gate of the second marking.
 fn second_passes<R: Threads + Sync>(rt: &R, alloc: Global, markers: u32) -> Result<u64, Fail>
     requires some { 0 < markers }
     requires few { markers ≤ 16 }
@@ -74,7 +74,7 @@ fn second_passes<R: Threads + Sync>(rt: &R, alloc: Global, markers: u32) -> Resu
 
 #[test]
 fn the_second_marking_has_as_many_markers_as_it_is_told(rt: HostRuntime) -> Result<(), Fail> {
-    // Each marker ends in a turn of its own, so 15 markers more are 15 passes more.
+    // Each marker passes the gate once more in its last turn, so 15 more markers are 15 more passes.
     let alone = second_passes(&rt, rt.alloc(), 1)?;
     let sixteen = second_passes(&rt, rt.alloc(), 16)?;
     assert!(rt;

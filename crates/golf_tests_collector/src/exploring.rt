@@ -1,4 +1,4 @@
-//! The search of all schedules, on codes whose states can be counted by hand.
+//! Tests of the search over all schedules, on codes whose states can be counted by hand.
 
 use crate::codes::{endless, leak, printers};
 use golf_base::Memory;
@@ -8,17 +8,17 @@ use golf_tests_support::can_run;
 use std::alloc::Global;
 use std::test::Fail;
 
-/// What a search of a code comes to.
+/// The result of a search of a code.
 #[derive(Clone, Copy, Debug, PartialEq, Eq)]
 enum Found {
-    /// So many states.
+    /// All schedules were searched, and there are this many states.
     States(u32),
-    /// A leak after so many turns.
+    /// A leak after this many turns.
     Leak(usize),
     Nothing,
 }
 
-// Searches up to so many states.
+// Searches up to `most` states.
 fn search_of(alloc: Global, code: Code, most: u32) -> Result<Found, Memory> {
     if !can_run(&code) {
         return Ok(Found::Nothing);
@@ -45,7 +45,7 @@ fn a_loop_has_one_state(rt: HostRuntime) -> Result<(), Fail> {
 
 #[test]
 fn the_nearest_leak_is_found(rt: HostRuntime) -> Result<(), Fail> {
-    // `main` starts the receiver in three turns, and it blocks in its sixth turn.
+    // `main` starts the receiver in three turns, and the receiver blocks in its sixth turn.
     let code = leak(rt.alloc())?;
     assert_eq!(rt; search_of(rt.alloc(), code, 1_000)?, Found::Leak(9));
     Ok(())

@@ -1,4 +1,4 @@
-//! The graphs of a state.
+//! Tests of the graphs of a state.
 
 use crate::states::stuck_state;
 use golf_base::GoroutineId;

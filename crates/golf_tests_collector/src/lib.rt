@@ -1,6 +1,8 @@
-//! Tests of collections: the graphs of a state, the reports, and what is removed, queued and freed; and of threads that
-//! step one program: whose turn it is, what stands after a step that is out of memory, and that workers run at the
-//! same time; and of the search of all schedules.
+//! Tests of the collector:
+//!
+//! - Collections: the graphs of a state, the reports, and the removed, queued and freed parts.
+//! - Threads that step one program: whose turn it is, a step without memory, and workers at the same time.
+//! - The search over all schedules.
 #![tactic(auto)]
 
 #[cfg(test)]

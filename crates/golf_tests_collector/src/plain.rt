@@ -8,7 +8,7 @@ use golf_tests_support::take_turn;
 use golf_world::HistoryEntry;
 use std::alloc::Global;
 
-/// The state after turns with the numbers of these entries, without any collection.
+/// Returns the state after turns with the numbers of these entries, without any collection.
 pub fn plain_state(alloc: Global, code: &Code, entries: &[HistoryEntry]) -> Result<State, Memory> {
     let mut state = start(alloc, code)?;
     for entry in entries {

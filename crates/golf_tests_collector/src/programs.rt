@@ -10,11 +10,11 @@ use golf_state::State;
 use golf_tests_support::{code, function, lines, take_turn};
 use std::alloc::Global;
 
-/// How many turns lead to the states.
+/// How many turns lead to these states.
 const TURNS: u64 = 200;
 
-/// The code of `main`, of a function 1 with two arguments and of a function 2 that takes an object and
-/// returns; there is a global, and a struct type with a pointer.
+/// Returns the code of `main`, of function 1 with two arguments, and of function 2, which takes an object
+/// and returns. The code has one global, and one struct type with a pointer.
 pub fn program(alloc: Global, main: Vec<Instr>, other: Vec<Instr>) -> Result<Code, Memory> {
     let mut functions = List::new(alloc);
     functions.push(function(alloc, 0, lines(alloc, main)?)?)?;
@@ -24,7 +24,7 @@ pub fn program(alloc: Global, main: Vec<Instr>, other: Vec<Instr>) -> Result<Cod
     code(alloc, functions, &[Value::Nil], &[Value::Nil])
 }
 
-/// `main` runs on after these instructions.
+/// Returns these instructions, and after them a jump to itself, so `main` runs for ever.
 pub fn forever(alloc: Global, instrs: Vec<Instr>) -> Result<Vec<Instr>, Memory> {
     let mut main = Vec::new(alloc);
     let mut end = 0u32;
@@ -36,13 +36,13 @@ pub fn forever(alloc: Global, instrs: Vec<Instr>) -> Result<Vec<Instr>, Memory> 
     Ok(main)
 }
 
-/// Receives from the first argument.
+/// Returns instructions that receive from the first argument.
 pub fn receiver(alloc: Global) -> Result<Vec<Instr>, Memory> {
     let other = vec![in alloc; Instr::Load(0), Instr::Receive, Instr::Return]?;
     Ok(other)
 }
 
-/// Receives from the first argument, and reads the second one after it.
+/// Returns instructions that receive from the first argument, and then read the second one.
 pub fn holder(alloc: Global) -> Result<Vec<Instr>, Memory> {
     let other = vec![in alloc;
         Instr::Load(0),
@@ -55,7 +55,7 @@ pub fn holder(alloc: Global) -> Result<Vec<Instr>, Memory> {
     Ok(other)
 }
 
-/// The state after turns with rising numbers, until the program has ended or the turns are spent.
+/// Returns the state after turns with rising numbers, until the program has ended or the turns are spent.
 pub fn state_of(alloc: Global, code: &Code) -> Result<State, Memory>
     ensures { IfOk result (Leads code.now) }
 {

@@ -1,4 +1,4 @@
-//! What collections remove, queue and free, with recovery and without.
+//! Tests of the removed, queued and freed parts of a state, with recovery and without.
 
 use crate::collecting::collect_once;
 use crate::programs::{forever, go_on, holder, program, receiver, state_of};
@@ -12,7 +12,7 @@ use std::process::Abort;
 use std::test::Fail;
 use std::thread::Threads;
 
-// What a report counts, and what the state is after it.
+// The counts of a report, and the state after it.
 #[derive(Clone, Copy, Debug, PartialEq, Eq)]
 struct After {
     marked: u32,
@@ -20,13 +20,13 @@ struct After {
     kept: u32,
     reclaimed: u32,
     objects: u32,
-    // How many objects are there, and whether the first one that was made is a locked mutex.
+    // How many objects there are, and whether the first object is a locked mutex.
     there: u32,
     locked: bool,
-    // The goroutines, 0 and 1 among them.
+    // How many goroutines there are, goroutines 0 and 1 included.
     goroutines: usize,
     finalisers: usize,
-    // How many finalisers are to be called, and the object of the first.
+    // How many entries the finaliser queue has, and the object of the first one.
     queued: usize,
     first: Option<ObjectId>,
 }
@@ -77,7 +77,7 @@ fn story_of<R: Threads + Sync>(
     Ok(Story { first, second })
 }
 
-// A code leads to these stories, without recovery and with it.
+// Fails the test unless a code leads to these stories, without recovery and with it.
 fn tells<R: AllocGlobal + Abort + Threads + Sync>(
     rt: &R,
     code: &Code,
@@ -89,7 +89,7 @@ fn tells<R: AllocGlobal + Abort + Threads + Sync>(
     Ok(())
 }
 
-// Nothing is found, and goroutines 0 and 1 alone are there.
+// The collection finds nothing, and only goroutines 0 and 1 are there.
 const NOTHING: After = After {
     marked: 0,
     reported: 0,
@@ -104,7 +104,8 @@ const NOTHING: After = After {
     first: None,
 };
 
-// The first collection reports so many and removes so many of them; what it leaves stays as it is.
+// The first collection reports `reported` goroutines and removes `reclaimed` of them. The state that it
+// leaves stays the same.
 fn at_once(reported: usize, reclaimed: u32, left: After) -> Story {
     Story {
         first: After {
@@ -116,7 +117,7 @@ fn at_once(reported: usize, reclaimed: u32, left: After) -> Story {
     }
 }
 
-// A goroutine receives from a channel that nobody else knows, and holds a struct that has a finaliser.
+// A goroutine receives from a channel that no other goroutine has, and holds a struct that has a finaliser.
 fn holder_of_a_finalised_object(alloc: Global) -> Result<Code, Memory> {
     let main = vec![in alloc;
         Instr::Int(0),
@@ -152,8 +153,8 @@ fn a_dead_holder_of_a_finalised_object_is_kept(rt: HostRuntime) -> Result<(), Fa
     tells(&rt, &code, kept, kept)
 }
 
-// A goroutine receives from a channel that nobody else knows, and holds a struct that `main` has too;
-// an instruction that is never reached may give it a finaliser.
+// A goroutine receives from a channel that no other goroutine has, and holds a struct that `main` has too.
+// An instruction that is never reached may give the struct a finaliser.
 fn sharer_of_a_live_object(alloc: Global, last: Instr) -> Result<Code, Memory> {
     let main = vec![in alloc;
         Instr::Int(0),
@@ -212,7 +213,7 @@ fn it_is_removed_where_none_is_set(rt: HostRuntime) -> Result<(), Fail> {
     tells(&rt, &code, at_once(1, 0, kept), at_once(1, 1, gone))
 }
 
-// A struct with a finaliser, which nothing refers to, has the channel on which a goroutine waits.
+// A struct with a finaliser, to which nothing refers, has the channel on which a goroutine waits.
 fn unreachable_holder_of_a_channel(alloc: Global) -> Result<Code, Memory> {
     let main = vec![in alloc;
         Instr::Int(0),
@@ -272,7 +273,7 @@ fn an_unreachable_finalised_object_keeps_a_waiter_alive(rt: HostRuntime) -> Resu
     tells(&rt, &code, without, with)
 }
 
-// Two goroutines each receive from a channel of which the other alone knows.
+// Two goroutines each receive from a channel that only the other one has.
 fn cycle(alloc: Global) -> Result<Code, Memory> {
     let main = vec![in alloc;
         Instr::Int(0),
@@ -308,7 +309,8 @@ fn a_cycle_is_collected_twice(rt: HostRuntime) -> Result<(), Fail> {
     tells(&rt, &code, at_once(2, 0, kept), at_once(2, 2, NOTHING))
 }
 
-// A goroutine locks a mutex that a global holds, and then receives from a channel that nobody else knows.
+// A goroutine locks a mutex that a global holds. Then it receives from a channel that no other goroutine
+// has.
 fn holder_of_a_global_mutex(alloc: Global) -> Result<Code, Memory> {
     let main = vec![in alloc;
         Instr::NewMutex,
@@ -352,7 +354,8 @@ fn a_removed_goroutines_mutex_stays_locked(rt: HostRuntime) -> Result<(), Fail> 
     tells(&rt, &code, at_once(1, 0, kept), at_once(1, 1, gone))
 }
 
-// Two structs get finalisers, the later one first, and nothing refers to them; a third has none.
+// Two structs to which nothing refers have finalisers, and the later one got its finaliser first. A third
+// struct has none.
 fn unreachable_structs(alloc: Global) -> Result<Code, Memory> {
     let main = vec![in alloc;
         Instr::NewStruct(0),
@@ -390,7 +393,8 @@ fn finalisers_are_queued_by_rising_number(rt: HostRuntime) -> Result<(), Fail> {
     tells(&rt, &code, told, told)
 }
 
-// A goroutine is left behind on a channel of its own, beside two structs that get finalisers and a third without one.
+// A goroutine waits for ever on its own channel. There are two structs with finalisers, and a third one
+// without.
 fn left_behind(alloc: Global) -> Result<Code, Memory> {
     let main = vec![in alloc;
         Instr::Int(0),
@@ -407,7 +411,7 @@ fn left_behind(alloc: Global) -> Result<Code, Memory> {
     program(alloc, forever(alloc, main)?, receiver(alloc)?)
 }
 
-// What a collection with recovery can change of a state and of a book.
+// The parts of a state and of a book that a collection with recovery can change.
 #[derive(Clone, Copy, Debug, PartialEq, Eq)]
 struct Standing {
     objects: u32,
@@ -431,7 +435,7 @@ fn standing_of(state: &State, book: &Ledger) -> Standing {
     }
 }
 
-// What was before a collection that may get no memory, whether it got all, and what was after it.
+// The parts before a collection that may get no memory, whether it got all, and the parts after it.
 fn collected<R: Threads + Sync>(
     rt: &R,
     alloc: Global,
@@ -444,7 +448,7 @@ fn collected<R: Threads + Sync>(
     Ok((before, got.is_ok(), standing_of(&state, &book)))
 }
 
-// Each growth can be refused in turn (`rt try --test --fail-alloc N`).
+// `rt try --test --fail-alloc N` refuses each growth in turn.
 #[test]
 fn a_refused_growth_changes_neither_state_nor_book(rt: HostRuntime) -> Result<(), Fail> {
     let (before, got, after) = collected(&rt, rt.alloc())?;

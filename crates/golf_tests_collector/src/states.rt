@@ -10,8 +10,8 @@ use golf_ring::Ring;
 use golf_state::State;
 use std::alloc::Global;
 
-/// Goroutine 1 runs, and goroutine 2, started at line 3, is blocked at line 5 by a receive from a
-/// channel that nothing else refers to.
+/// Returns a state in which goroutine 1 runs. Goroutine 2, started at line 3, is blocked at line 5 by a
+/// receive from a channel to which nothing else refers.
 pub fn stuck_state(alloc: Global) -> Result<State, Memory>
     ensures numbered { IfOk result Numbered }
     ensures whole { IfOk result IsWhole }

@@ -1,4 +1,4 @@
-//! Programs that several threads step.
+//! Tests of programs that several threads step.
 
 use crate::codes::{endless, leak, printers};
 use crate::plain::plain_state;
@@ -12,7 +12,7 @@ use std::sync::Wait;
 use std::test::Fail;
 use std::thread::Threads;
 
-// A run of the code by so many threads, 1 to 16.
+// A run of the code by this many threads, 1 to 16.
 fn run<R: Threads + Wait + Sync, G: Gate + Sync>(
     rt: &R,
     alloc: Global,

@@ -1,4 +1,4 @@
-//! A world of one pass: whose turns it takes, and what its history is.
+//! Tests of a world of one pass: the goroutines whose turns it takes, and its history.
 
 ghost use Rattle.std.specs.Prelude.{◌≡◌};
 ghost use Rattle.golf_data.specs.Places.{HasPlaces};
@@ -18,10 +18,10 @@ use std::sync::Wait;
 use std::test::Fail;
 use std::thread::Threads;
 
-/// How many steps a test takes at most.
+/// The most steps that a test takes.
 const STEPS: u32 = 60;
 
-// What steps came to: whose turns they were, how the program ended, and the history.
+// The result of steps: the goroutines whose turns they were, the ending, and the history.
 #[derive(Drop)]
 struct Walk {
     whose: List<GoroutineId>,
@@ -29,7 +29,7 @@ struct Walk {
     history: History,
 }
 
-// Steps until the program has ended. A step that is out of memory is taken again.
+// Steps until the program has ended. It takes a step without memory again.
 fn step_on<W: WorldName, R: Threads + Wait + Sync>(
     rt: &R,
     alloc: Global,
@@ -54,7 +54,7 @@ fn step_on<W: WorldName, R: Threads + Wait + Sync>(
     Ok(None)
 }
 
-// One pass steps the program, in a world that `W` names.
+// Steps the program with one pass, in the world that `W` names.
 fn steps_of_one<W: WorldName, R: Threads + Wait + Sync>(
     rt: &R,
     alloc: Global,

@@ -11,10 +11,10 @@ use std::thread::Threads;
 /// How many bytes a sink of the tests has room for.
 const ROOM: u32 = 65_536;
 
-/// What a search of the default size says before it begins.
+/// The note that a search of the default size writes before it begins.
 pub const NOTE: &str = "at most 100000 states, about 501 MB of memory\n";
 
-/// Which call of the source and of the two sinks fails, by its number from 1; 0 is none.
+/// The call of the source and of each sink that fails, by its number from 1, or 0 if none fails.
 #[derive(Clone, Copy)]
 pub struct Failing {
     pub source: u32,
@@ -29,10 +29,10 @@ pub const NONE: Failing = Failing {
     err: 0,
 };
 
-/// The words of a line and a file, how the program ends by them, and what it writes.
+/// The words of a command line and a file, the status of the program, and the texts that it writes.
 #[derive(Clone, Copy)]
 pub struct Row {
-    /// What the row shows.
+    /// The fact that the row shows.
     pub shows: &'static str,
     pub line: &'static str,
     pub file: &'static str,
@@ -42,7 +42,7 @@ pub struct Row {
     pub err: &'static str,
 }
 
-// The list of this one number, or of none if it is 0.
+// A list of this one number, or the empty list if it is 0.
 fn list_of(alloc: Global, call: u32) -> Result<List<u32>, Fail> {
     let mut list = List::new(alloc);
     if call != 0 {
@@ -51,7 +51,7 @@ fn list_of(alloc: Global, call: u32) -> Result<List<u32>, Fail> {
     Ok(list)
 }
 
-/// The words of a line, which one space parts.
+/// Returns the words of a line, which have spaces between.
 pub fn words_of(alloc: Global, line: &str) -> Result<Vec<String>, Fail> {
     let mut words = Vec::new(alloc);
     for word in line.split_whitespace() {
@@ -60,19 +60,19 @@ pub fn words_of(alloc: Global, line: &str) -> Result<Vec<String>, Fail> {
     Ok(words)
 }
 
-/// A source over a text, 64 bytes a call.
+/// Returns a source of a text that gives 64 bytes a call.
 pub fn source_of(alloc: Global, text: &str, fail: u32) -> Result<MemorySource, Fail> {
     let mut bytes = List::new(alloc);
     bytes.extend_from_slice(text.as_bytes())?;
     Ok(MemorySource::new(bytes, 64, list_of(alloc, fail)?))
 }
 
-/// A sink that takes 16 bytes a call.
+/// Returns a sink that takes 16 bytes a call.
 pub fn sink_of(alloc: Global, fail: u32) -> Result<MemorySink, Fail> {
     Ok(MemorySink::new(alloc, ROOM, 16, list_of(alloc, fail)?)?)
 }
 
-/// The program ends and writes as the row says.
+/// Fails the test unless the program ends and writes as the row says.
 pub fn expect_row<R: AllocGlobal + Abort + Threads + Sync>(rt: &R, row: &Row) -> Result<(), Fail> {
     let alloc = rt.alloc();
     let mut source = source_of(alloc, row.file, row.failing.source)?;
@@ -86,7 +86,7 @@ pub fn expect_row<R: AllocGlobal + Abort + Threads + Sync>(rt: &R, row: &Row) ->
     Ok(())
 }
 
-/// The program ends and writes as each of these rows says.
+/// Fails the test unless the program ends and writes as each of these rows says.
 pub fn expect_rows<R: AllocGlobal + Abort + Threads + Sync>(
     rt: &R,
     rows: &[Row],

@@ -1,5 +1,5 @@
-//! Tests of the program that looks at every schedule: its answers, the words that replay a leak, refusals, and faults of
-//! its streams.
+//! Tests of the program that looks at every schedule: its answers, the words that repeat a leak, what it
+//! searches for, the turns that it tells, refusals, and faults of its streams.
 #![tactic(auto)]
 
 #[cfg(test)]
@@ -7,4 +7,8 @@ mod answers;
 #[cfg(test)]
 mod calls;
 #[cfg(test)]
+mod searches;
+#[cfg(test)]
 mod streams;
+#[cfg(test)]
+mod traces;

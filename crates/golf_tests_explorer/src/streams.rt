@@ -1,14 +1,16 @@
-//! Words that are no line, files that are refused, and streams that fail.
+//! Tests of words that are no command line, of refused files, and of streams that fail.
 
 use crate::answers::TWO_SENDERS;
 use crate::calls::{Failing, NONE, NOTE, Row, expect_row, expect_rows};
 use golf_run_texts::Status;
 use std::test::Fail;
 
-const USAGE: &str = "usage: golf-explore all [--states N] < FILE\n";
+/// The usage of the program.
+pub const USAGE: &str =
+    "usage: golf-explore all [--states N] < FILE\n       golf-explore search [--preemptions K] [--states N] [--for leak|panic|asleep] < FILE\n       golf-explore trace [--schedule S] [--turns N] [--every N] [--markers N] [--recover] [--why] < FILE\n";
 
-// Lines that are none of the program.
-const MISUSED: [&str; 7] = [
+// Words that are no command line of the program.
+const MISUSED: [&str; 13] = [
     "",
     "run",
     "all all",
@@ -16,9 +18,15 @@ const MISUSED: [&str; 7] = [
     "all --states 0",
     "all --states 1000001",
     "all --states 5 --states 5",
+    "search --preemptions 17",
+    "search --for leaks",
+    "search --states 0",
+    "trace --threads 2",
+    "trace --turns 0",
+    "trace all",
 ];
 
-// The source would fail if it were read.
+// The source fails if it is read.
 #[test]
 fn words_that_are_no_line_have_the_usage_and_read_nothing(rt: HostRuntime) -> Result<(), Fail> {
     for line in &MISUSED {
@@ -40,7 +48,7 @@ fn words_that_are_no_line_have_the_usage_and_read_nothing(rt: HostRuntime) -> Re
     Ok(())
 }
 
-// Which call of the source and of the sinks fails, the status, and what standard error got.
+// The call of the source and of the sinks that fails, the status, and the bytes that standard error got.
 const FAULTS: [(Failing, Status, &str); 4] = [
     (
         Failing {

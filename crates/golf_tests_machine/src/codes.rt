@@ -1,4 +1,4 @@
-//! Small codes.
+//! Small codes for tests of the machine.
 
 /// The instructions of `main`, and those of function 1.
 #[derive(Clone, Copy)]
@@ -10,8 +10,7 @@ pub const ONE_VALUE: Texts = Texts(
     "Load(0); Int(5); Send; Return",
 );
 
-/// A goroutine sends 3 and 5 on a channel of capacity 1, and `main` prints the two that it
-/// receives.
+/// A goroutine sends 3 and 5 on a channel of capacity 1, and `main` prints both after it has received them.
 pub const TWO_VALUES: Texts = Texts(
     "Int(1); NewChan(Int(0)); Store(0); Load(0); Go(1, 1); Load(0); Receive; Load(0); Receive; Print(2)",
     "Load(0); Int(3); Send; Load(0); Int(5); Send",

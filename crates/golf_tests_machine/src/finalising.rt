@@ -1,5 +1,5 @@
-//! Goroutine 0, which runs finalisers. What is expected comes from the documentation of package runtime
-//! (`SetFinalizer`) and from the rules of this runtime.
+//! Tests of goroutine 0, which runs finalisers. Expected values are from the documentation of package
+//! runtime (`SetFinalizer`) and from the rules of this runtime.
 
 use crate::programs::program;
 use crate::stepping::{FINALISERS, MAIN, after, holds, runnable, take};
@@ -8,8 +8,8 @@ use golf_state::State;
 use std::alloc::Global;
 use std::test::Fail;
 
-// The state in which `main` runs for ever, and a call of a function with these instructions as a
-// finaliser is to come; then so many turns.
+// The state after this many turns, from a state in which `main` runs for ever and one finaliser, a function
+// with these instructions, is queued.
 fn finalised(alloc: Global, finaliser: &str, turns: u32) -> Result<State, Fail> {
     let code = program(alloc, "NewStruct(0); Jump(1)", finaliser)?;
     let mut state = after(alloc, &code, &[(0, 2)])?;
@@ -24,20 +24,20 @@ fn finalised(alloc: Global, finaliser: &str, turns: u32) -> Result<State, Fail> 
     Ok(state)
 }
 
-// Whether goroutine 0 stands first among those that can run, and has no frame.
+// Whether goroutine 0 is the first goroutine that can run, and has no frame.
 fn stands_first(alloc: Global) -> Result<bool, Fail> {
     let state = finalised(alloc, "", 0)?;
     let running = runnable(alloc, &state)?;
     Ok(running.as_slice() == [FINALISERS, MAIN].as_slice() && state.depth(FINALISERS) == 0)
 }
 
-// Whether it takes the call in a turn.
+// Whether goroutine 0 takes the call in one turn.
 fn takes_the_call(alloc: Global) -> Result<bool, Fail> {
     let state = finalised(alloc, "", 1)?;
     Ok(state.depth(FINALISERS) == 1 && state.queue().is_empty())
 }
 
-// Whether it prints the object's field, and is there after it.
+// Whether goroutine 0 prints the object's field, and is still there afterwards.
 fn prints_and_stays(alloc: Global) -> Result<bool, Fail> {
     let state = finalised(alloc, "Load(0); Field(0); Print(1); Return", 5)?;
     let running = runnable(alloc, &state)?;

@@ -1,4 +1,4 @@
-//! Objects by number.
+//! Tests of objects by number.
 
 use crate::stepping::holds;
 use golf_base::{Memory, ObjectId};
@@ -7,7 +7,7 @@ use golf_heap::Heap;
 use std::alloc::Global;
 use std::test::Fail;
 
-// Whether an object that is made once the first one is freed gets the next number.
+// Whether an object gets the next number although the first object was freed.
 fn counts_on(alloc: Global) -> Result<bool, Memory> {
     let mut heap = Heap::new(alloc);
     let first = heap.make(Object::Mutex(false))?;
@@ -28,7 +28,7 @@ fn is_locked(object: Option<&Object>) -> bool {
     matches!(object, Some(Object::Mutex(true)))
 }
 
-// Whether an object is replaced if it is there, and else nothing is made.
+// Whether an object that is there is replaced, and no object is made under another number.
 fn is_replaced(alloc: Global) -> Result<bool, Memory> {
     let mut heap = Heap::new(alloc);
     let first = heap.make(Object::Mutex(false))?;

@@ -1,4 +1,4 @@
-//! Each instruction, through turns. What is expected comes from the Go specification and the
+//! Tests of each instruction, through turns. Expected values are from the Go specification and the
 //! documentation of the packages.
 
 use crate::programs::ends;
@@ -6,10 +6,10 @@ use crate::runs::panicked;
 use golf_data::{Ending, PanicKind};
 use std::test::Fail;
 
-/// The instructions of `main` and those of function 1, what their run prints, and the panic or fatal error with its
-/// line, if it does not return.
+/// The instructions of `main` and of function 1, the output of their run, and the panic or fatal error with
+/// its line. Without one the run returns.
 struct Row {
-    /// What the row shows.
+    /// The fact that the row shows.
     shows: &'static str,
     main: &'static str,
     other: &'static str,
@@ -130,7 +130,7 @@ const ROWS: [Row; 12] = [
     },
 ];
 
-// How the run of a row ends.
+// The ending of the run of a row.
 fn ending_of(row: &Row) -> Ending {
     match row.panic {
         Some((kind, line)) => panicked(kind, line),

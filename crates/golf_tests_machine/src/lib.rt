@@ -1,5 +1,4 @@
-//! Tests of the machine on small codes. The values that are expected are those of the Go
-//! specification.
+//! Tests of the machine on small codes. Expected values are from the Go specification.
 #![tactic(auto)]
 
 #[cfg(test)]

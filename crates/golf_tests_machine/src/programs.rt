@@ -1,4 +1,4 @@
-//! Codes of two functions with a global, a struct type and texts, and what their runs come to.
+//! Codes of two functions with a global, a struct type and texts, and the results of their runs.
 
 use crate::reading::instrs;
 use golf_base::{List, Memory};
@@ -24,13 +24,13 @@ fn texts(alloc: Global) -> Result<List<List<u8>>, Memory> {
     Ok(texts)
 }
 
-// A function with so many arguments and these instructions.
+// A function with `params` arguments and these instructions.
 fn function_of(alloc: Global, params: u32, text: &str) -> Result<Function, Fail> {
     let body = lines(alloc, instrs(alloc, text)?)?;
     Ok(function(alloc, params, body)?)
 }
 
-// `main` and function 1, which has an argument.
+// The function `main`, and function 1, which has one argument.
 fn functions(alloc: Global, main: &str, other: &str) -> Result<List<Function>, Fail> {
     let mut functions = List::new(alloc);
     functions.push(function_of(alloc, 0, main)?)?;
@@ -38,8 +38,8 @@ fn functions(alloc: Global, main: &str, other: &str) -> Result<List<Function>, F
     Ok(functions)
 }
 
-/// The code of `main` and of a function 1 with an argument, of which these are the instructions; there
-/// is a global, which is an integer, and a struct type with an integer and a pointer.
+/// Returns the code of `main` and of function 1, which has one argument. These are their instructions. The
+/// code has one global, an integer, and one struct type, with an integer and a pointer.
 pub fn program(alloc: Global, main: &str, other: &str) -> Result<Code, Fail> {
     let fields = [Value::Int(0), Value::Nil];
     let functions = functions(alloc, main, other)?;
@@ -48,7 +48,7 @@ pub fn program(alloc: Global, main: &str, other: &str) -> Result<Code, Fail> {
     Ok(program)
 }
 
-// Takes turns, each of the next number, until the program has ended.
+// Takes turns with rising numbers, until the program has ended or the turns are spent.
 fn go_on(alloc: Global, code: &Code, state: &mut State) -> Result<(), Memory> {
     for number in 0..TURNS {
         take_turn(alloc, code, state, number)?;
@@ -56,14 +56,15 @@ fn go_on(alloc: Global, code: &Code, state: &mut State) -> Result<(), Memory> {
     Ok(())
 }
 
-// The state in which a run of a code ends.
+// The state after a run of a code.
 fn run(alloc: Global, code: &Code) -> Result<State, Memory> {
     let mut state = start(alloc, code)?;
     go_on(alloc, code, &mut state)?;
     Ok(state)
 }
 
-/// A run of the code with these instructions of `main` and of function 1 prints this, and ends so.
+/// Fails the test unless a run of the code with these instructions of `main` and of function 1 prints this
+/// text and ends so.
 pub fn ends<R: AllocGlobal + Abort>(
     rt: &R,
     shows: &str,

@@ -1,11 +1,11 @@
-//! Instructions of a text.
+//! Reads instructions from a text.
 
 use golf_base::{List, Memory};
 use golf_data::{CaseKind, Instr, SelectCase, Value};
 use std::alloc::Global;
 use std::test::Fail;
 
-// An instruction of values and variables by its name.
+// The instruction on values and variables of this name, or `None`.
 fn of_values(name: &str) -> Option<Instr> {
     let found = match name {
         "Unit" => Instr::Unit,
@@ -28,7 +28,7 @@ fn of_values(name: &str) -> Option<Instr> {
     Some(found)
 }
 
-// An instruction of objects and calls by its name.
+// The instruction on objects and calls of this name, or `None`.
 fn of_objects(name: &str) -> Option<Instr> {
     let found = match name {
         "Index" => Instr::Index,
@@ -48,7 +48,7 @@ fn of_objects(name: &str) -> Option<Instr> {
     Some(found)
 }
 
-// An instruction of mutexes, groups and conditions by its name.
+// The instruction on mutexes, groups and conditions of this name, or `None`.
 fn of_locks(name: &str) -> Option<Instr> {
     let found = match name {
         "NewMutex" => Instr::NewMutex,
@@ -72,7 +72,7 @@ fn of_locks(name: &str) -> Option<Instr> {
     Some(found)
 }
 
-// An instruction with a number.
+// The instruction of this name with a number, or `None`.
 fn with_number(name: &str, number: u32) -> Option<Instr> {
     let found = match name {
         "Text" => Instr::Text(number),
@@ -92,7 +92,7 @@ fn with_number(name: &str, number: u32) -> Option<Instr> {
     Some(found)
 }
 
-// An instruction with a function and its number of arguments.
+// The instruction of this name with a function and its number of arguments, or `None`.
 fn with_function(name: &str, function: u32, count: u32) -> Option<Instr> {
     match name {
         "Call" => Some(Instr::Call(function, count)),
@@ -115,7 +115,7 @@ fn number(text: &str) -> Option<u32> {
     text.parse::<u32>().ok()
 }
 
-// The kind and the target of a case.
+// The case of a kind and a target.
 fn case(text: &str) -> Option<SelectCase> {
     let (name, target) = text.split_once(' ')?;
     Some(SelectCase {
@@ -124,7 +124,7 @@ fn case(text: &str) -> Option<SelectCase> {
     })
 }
 
-// A `select` by its cases, each a kind and a target, of which the last may be `default`.
+// A `select` from its cases. Each is a kind and a target, and the last one may be `default`.
 fn select(alloc: Global, inside: &str) -> Result<Option<Instr>, Memory> {
     let mut cases = List::new(alloc);
     let mut default = None;
@@ -138,7 +138,7 @@ fn select(alloc: Global, inside: &str) -> Result<Option<Instr>, Memory> {
     Ok(Some(Instr::Select(cases, default)))
 }
 
-// An instruction with numbers or an integer.
+// The instruction of this name with numbers or an integer, or `None`.
 fn with_numbers(name: &str, inside: &str) -> Option<Instr> {
     match (name, inside.split_once(", ")) {
         ("Int", _) => Some(Instr::Int(inside.parse::<i64>().ok()?)),
@@ -147,7 +147,7 @@ fn with_numbers(name: &str, inside: &str) -> Option<Instr> {
     }
 }
 
-// An instruction by its name and what stands in brackets after it.
+// The instruction of this name with the text in its brackets, or `None`.
 fn with(alloc: Global, name: &str, inside: &str) -> Result<Option<Instr>, Memory> {
     match (name, inside) {
         ("Select", _) => select(alloc, inside),
@@ -158,7 +158,7 @@ fn with(alloc: Global, name: &str, inside: &str) -> Result<Option<Instr>, Memory
     }
 }
 
-// An instruction by its name alone.
+// The instruction of this name without a number, or `None`.
 fn alone(name: &str) -> Option<Instr> {
     if let Some(found) = of_values(name) {
         return Some(found);
@@ -169,7 +169,7 @@ fn alone(name: &str) -> Option<Instr> {
     of_locks(name)
 }
 
-// The instruction that a word is, if any.
+// The instruction that a word writes, or `None`.
 fn instr(alloc: Global, word: &str) -> Result<Option<Instr>, Memory> {
     match word.split_once('(') {
         None => Ok(alone(word)),
@@ -177,8 +177,8 @@ fn instr(alloc: Global, word: &str) -> Result<Option<Instr>, Memory> {
     }
 }
 
-/// The instructions of a text, written as `Debug` writes them with a semicolon between; the cases of a
-/// `select` are written as `Select(Take 6, Send 8, default 9)`.
+/// Returns the instructions of a text. They are written as `Debug` writes them, with a semicolon between.
+/// The cases of a `select` are written as `Select(Take 6, Send 8, default 9)`.
 pub fn instrs(alloc: Global, text: &str) -> Result<Vec<Instr>, Fail> {
     let mut found = Vec::new(alloc);
     if text.is_empty() {

@@ -1,7 +1,7 @@
-//! Turns for which memory is refused: the state is as before, and the turn can be taken again.
+//! Tests of turns for which memory is refused: the state is unchanged, and the turn can be taken again.
 //!
-//! Memory is refused by `rt try --test --fail-alloc N`, for each N: the tests that are hit while they
-//! make their codes run out of memory, the others pass.
+//! `rt try --test --fail-alloc N` refuses memory, for each N. A test that is hit while it makes its code
+//! runs out of memory, and the others pass.
 
 use crate::programs::program;
 use crate::stepping::{HowBlocked, MAIN, blocked, holds, stands};
@@ -13,7 +13,7 @@ use golf_tests_support::{count_goroutines, take_turn};
 use std::alloc::Global;
 use std::test::Fail;
 
-// What a state shows.
+// The parts of a state that a test compares.
 #[derive(Clone, Copy, Debug, PartialEq, Eq)]
 struct Seen {
     running: usize,
@@ -41,8 +41,8 @@ fn see(state: &State) -> Seen {
     }
 }
 
-// Takes a turn, and takes it again if memory was refused. It answers whether the state was as before
-// then.
+// Takes a turn, and takes it again if memory was refused. Returns whether the refused turn left the state
+// unchanged.
 fn persist(alloc: Global, code: &Code, state: &mut State) -> Result<bool, Memory> {
     let before = see(state);
     match take_turn(alloc, code, state, 0) {
@@ -55,8 +55,8 @@ fn persist(alloc: Global, code: &Code, state: &mut State) -> Result<bool, Memory
     }
 }
 
-// So many turns of the first goroutine that can run; whether the state was as before if memory was
-// refused.
+// Takes `count` turns of the first goroutine that can run. Returns whether each refused turn left the state
+// unchanged.
 fn persist_all(alloc: Global, code: &Code, state: &mut State, count: u32) -> Result<bool, Memory> {
     let mut same = true;
     for _ in 0..count {
@@ -65,7 +65,7 @@ fn persist_all(alloc: Global, code: &Code, state: &mut State, count: u32) -> Res
     Ok(same)
 }
 
-// Whether a `select` that blocks is as it should be, or changes nothing.
+// Whether a `select` that blocks has the right effect, or none if memory is refused.
 fn select_persists(alloc: Global) -> Result<bool, Fail> {
     let main = "
         Int(0); NewChan(Int(0)); Store(0); Int(0); NewChan(Int(0)); Store(1); Load(0); Load(1); Int(5);
@@ -87,7 +87,7 @@ fn a_select_that_blocks_is_refused_memory(rt: HostRuntime) -> Result<(), Fail> {
     holds(&rt, select_persists(rt.alloc())?)
 }
 
-// Whether calls, plain, deferred and as goroutines, are as they should be, or change nothing.
+// Whether calls, plain, deferred and as goroutines, have the right effect, or none if memory is refused.
 fn calls_persist(alloc: Global) -> Result<bool, Fail> {
     let main = "
         Int(7); Call(1, 1); Print(1); Int(8); Defer(1, 1); Int(9); Go(1, 1); Return";

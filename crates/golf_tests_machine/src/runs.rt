@@ -1,4 +1,4 @@
-//! Runs of codes, and what they come to.
+//! Runs of codes, and their results.
 
 use crate::codes::Texts;
 use crate::programs::program;
@@ -23,14 +23,14 @@ fn run(alloc: Global, texts: Texts, turns: Turns) -> Result<State, Fail> {
     Ok(after(alloc, &code, turns.as_slice())?)
 }
 
-// What the last of so many turns comes to.
+// The result of the last of `count` turns.
 fn turned(alloc: Global, texts: Texts, count: u32) -> Result<Option<Turned>, Fail> {
     let code = program(alloc, texts.0, texts.1)?;
     let mut state = after(alloc, &code, &[(0, count.saturating_sub(1))])?;
     Ok(take_turn(alloc, &code, &mut state, 0)?)
 }
 
-/// The last of so many turns comes to this.
+/// Fails the test unless the last of `count` turns has this result.
 pub fn comes_to<R: AllocGlobal + Abort>(
     rt: &R,
     texts: Texts,
@@ -42,7 +42,8 @@ pub fn comes_to<R: AllocGlobal + Abort>(
     Ok(())
 }
 
-/// After each of these turns so many goroutines can run, and this is the first one of them.
+/// Fails the test unless after each of these turns this number of goroutines can run, and this one is the
+/// first.
 pub fn can_run<R: AllocGlobal + Abort>(
     rt: &R,
     texts: Texts,
@@ -59,7 +60,7 @@ pub fn can_run<R: AllocGlobal + Abort>(
     Ok(())
 }
 
-/// After these turns this is printed.
+/// Fails the test unless this text is printed after these turns.
 pub fn prints<R: AllocGlobal + Abort>(
     rt: &R,
     texts: Texts,
@@ -71,7 +72,7 @@ pub fn prints<R: AllocGlobal + Abort>(
     Ok(())
 }
 
-/// After so many turns the program has ended so.
+/// Fails the test unless the program has ended so after `count` turns.
 pub fn ends_after<R: AllocGlobal + Abort>(
     rt: &R,
     texts: Texts,
@@ -83,7 +84,7 @@ pub fn ends_after<R: AllocGlobal + Abort>(
     Ok(())
 }
 
-/// A panic or fatal error of `main` at a line.
+/// Returns the ending by a panic or fatal error of `main` on a line.
 pub fn panicked(kind: PanicKind, line: u32) -> Ending {
     Ending::Panicked {
         kind,
@@ -92,7 +93,8 @@ pub fn panicked(kind: PanicKind, line: u32) -> Ending {
     }
 }
 
-/// After each of so many turns `main` has so many frames, and the program has not ended.
+/// Fails the test unless after each of these turns `main` has this number of frames, and the program has
+/// not ended.
 pub fn has_frames<R: AllocGlobal + Abort>(
     rt: &R,
     texts: Texts,
@@ -108,7 +110,7 @@ pub fn has_frames<R: AllocGlobal + Abort>(
     Ok(())
 }
 
-// How a goroutine is blocked, and its lines.
+// How a goroutine is blocked, on which line, and on which line it was started.
 fn blocked(goroutine: &Goroutine) -> Option<(WaitKind, u32, u32)> {
     match &goroutine.mode {
         Mode::Running => None,
@@ -116,7 +118,8 @@ fn blocked(goroutine: &Goroutine) -> Option<(WaitKind, u32, u32)> {
     }
 }
 
-/// How goroutine 2 is blocked, at which line, and where it was started.
+/// Returns how goroutine 2 is blocked, on which line, and on which line it was started. `None` if it is not
+/// blocked.
 pub fn blocking(
     alloc: Global,
     texts: Texts,
@@ -129,7 +132,7 @@ pub fn blocking(
     }
 }
 
-/// The first goroutine that waits to send on the first object, and its value.
+/// Returns the first goroutine that waits to send on the first object, and its value, or `None`.
 pub fn first_sender(
     alloc: Global,
     texts: Texts,

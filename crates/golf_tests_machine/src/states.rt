@@ -1,4 +1,4 @@
-//! A state that is changed by hand, and frames with a deferred call.
+//! Tests of a state that is changed by hand, and of frames with a deferred call.
 
 use golf_base::{GoroutineId, List, Memory, Room};
 use golf_data::{Deferred, Frame, Leaving, Slots};
@@ -20,7 +20,7 @@ fn frame(alloc: Global, deferred: List<Deferred>) -> Result<Frame, Memory> {
     })
 }
 
-// How many frames there are while the deferred call of a returning frame runs, and after it.
+// How many frames there are during the deferred call of a returning frame, and after it.
 fn deferred_call(alloc: Global) -> Result<(usize, usize), Memory> {
     let mut deferred = List::new(alloc);
     deferred.push(Deferred {
@@ -36,7 +36,7 @@ fn deferred_call(alloc: Global) -> Result<(usize, usize), Memory> {
     Ok((inside, frames.len()))
 }
 
-// The number of a goroutine that is started once goroutine 2 has ended, and how many there are.
+// The number of a goroutine that is started after goroutine 2 has ended, and how many goroutines there are.
 fn started_anew(alloc: Global) -> Result<(GoroutineId, usize), Memory> {
     let mut state = State::new(alloc, List::new(alloc), List::new(alloc), 1)?;
     let second = state.spawn(List::new(alloc), 3)?;
@@ -45,7 +45,7 @@ fn started_anew(alloc: Global) -> Result<(GoroutineId, usize), Memory> {
     Ok((third, count_goroutines(&state)))
 }
 
-// How many bytes are printed, and how many are left once they are cleared.
+// How many bytes are printed, and how many are left after they are cleared.
 fn cleared(alloc: Global) -> Result<(usize, usize), Memory> {
     let mut state = State::new(alloc, List::new(alloc), List::new(alloc), 1)?;
     state.add_output(b"7\n")?;
@@ -54,8 +54,8 @@ fn cleared(alloc: Global) -> Result<(usize, usize), Memory> {
     Ok((printed, state.output().len()))
 }
 
-// Whether a state is told to be another one: one that is equal, the same with something printed, and
-// with a goroutine more.
+// Whether a state is equal to another one: to the same state, to the same state with output, and to one
+// with one more goroutine.
 fn compared(alloc: Global) -> Result<(bool, bool, bool), Memory> {
     let state = State::new(alloc, List::new(alloc), List::new(alloc), 1)?;
     let mut other = State::new(alloc, List::new(alloc), List::new(alloc), 1)?;

@@ -1,4 +1,4 @@
-//! Turns of goroutines by their places, and what a state shows after them.
+//! Turns of goroutines by their places, and the parts of a state after them.
 
 use golf_base::{GoroutineId, List, Memory};
 use golf_data::{Code, Mode, WaitKind};
@@ -18,7 +18,7 @@ pub const MAIN: GoroutineId = GoroutineId(1);
 /// The goroutine that `main` starts.
 pub const OTHER: GoroutineId = GoroutineId(2);
 
-/// So many turns of the goroutine at this place among those that can run.
+/// Takes `count` turns of the goroutine at this place among those that can run.
 pub fn take(
     alloc: Global,
     code: &Code,
@@ -32,7 +32,7 @@ pub fn take(
     Ok(())
 }
 
-/// The state after these turns: a place, and how many.
+/// Returns the state after these turns: each row is a place and a number of turns.
 pub fn after(alloc: Global, code: &Code, turns: &[(u64, u32)]) -> Result<State, Memory> {
     let mut state = start(alloc, code)?;
     for (place, count) in turns {
@@ -58,25 +58,26 @@ fn blocked_by(mode: &Mode) -> Option<HowBlocked> {
     }
 }
 
-/// How a goroutine is blocked, if it is there and blocked.
+/// Returns how a goroutine is blocked, or `None` if it is not.
 pub fn blocked(state: &State, g: GoroutineId) -> Option<HowBlocked> {
     let goroutine = state.goroutine(g)?;
     blocked_by(&goroutine.mode)
 }
 
-/// The place of the next instruction of a goroutine's innermost frame, and how many operands it has.
+/// Returns the place of the next instruction of a goroutine's innermost frame, and how many operands the
+/// frame has.
 pub fn stands(state: &State, g: GoroutineId) -> Option<(u32, usize)> {
     let frame = state.frame(g)?;
     Some((frame.at, frame.operands.len()))
 }
 
-/// What is claimed holds.
+/// Fails the test unless the claim holds.
 pub fn holds<R: Abort>(rt: &R, claim: bool) -> Result<(), Fail> {
     assert!(rt; claim);
     Ok(())
 }
 
-/// The goroutines that can run, in rising order of number.
+/// Returns the goroutines that can run, in rising order of number.
 pub fn runnable(alloc: Global, state: &State) -> Result<List<GoroutineId>, Memory> {
     let mut goroutines = List::new(alloc);
     for place in 0..state.runnable_count() {

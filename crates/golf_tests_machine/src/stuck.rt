@@ -1,4 +1,4 @@
-//! Operands of the wrong kind: no rule fits, and the state stays as it is.
+//! Tests of operands of the wrong kind: no rule fits, and the state stays the same.
 
 use crate::programs::program;
 use crate::stepping::{MAIN, OTHER, after, blocked, holds, stands, take};
@@ -9,7 +9,7 @@ use golf_state::State;
 use std::alloc::Global;
 use std::test::Fail;
 
-// Whether a `select` on a number, with a default clause, stays where it is.
+// Whether a `select` on a number, with a default clause, is stuck.
 fn select_on_a_number(alloc: Global) -> Result<bool, Fail> {
     let code = program(alloc, "Int(1); Select(Take 2, default 2); Return", "")?;
     let state = after(alloc, &code, &[(0, 5)])?;
@@ -39,7 +39,7 @@ fn waiting_without_mutex(alloc: Global, code: &Code) -> Result<State, Memory> {
     Ok(state)
 }
 
-// Whether a signal to that condition stays where it is, and its waiter too.
+// Whether a signal to that condition is stuck, and its waiter stays blocked.
 fn signal_without_mutex(alloc: Global) -> Result<bool, Fail> {
     let code = program(alloc, "LoadGlobal(0); CondSignal; Return", "")?;
     let mut state = waiting_without_mutex(alloc, &code)?;

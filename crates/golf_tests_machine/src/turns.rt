@@ -1,4 +1,4 @@
-//! Goroutines that send, receive, block, are woken, call, return and end.
+//! Tests of goroutines that send, receive, block, are woken, call, return and end.
 
 use crate::codes::{NO_SENDER, ONE_CALL, ONE_COLLECTION, ONE_PANIC, ONE_VALUE, TWO_VALUES};
 use crate::runs::{Turns, blocking, can_run, comes_to, ends_after, first_sender, panicked, prints};

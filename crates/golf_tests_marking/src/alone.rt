@@ -1,3 +1,5 @@
+//! Tests of the marking in one thread: the marked places, and how often it passes its gate.
+
 use crate::examples::{NOTHING, SELECT_WITH_ONE_LIVE_CHANNEL, TWO_ROUNDS, graph_of};
 use golf_base::OpenGate;
 use golf_mark::mark_alone;
@@ -7,7 +9,7 @@ use std::alloc::Global;
 use std::process::Abort;
 use std::test::Fail;
 
-// A 1 for each flag that is set, and else a 0.
+// Writes a 1 for each flag that is set, and a 0 for each other flag.
 fn push_flags(out: &mut String, flags: &[bool]) -> Result<(), Fail> {
     for flag in flags {
         out.push(if *flag { '1' } else { '0' })?;
@@ -15,7 +17,8 @@ fn push_flags(out: &mut String, flags: &[bool]) -> Result<(), Fail> {
     Ok(())
 }
 
-// Which nodes are marked, which sleepers are awake, and the marked nodes in their order.
+// The marking as a text: the flags of the nodes, the flags of the sleepers, and the marked nodes in their
+// order.
 fn told(alloc: Global, marked: &Marked) -> Result<String, Fail> {
     let mut out = String::new(alloc);
     push_flags(&mut out, marked.flags.as_slice())?;
@@ -27,7 +30,7 @@ fn told(alloc: Global, marked: &Marked) -> Result<String, Fail> {
     Ok(out)
 }
 
-// The marking of a graph is told so.
+// Fails the test unless the marking of the graph has this text.
 fn marks(rt: &impl Abort, alloc: Global, text: &str, expected: &str) -> Result<(), Fail> {
     let graph = graph_of(alloc, text)?;
     let marked = mark_alone(alloc, &graph, &OpenGate)?;
@@ -47,7 +50,7 @@ fn a_select_is_awakened_by_one_of_its_objects(rt: HostRuntime) -> Result<(), Fai
     marks(&rt, rt.alloc(), SELECT_WITH_ONE_LIVE_CHANNEL, expected)
 }
 
-// The passes of a marking, and the sums of their markers and turns.
+// How often the gate of a marking is passed, the sum of the markers' numbers, and the sum of the turns.
 fn sums(alloc: Global, text: &str) -> Result<(u64, u64, u64), Fail> {
     let graph = graph_of(alloc, text)?;
     let gate = CountingGate::new();

@@ -1,3 +1,5 @@
+//! Tests of certificates: their verdicts, and the certificate that `certify` makes.
+
 ghost use Rattle.std.specs.Prelude.{◌^◌, ◌≡◌, ◌<◌, IfOk, length};
 
 use crate::examples::{TWO_NODES, TWO_PARENTS, graph_of};
@@ -16,7 +18,7 @@ fn certificate(alloc: Global, links: &[Link]) -> Result<Certificate, Memory>
     Ok(Certificate { links: all })
 }
 
-// The verdict on these links of the graph of two nodes is this one.
+// Fails the test unless this is the verdict on these links of the graph of two nodes.
 fn is_judged(rt: &impl Abort, alloc: Global, links: &[Link], wanted: Verdict) -> Result<(), Fail>
     requires { length links.now < 2 ^ 32 }
 {

@@ -1,4 +1,4 @@
-//! What hands push, take and steal.
+//! Tests of the hands of a pool: they push, take and steal.
 
 ghost use Rattle.std.specs.Prelude.{◌≡◌, ◌≢◌, ◌<◌, ◌∷◌, [], length, IfOk};
 ghost use Rattle.golf_grey.specs.Hands.{IsHandOf, capacity_of, hand_count, places_of, pushed};
@@ -9,7 +9,7 @@ use std::alloc::Global;
 use std::process::Abort;
 use std::test::Fail;
 
-// A pool of two hands that may push 8 times each, places below 8, with hand 1 and hand 0.
+// A pool of two hands that may each push 8 times, with places below 8. Then hand 1, and hand 0.
 fn two_hands(alloc: Global) -> Result<(GreyPool, GreyHand, GreyHand), Memory>
     ensures count { IfOk result (λ r. hand_count r.0 ≡ 2) }
     ensures capacity { IfOk result (λ r. capacity_of r.0 ≡ 8) }
@@ -73,7 +73,7 @@ fn both(alloc: Global, one: GreyHand, other: GreyHand) -> Result<List<GreyHand>,
     Ok(hands)
 }
 
-// What is left at the end of a pool whose hands come in this order.
+// The places that are left at the end of a pool whose hands come in this order.
 fn end(alloc: Global, pool: GreyPool, one: GreyHand, other: GreyHand) -> Result<Left, Memory>
     requires count { hand_count pool ≡ 2 }
     requires one { IsHandOf pool one }
@@ -84,7 +84,7 @@ fn end(alloc: Global, pool: GreyPool, one: GreyHand, other: GreyHand) -> Result<
     Ok(pool.close(hands))
 }
 
-// These were taken.
+// Fails the test unless these places were taken.
 fn are(rt: &impl Abort, taken: [Option<u32>; 3], wanted: [Option<u32>; 3]) {
     assert_eq!(rt; taken, wanted);
 }

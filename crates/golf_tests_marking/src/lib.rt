@@ -1,5 +1,8 @@
-//! Tests of the marking: what is the same whatever the count of markers, what its gate sees, that
-//! markers really share the work, and certificates and reasons.
+//! Tests of the marking:
+//!
+//! - It has the same result for every number of markers, and passes its gate as often as it should.
+//! - Markers really share the work.
+//! - Certificates and reasons are the expected ones.
 #![tactic(auto)]
 
 #[cfg(test)]

@@ -1,3 +1,5 @@
+//! Tests of markers: they share the work, and pass their gate once for each place and once more each.
+
 use crate::examples::{ONE_ROOT_OF_FOUR, TWO_ROOTS, graph_of, list_of_channels, marked_by};
 use golf_base::Gate;
 use golf_mark::mark_alone;
@@ -35,7 +37,7 @@ fn a_marker_steals_what_another_one_pushed(rt: HostRuntime) -> Result<(), Fail> 
     Ok(())
 }
 
-// How often so many markers pass the gate, and how many nodes they mark.
+// How often `count` markers pass the gate, and how many nodes they mark.
 fn passes<R: Threads + Sync>(
     rt: &R,
     alloc: Global,
@@ -49,7 +51,8 @@ fn passes<R: Threads + Sync>(
 
 #[test]
 fn each_marked_place_is_a_turn_and_each_marker_ends_in_one(rt: HostRuntime) -> Result<(), Fail> {
-    // 100 nodes and 50 sleepers are marked. So a marking by fewer markers than it was told passes too seldom.
+    // 100 nodes and 50 sleepers are marked, and each marker passes the gate once more. Fewer markers would
+    // pass it less often.
     let graph = list_of_channels(rt.alloc())?;
     for count in [1u32, 2, 4, 16].iter() {
         let passed = passes(&rt, rt.alloc(), &graph, *count)?;

@@ -1,9 +1,11 @@
+//! Tests of reasons: of two parents a reason names the smaller one.
+
 use crate::examples::{TWO_PARENTS, graph_of};
 use golf_base::List;
 use golf_cert::{Link, Reasons, reason};
 use std::test::Fail;
 
-// Of the roots 0 and 1, which both refer to node 3, the reason has the less.
+// The roots 0 and 1 both refer to node 3. The reason has the smaller one.
 const REASON: [Link; 5] = [
     Link::Root(0),
     Link::Child { from: 0, to: 3 },

@@ -1,3 +1,5 @@
+//! Tests that each number of markers has the same marking as one thread alone.
+
 use crate::examples::{
     CHANNEL_STILL_HELD, CLASSIC_LEAK, CYCLE, HELD_MUTEX, NOTHING, ONE_ROOT_OF_FOUR,
     SELECT_ON_ITS_OWN_CHANNEL, SELECT_WITH_ONE_LIVE_CHANNEL, TWO_ROOTS, TWO_ROUNDS,
@@ -12,7 +14,7 @@ use std::process::Abort;
 use std::test::Fail;
 use std::thread::Threads;
 
-/// How many graphs that look random are marked.
+/// How many pseudo-random graphs are marked.
 const GRAPHS: u32 = 200;
 
 fn is_same(one: &Marked, other: &Marked) -> bool {
@@ -21,7 +23,7 @@ fn is_same(one: &Marked, other: &Marked) -> bool {
         && one.awake.as_slice() == other.awake.as_slice()
 }
 
-// Whether so many markers mark this.
+// Whether `count` markers have the same marking as one thread alone.
 fn is_marked_by<R: Threads + Sync>(
     rt: &R,
     alloc: Global,
@@ -33,7 +35,7 @@ fn is_marked_by<R: Threads + Sync>(
     Ok(is_same(alone, &marked))
 }
 
-// Whether 1, 2, 3 and 16 markers mark what the plain marking marks.
+// Whether 1, 2, 3 and 16 markers have the same marking as one thread alone.
 fn agree<R: Threads + Sync>(rt: &R, alloc: Global, graph: &Graph) -> Result<bool, Fail> {
     let alone = mark_alone(alloc, graph, &OpenGate)?;
     let mut same = true;
@@ -43,7 +45,7 @@ fn agree<R: Threads + Sync>(rt: &R, alloc: Global, graph: &Graph) -> Result<bool
     Ok(same)
 }
 
-// They do so in each graph of these texts.
+// Fails the test unless they agree on each graph of these texts.
 fn agree_on<R: Abort + Threads + Sync>(rt: &R, alloc: Global, texts: &[&str]) -> Result<(), Fail> {
     for text in texts {
         let graph = graph_of(alloc, *text)?;
@@ -81,7 +83,7 @@ fn any_count_of_markers_marks_the_same_in_small_programs(rt: HostRuntime) -> Res
     agree_on(&rt, rt.alloc(), &PROGRAMS)
 }
 
-// How many of so many graphs that look random are marked in the same way by any count of markers.
+// How many of this many pseudo-random graphs have the same marking for each number of markers.
 fn count_agreeing<R: Threads + Sync>(rt: &R, alloc: Global, graphs: u32) -> Result<u32, Fail> {
     let mut numbers = Numbers::new(20);
     let mut agreeing = 0u32;

@@ -1,4 +1,4 @@
-//! What seats claim and see.
+//! Tests of the seats of mark words: their claims and looks.
 
 ghost use Rattle.std.specs.Prelude.{◌≡◌, ◌<◌, ◌∷◌, [], length, IfOk};
 ghost use Rattle.golf_theory.specs.Membership.{In};
@@ -14,7 +14,7 @@ use std::alloc::Global;
 use std::process::Abort;
 use std::test::Fail;
 
-// The list of these items.
+// A list of these items.
 fn list_of<T: Copy>(alloc: Global, items: &[T]) -> Result<List<T>, Memory>
     ensures { IfOk result (λ list. list ≡ items.now) }
 {
@@ -23,7 +23,7 @@ fn list_of<T: Copy>(alloc: Global, items: &[T]) -> Result<List<T>, Memory>
     Ok(list)
 }
 
-// No children of two nodes.
+// The empty rows of children of two nodes.
 fn no_children(alloc: Global) -> Result<FlatRows, Memory>
     ensures { IfOk result (λ rows. rows ≡ [] ∷ [] ∷ []) }
 {
@@ -33,7 +33,7 @@ fn no_children(alloc: Global) -> Result<FlatRows, Memory>
     Ok(children)
 }
 
-// Two objects, both roots, and a goroutine that waits on nothing.
+// A graph of two objects, both roots, and a goroutine that waits on no object.
 fn two_roots(alloc: Global) -> Result<GraphParts, Memory>
     ensures range { IfOk result IsInRange }
     ensures roots { IfOk result (λ parts. parts.roots ≡ 0 ∷ 1 ∷ []) }
@@ -73,7 +73,7 @@ fn both(alloc: Global, first: MarkSeat, second: MarkSeat) -> Result<List<MarkSea
     Ok(seats)
 }
 
-// The first seat claims place 0. Then the second one looks at both places, and claims place 0.
+// The first seat claims place 0. Then the second seat looks at both places, and claims place 0.
 fn look(marks: &Marks, first: &mut MarkSeat, second: &mut MarkSeat) -> [bool; 4]
     requires first { IsSeatOf marks.now first.old }
     requires second { IsSeatOf marks.now second.old }
@@ -89,7 +89,7 @@ fn look(marks: &Marks, first: &mut MarkSeat, second: &mut MarkSeat) -> [bool; 4]
     [claimed, sees_first, sees_second, claimed_again]
 }
 
-// The first seat claims place 0. Then the second one glances at both places.
+// The first seat claims place 0. Then the second seat glances at both places.
 fn glance(marks: &Marks, first: &mut MarkSeat, second: &mut MarkSeat) -> [bool; 2]
     requires first { IsSeatOf marks.now first.old }
     requires second { IsSeatOf marks.now second.old }
@@ -104,7 +104,7 @@ fn glance(marks: &Marks, first: &mut MarkSeat, second: &mut MarkSeat) -> [bool; 
     [sees_first, sees_second]
 }
 
-// These places are flagged, in this order, and no sleeper is awake.
+// Fails the test unless exactly these places are flagged, in this order, and no sleeper is awake.
 fn is_so(rt: &impl Abort, marked: &Marked, flags: &[bool], order: &[u32]) {
     let same = marked.flags.as_slice() == flags && marked.order.as_slice() == order;
     assert!(rt; same && marked.awake.as_slice() == [false].as_slice());

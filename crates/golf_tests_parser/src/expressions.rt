@@ -1,5 +1,5 @@
-//! Types, expressions and simple statements. Expected values are from the Go specification, "Types", "Operators" and
-//! "Statements". A semicolon follows each text.
+//! Tests of types, expressions and simple statements. Expected values are from the Go specification,
+//! "Types", "Operators" and "Statements". A semicolon follows each text.
 
 use crate::words::tokens_of;
 use golf_base::Memory;
@@ -9,7 +9,7 @@ use golf_syntax_trees::{BinaryOperator, Expr, SimpleKind, TypeExpr, UnaryOperato
 use std::alloc::Global;
 use std::test::Fail;
 
-// What an expression is, without its parts.
+// The name of an expression's kind.
 fn head(e: &Expr) -> &'static str {
     match e {
         Expr::Name(_) => "name",
@@ -26,7 +26,7 @@ fn head(e: &Expr) -> &'static str {
     }
 }
 
-// The heads of an expression and of the operands of a binary operator.
+// The heads of an expression, and of the two operands if it is a binary operator.
 fn heads(e: &Expr) -> (&'static str, &'static str, &'static str) {
     match e {
         Expr::Binary(_, left, right) => (head(e), head(left.get()), head(right.get())),
@@ -34,7 +34,7 @@ fn heads(e: &Expr) -> (&'static str, &'static str, &'static str) {
     }
 }
 
-// The heads of the expression that is read first at a place, and how many tokens are left.
+// The heads of the first expression at a place, and how many tokens are left.
 fn expression(
     alloc: Global,
     place: Context,
@@ -46,7 +46,7 @@ fn expression(
     }
 }
 
-// Whether the expression that is read first has these heads, and one token is left after it.
+// Whether the first expression has these heads, and one token is left after it.
 fn groups_so(
     alloc: Global,
     tokens: &[Token],
@@ -87,7 +87,7 @@ fn operators_group_as_they_bind(rt: HostRuntime) -> Result<(), Fail> {
     Ok(())
 }
 
-// Whether an expression is read at a place.
+// Whether there is an expression at a place.
 fn is_read(alloc: Global, place: Context, tokens: &[Token]) -> Result<bool, Memory> {
     Ok(expression(alloc, place, tokens)?.is_some())
 }
@@ -110,7 +110,7 @@ fn in_a_header_an_ampersand_stands_in_brackets_alone(rt: HostRuntime) -> Result<
     Ok(())
 }
 
-// The head of the operand that is read first, and how many tokens are left.
+// The head of the first operand, and how many tokens are left.
 fn operand(alloc: Global, tokens: &[Token]) -> Result<Option<(&'static str, usize)>, Memory> {
     match operand_at(alloc, tokens)? {
         None => Ok(None),
@@ -134,7 +134,7 @@ fn is_chan_to_send_chans(found: &TypeExpr) -> bool {
     }
 }
 
-// Whether the type that is read first is `chan<- chan T`, and how many tokens are left.
+// Whether the first type is `chan<- chan T`, and how many tokens are left.
 fn chan_to_send_chans(alloc: Global, tokens: &[Token]) -> Result<Option<(bool, usize)>, Memory> {
     match type_at(alloc, tokens)? {
         None => Ok(None),
@@ -158,7 +158,7 @@ fn kind_name(kind: &SimpleKind) -> &'static str {
     }
 }
 
-// The kind and the line of the simple statement that is read first, and how many tokens are left.
+// The kind and the line of the first simple statement, and how many tokens are left.
 fn simple(alloc: Global, tokens: &[Token]) -> Result<Option<(&'static str, u32, usize)>, Memory> {
     match simple_at(alloc, Context::Elsewhere, tokens)? {
         None => Ok(None),

@@ -1,5 +1,5 @@
-//! Files. Expected answers are from the Go specification, "Declarations and scope", "Expressions"
-//! and "Statements", and the rules of the language.
+//! Tests of whole files. Expected values are from the Go specification, "Declarations and scope",
+//! "Expressions" and "Statements", and from the rules of the language.
 
 use crate::words::tokens_of;
 use golf_lex::{LexFault, tokens};
@@ -19,7 +19,7 @@ fn line_of(rt: &impl Abort, answer: &Result<File, SyntaxFault>) -> u32 {
     }
 }
 
-// The line of the fault of these tokens, or 0.
+// The line of the fault of these tokens, or 0 if there is none.
 fn line_at(rt: &impl Abort, alloc: Global, tokens: &[Token]) -> u32 {
     line_of(rt, &parse(alloc, tokens))
 }
@@ -46,7 +46,7 @@ fn the_package_comes_first(rt: HostRuntime) -> Result<(), Fail> {
     Ok(())
 }
 
-// Rows of a declaration after the package, and the line of the fault, or 0.
+// Each row has a declaration after the package clause, and the line of the fault, or 0 if there is none.
 const ROWS: [(&str, u32); 48] = [
     ("import \"fmt\"", 0),
     ("import (\n\t\"fmt\"\n\t\"sync\"\n)", 0),
@@ -123,7 +123,7 @@ fn declarations_are_read_or_have_the_line_of_the_fault(rt: HostRuntime) -> Resul
     Ok(())
 }
 
-// An assignment on line 3 of one in so many parentheses.
+// A file with an assignment on line 3, whose value is a 1 in `depth` pairs of parentheses.
 fn nested(alloc: Global, depth: u32) -> Result<String, Fail> {
     let mut source = String::new(alloc);
     source.push_str("package main\nfunc main() {\nx = ")?;
@@ -206,7 +206,7 @@ const FILE: &str = "\
 // The lines on which the file's package, imports and declarations begin.
 const STARTS: [u32; 8] = [1, 3, 8, 10, 15, 17, 22, 39];
 
-// The last line up to this one on which something begins.
+// The last of these lines that is at most this one.
 fn start_of(line: u32) -> u32 {
     let mut last = 1;
     for start in STARTS.iter() {
@@ -217,7 +217,8 @@ fn start_of(line: u32) -> u32 {
     last
 }
 
-// How many fronts of a file's tokens are read; the others have the line of their last declaration.
+// How many prefixes of a file's tokens parse. Any other prefix has its fault on the line of its last
+// declaration.
 fn fronts_that_are_read(rt: &impl Abort, alloc: Global, tokens: &[Token]) -> u32 {
     let mut read = 0u32;
     for (i, last) in tokens.iter().enumerate() {
@@ -239,7 +240,8 @@ fn each_prefix_of_a_file_is_read_or_has_the_line_of_its_last_declaration(rt: Hos
     assert!(rt; fronts_that_are_read(&rt, rt.alloc(), list.as_slice()) == 8);
 }
 
-// Whether a prefix of the file lexes and parses, or is at fault where it ends or where its last declaration begins.
+// Whether a prefix of the file lexes and parses, or has its fault at its end or on the line of its last
+// declaration.
 fn is_front(rt: &impl Abort, alloc: Global, front: &[u8]) -> bool {
     assert!(rt; front.len() < 100_000);
     match tokens(alloc, front) {

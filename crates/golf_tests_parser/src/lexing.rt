@@ -1,5 +1,5 @@
-//! Tokens of bytes, and where bytes are at fault. Expected values are from the Go specification,
-//! "Lexical elements", and the rules of the language.
+//! Tests of tokens, and of the first faulty byte. Expected values are from the Go specification, "Lexical
+//! elements", and from the rules of the language.
 
 use crate::words::lexed;
 use golf_lex::{LexFault, tokens};
@@ -24,7 +24,7 @@ fn write_kind(alloc: Global, out: &mut String, kind: &TokenKind) -> Result<(), F
     Ok(())
 }
 
-// Bytes that are no ASCII text are written as `?`.
+// Writes the bytes, with `?` for each byte that is not ASCII.
 fn write_bytes(out: &mut String, bytes: &[u8]) -> Result<(), Fail> {
     for byte in bytes {
         let shown = if *byte < 128 { char::from(*byte) } else { '?' };
@@ -44,7 +44,7 @@ fn kinds(alloc: Global, list: &[Token]) -> Result<String, Fail> {
     Ok(out)
 }
 
-// These bytes have tokens of these kinds.
+// Fails the test unless these bytes have tokens of these kinds.
 fn has_kinds(rt: &impl Abort, alloc: Global, source: &[u8], expected: &str) -> Result<(), Fail> {
     let list = lexed(rt, alloc, source);
     let shown = kinds(alloc, list.as_slice())?;
@@ -52,7 +52,7 @@ fn has_kinds(rt: &impl Abort, alloc: Global, source: &[u8], expected: &str) -> R
     Ok(())
 }
 
-// Each of these texts has tokens of these kinds.
+// Fails the test unless each of these texts has tokens of these kinds.
 fn have_kinds(rt: &impl Abort, alloc: Global, rows: &[(&str, &str)]) -> Result<(), Fail> {
     for (source, expected) in rows {
         has_kinds(rt, alloc, source.as_bytes(), *expected)?;
@@ -72,7 +72,7 @@ fn lines(alloc: Global, list: &[Token]) -> Result<String, Fail> {
     Ok(out)
 }
 
-// Each of these texts has tokens on these lines.
+// Fails the test unless each of these texts has tokens on these lines.
 fn have_lines(rt: &impl Abort, alloc: Global, rows: &[(&str, &str)]) -> Result<(), Fail> {
     for (source, expected) in rows {
         let list = lexed(rt, alloc, source.as_bytes());
@@ -82,7 +82,7 @@ fn have_lines(rt: &impl Abort, alloc: Global, rows: &[(&str, &str)]) -> Result<(
     Ok(())
 }
 
-// The line and the byte of the fault of a text.
+// The line and the byte of the fault of a text, or `None` if it lexes.
 fn fault_of(rt: &impl Abort, alloc: Global, source: &str) -> Option<(u32, u32)> {
     assert!(rt; source.len() < 100_000);
     match tokens(alloc, source.as_bytes()) {
@@ -92,7 +92,7 @@ fn fault_of(rt: &impl Abort, alloc: Global, source: &str) -> Option<(u32, u32)> 
     }
 }
 
-// Each of these texts is at fault on this line, at this byte.
+// Fails the test unless each of these texts has its fault on this line, at this byte.
 fn are_at_fault(rt: &impl Abort, alloc: Global, rows: &[(&str, u32, u32)]) {
     for (source, line, byte) in rows {
         let fault = fault_of(rt, alloc, *source);
@@ -185,7 +185,7 @@ const NEWLINES: [(&str, &str); 11] = [
         "Increment Semicolon Decrement CloseParen Semicolon CloseBracket CloseBrace Semicolon",
     ),
 
-    // Not after others.
+    // Not after other tokens.
     (
         "if\nfunc\nfallthrough\n+\n,\n(\n[\n{\n=\n;\n.\n<-\n",
         "If Func Fallthrough Plus Comma OpenParen OpenBracket OpenBrace Assign Semicolon Dot Arrow",

@@ -1,5 +1,4 @@
-//! Tests of the parser: tokens of bytes, segments, and trees and faults of texts, from types and
-//! expressions up to whole files.
+//! Tests of the parser: tokens, segments, trees and faults, from types and expressions up to whole files.
 #![tactic(auto)]
 
 #[cfg(test)]

@@ -1,4 +1,5 @@
-//! If a file is cut into segments, and which token costs too much.
+//! Tests of how a file is cut into segments, and of which token costs more than the limit on nesting
+//! allows.
 
 use golf_base::List;
 use golf_lex_tokens::{Punctuation, Token, TokenKind};

@@ -1,4 +1,5 @@
-//! Statements and blocks. Expected values are from the Go specification, "Statements" and "Variable declarations".
+//! Tests of statements and blocks. Expected values are from the Go specification, "Statements" and
+//! "Variable declarations".
 
 use crate::words::tokens_of;
 use golf_base::Memory;
@@ -9,7 +10,7 @@ use std::alloc::Global;
 use std::process::Abort;
 use std::test::Fail;
 
-// What is told if nothing is read.
+// The answer if nothing is read.
 const NONE: (&str, usize) = ("none", 0);
 
 fn content_name(content: &VarContent) -> &'static str {
@@ -47,7 +48,7 @@ fn statement_name(statement: &Stmt) -> &'static str {
     }
 }
 
-// The name of the variable that is read first, and how many tokens are left.
+// The kind of the first variable, and how many tokens are left.
 fn variable(alloc: Global, tokens: &[Token]) -> Result<(&'static str, usize), Memory> {
     match var_at(alloc, 1, tokens)? {
         None => Ok(NONE),
@@ -55,7 +56,7 @@ fn variable(alloc: Global, tokens: &[Token]) -> Result<(&'static str, usize), Me
     }
 }
 
-// The name of the header that is read first, and how many tokens are left.
+// The name of the first header, and how many tokens are left.
 fn header(alloc: Global, tokens: &[Token]) -> Result<(&'static str, usize), Memory> {
     match header_at(alloc, tokens)? {
         None => Ok(NONE),
@@ -63,7 +64,7 @@ fn header(alloc: Global, tokens: &[Token]) -> Result<(&'static str, usize), Memo
     }
 }
 
-// The name of the statement that is read first, and how many tokens are left.
+// The name of the first statement, and how many tokens are left.
 fn statement(alloc: Global, tokens: &[Token]) -> Result<(&'static str, usize), Memory> {
     match stmt_at(alloc, tokens)? {
         None => Ok(NONE),
@@ -71,7 +72,7 @@ fn statement(alloc: Global, tokens: &[Token]) -> Result<(&'static str, usize), M
     }
 }
 
-// How many statements the block that is read first has, and how many tokens are left.
+// How many statements the first block has, and how many tokens are left.
 fn block(alloc: Global, tokens: &[Token]) -> Result<Option<(usize, usize)>, Memory> {
     match block_at(alloc, tokens)? {
         None => Ok(None),
@@ -79,12 +80,13 @@ fn block(alloc: Global, tokens: &[Token]) -> Result<Option<(usize, usize)>, Memo
     }
 }
 
-// How many tokens are left after what has this name, a semicolon or a brace, or none.
+// How many tokens are left after a construct of this name: one semicolon or brace, or none if there is no
+// construct.
 fn left(name: &str) -> usize {
     if name == "none" { 0 } else { 1 }
 }
 
-// Each of these texts begins with a statement of this name.
+// Fails the test unless each of these texts begins with a statement of this name.
 fn are_statements(rt: &impl Abort, alloc: Global, rows: &[(&str, &str)]) -> Result<(), Fail> {
     for (text, name) in rows {
         let list = tokens_of(rt, alloc, *text);
@@ -94,7 +96,7 @@ fn are_statements(rt: &impl Abort, alloc: Global, rows: &[(&str, &str)]) -> Resu
     Ok(())
 }
 
-// Each of these texts begins with a header of this name.
+// Fails the test unless each of these texts begins with a header of this name.
 fn are_headers(rt: &impl Abort, alloc: Global, rows: &[(&str, &str)]) -> Result<(), Fail> {
     for (text, name) in rows {
         let list = tokens_of(rt, alloc, *text);
@@ -104,7 +106,7 @@ fn are_headers(rt: &impl Abort, alloc: Global, rows: &[(&str, &str)]) -> Result<
     Ok(())
 }
 
-// Each of these texts begins with a variable of this name.
+// Fails the test unless each of these texts begins with a variable of this kind.
 fn are_variables(rt: &impl Abort, alloc: Global, rows: &[(&str, &str)]) -> Result<(), Fail> {
     for (text, name) in rows {
         let list = tokens_of(rt, alloc, *text);

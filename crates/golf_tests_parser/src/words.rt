@@ -1,11 +1,11 @@
-//! Tokens of a text.
+//! The tokens of a text.
 
 use golf_base::List;
 use golf_lex_tokens::Token;
 use std::alloc::Global;
 use std::process::Abort;
 
-/// The tokens of bytes that lex.
+/// Returns the tokens of bytes that lex.
 pub(crate) fn lexed(rt: &impl Abort, alloc: Global, source: &[u8]) -> List<Token> {
     assert!(rt; source.len() < 100_000);
     match golf_lex::tokens(alloc, source) {
@@ -14,7 +14,7 @@ pub(crate) fn lexed(rt: &impl Abort, alloc: Global, source: &[u8]) -> List<Token
     }
 }
 
-/// The tokens of a text that lexes.
+/// Returns the tokens of a text that lexes.
 pub(crate) fn tokens_of(rt: &impl Abort, alloc: Global, source: &str) -> List<Token> {
     lexed(rt, alloc, source.as_bytes())
 }

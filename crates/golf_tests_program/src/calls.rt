@@ -13,7 +13,7 @@ use std::thread::Threads;
 /// How many bytes a sink of the tests has room for.
 const ROOM: u32 = 1_048_576;
 
-/// How a call ended, and what it wrote.
+/// The status of a call, and the two sinks after it.
 #[derive(Drop)]
 pub struct Outcome {
     pub status: Status,
@@ -21,8 +21,8 @@ pub struct Outcome {
     pub err: MemorySink,
 }
 
-/// How many bytes the source and the sinks take a call, and which call of each of them fails, by its
-/// number from 1; 0 is none.
+/// How many bytes the source and the sinks give or take in one call, and the call of each that fails. Calls
+/// count from 1, and 0 means that none fails.
 #[derive(Clone, Copy)]
 pub struct Ends {
     pub most: u32,
@@ -32,7 +32,7 @@ pub struct Ends {
 }
 
 impl Ends {
-    /// Ends that do not fail.
+    /// Returns ends that do not fail.
     pub fn of(most: u32) -> Ends {
         Ends {
             most,
@@ -42,7 +42,7 @@ impl Ends {
         }
     }
 
-    /// The same ends, but that this call of the source fails.
+    /// Returns the same ends, except that this call of the source fails.
     pub fn without_source(self, call: u32) -> Ends {
         Ends {
             most: self.most,
@@ -52,7 +52,7 @@ impl Ends {
         }
     }
 
-    /// The same ends, but that these calls of the two sinks fail.
+    /// Returns the same ends, except that these calls of the two sinks fail.
     pub fn without_sinks(self, out: u32, err: u32) -> Ends {
         Ends {
             most: self.most,
@@ -63,7 +63,7 @@ impl Ends {
     }
 }
 
-// The list of this one number, or of none if it is 0.
+// A list of this one number, or the empty list if it is 0.
 fn list_of(alloc: Global, call: u32) -> Result<List<u32>, Fail> {
     let mut list = List::new(alloc);
     if call != 0 {
@@ -72,7 +72,7 @@ fn list_of(alloc: Global, call: u32) -> Result<List<u32>, Fail> {
     Ok(list)
 }
 
-// The words of a line, which one space parts.
+// The words of a line, which have spaces between.
 fn words_of(alloc: Global, line: &str) -> Result<Vec<String>, Fail> {
     let mut words = Vec::new(alloc);
     for word in line.split_whitespace() {
@@ -81,7 +81,7 @@ fn words_of(alloc: Global, line: &str) -> Result<Vec<String>, Fail> {
     Ok(words)
 }
 
-/// The program by the words of this line over a file in memory, with these ends, whose markers pass
+/// Calls the program with the words of this line, over a file in memory, with these ends. Its markers pass
 /// the gate.
 pub fn call<R: AllocGlobal + Threads + Wait + Sync, G: Gate + Sync>(
     rt: &R,
@@ -102,8 +102,8 @@ pub fn call<R: AllocGlobal + Threads + Wait + Sync, G: Gate + Sync>(
     Ok(Outcome { status, out, err })
 }
 
-/// The program by the words of this line over this file, with ends that take four bytes a call and do
-/// not fail.
+/// Calls the program with the words of this line over this file, with ends that take four bytes a call and
+/// do not fail.
 pub fn run_with<R: AllocGlobal + Threads + Wait + Sync, G: Gate + Sync>(
     rt: &R,
     line: &str,
@@ -113,14 +113,15 @@ pub fn run_with<R: AllocGlobal + Threads + Wait + Sync, G: Gate + Sync>(
     call(rt, line, file, Ends::of(4), gate)
 }
 
-// A call ended so, and wrote these texts.
+// Fails the test unless a call ended so and wrote these texts.
 fn is_so(rt: &impl Abort, shows: &str, got: &Outcome, status: Status, out: &[u8], err: &[u8]) {
     assert!(rt; got.status == status, "{shows}");
     assert_eq!(rt; got.out.written(), out, "{shows}");
     assert_eq!(rt; got.err.written(), err, "{shows}");
 }
 
-/// The program by the words of this line over this file, with these ends, ends so and writes these texts.
+/// Fails the test unless the program, with the words of this line over this file and with these ends, ends
+/// so and writes these texts.
 pub fn expect_ends<R: AllocGlobal + Abort + Threads + Wait + Sync>(
     rt: &R,
     line: &str,
@@ -136,7 +137,7 @@ pub fn expect_ends<R: AllocGlobal + Abort + Threads + Wait + Sync>(
     Ok(())
 }
 
-/// A run of this file ends so, and writes this output and these errors.
+/// Fails the test unless a run of this file ends so, and writes this output and these errors.
 pub fn expect<R: AllocGlobal + Abort + Threads + Wait + Sync>(
     rt: &R,
     file: &str,
@@ -148,10 +149,10 @@ pub fn expect<R: AllocGlobal + Abort + Threads + Wait + Sync>(
     expect_ends(rt, "run", file, Ends::of(4), status, out, err)
 }
 
-/// The words of a line and a file, how the program ends by them, and what it writes.
+/// The words of a command line and a file, the status of the program, and the texts that it writes.
 #[derive(Clone, Copy)]
 pub struct Row {
-    /// What the row shows.
+    /// The fact that the row shows.
     pub shows: &'static str,
     pub line: &'static str,
     pub file: &'static str,
@@ -160,7 +161,7 @@ pub struct Row {
     pub err: &'static str,
 }
 
-// The program ends and writes as this row says, with these ends.
+// Fails the test unless the program, with these ends, ends and writes as this row says.
 fn expect_row<R: AllocGlobal + Abort + Threads + Wait + Sync>(
     rt: &R,
     row: &Row,
@@ -172,8 +173,8 @@ fn expect_row<R: AllocGlobal + Abort + Threads + Wait + Sync>(
     Ok(())
 }
 
-/// The program ends and writes as each of these rows says, with ends that take four bytes a call and do
-/// not fail.
+/// Fails the test unless the program ends and writes as each of these rows says. Its ends take four bytes a
+/// call and do not fail.
 pub fn expect_rows<R: AllocGlobal + Abort + Threads + Wait + Sync>(
     rt: &R,
     rows: &[Row],
@@ -184,7 +185,7 @@ pub fn expect_rows<R: AllocGlobal + Abort + Threads + Wait + Sync>(
     Ok(())
 }
 
-/// The program ends and writes as each of these rows says, with its ends.
+/// Fails the test unless the program ends and writes as each of these rows says, with the ends of the row.
 pub fn expect_failing<R: AllocGlobal + Abort + Threads + Wait + Sync>(
     rt: &R,
     rows: &[(Ends, Row)],
@@ -195,7 +196,8 @@ pub fn expect_failing<R: AllocGlobal + Abort + Threads + Wait + Sync>(
     Ok(())
 }
 
-/// Each of these lines is none of the program: that is told, and nothing is read of a source that fails.
+/// Fails the test unless each of these lines is no command line: the program says so, and reads nothing of
+/// a source that fails.
 pub fn expect_usage<R: AllocGlobal + Abort + Threads + Wait + Sync>(
     rt: &R,
     lines: &[&str],

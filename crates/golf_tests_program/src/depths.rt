@@ -1,7 +1,8 @@
-//! Files whose trees are as deep as a file allows. They are made as the tests run.
+//! Tests of files whose trees are as deep as the limits allow. The tests make these files.
 //!
-//! The limit on nesting counts brackets, blocks and operators before an operand. It does not count the links of a chain
-//! in a bracket that is closed again, nor an `else if` behind a `;`: chains of these are as long as a file.
+//! The limit on nesting counts brackets, blocks and operators before an operand. It does not count the
+//! links of a chain in a bracket that is closed again, nor an `else if` behind a `;`. A chain of these may
+//! be as long as a file.
 
 use crate::calls::{Ends, expect_ends};
 use golf_base::List;
@@ -12,10 +13,11 @@ use std::sync::Wait;
 use std::test::Fail;
 use std::thread::Threads;
 
-/// A file of one construct in itself: `before`, `open` so many times, `core`, then as often `close` and the links, `after`.
+/// A file that nests one construct: `before`, then `open` as often as `count`, then `core`, then as often
+/// `close` and the links, then `after`.
 #[derive(Clone, Copy)]
 struct Deep {
-    /// What the row shows.
+    /// The fact that the row shows.
     shows: &'static str,
     count: u32,
     before: &'static str,
@@ -29,7 +31,7 @@ struct Deep {
     err: &'static str,
 }
 
-// Adds a piece so many times.
+// Adds a piece `count` times.
 fn add_times(file: &mut List<u8>, count: u32, piece: &str) -> Result<(), Fail> {
     for _ in 0..count {
         file.extend_from_slice(piece.as_bytes())?;
@@ -51,7 +53,7 @@ fn file_of(alloc: Global, deep: &Deep) -> Result<List<u8>, Fail> {
     Ok(file)
 }
 
-// The file is run by these words; it ends so, and writes these texts.
+// Fails the test unless the program, with these words over this file, ends so and writes these texts.
 fn expect_deep<R: AllocGlobal + Abort + Threads + Wait + Sync>(
     rt: &R,
     line: &str,
@@ -86,7 +88,7 @@ const NODE: &str = "\
     x.s = []*T{x}\n\
     x = ";
 
-// 400 links of each kind in each of 25 brackets.
+// Chains of 400 links of each kind, in each of 25 brackets.
 const CHAINS: [Deep; 5] = [
     Deep {
         shows: "sums",
@@ -155,7 +157,7 @@ const CHAINS: [Deep; 5] = [
     },
 ];
 
-// Chains that a rule refuses, and a chain of `else if` that have a first statement.
+// Chains that a rule refuses, and a chain of `else if` with a first statement in each.
 const OTHERS: [Deep; 4] = [
     Deep {
         shows: "calls of calls",

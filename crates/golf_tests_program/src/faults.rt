@@ -1,4 +1,4 @@
-//! Streams that fail, and words that are no line of the program.
+//! Tests of streams that fail, and of words that are no command line.
 
 use crate::calls::{Ends, Row, expect_ends, expect_failing, expect_usage};
 use crate::runs::{EMPTY_MAIN, LEAK};
@@ -9,14 +9,14 @@ use std::sync::Wait;
 use std::test::Fail;
 use std::thread::Threads;
 
-// The first bytes of a text, or all.
+// The first `length` bytes of a text, or all of it if it is shorter.
 fn prefix(text: &str, length: usize) -> &[u8] {
     let bytes = text.as_bytes();
     let (prefix, _) = bytes.split_at(length.min(bytes.len()));
     prefix
 }
 
-// The pool has 753 bytes, which come in 12 pieces and an end.
+// The pool has 753 bytes. The source gives them in 12 pieces and an end.
 fn fails_to_read<R: AllocGlobal + Abort + Threads + Wait + Sync>(
     rt: &R,
     line: &str,
@@ -41,7 +41,7 @@ fn with_recovery_each_call_of_the_source_that_fails_is_a_read_fault(
     fails_to_read(&rt, "run --recover")
 }
 
-// The pool prints after its collection: 7 bytes, which go in 3 pieces.
+// The pool prints after its collection. The 7 bytes are written in 3 pieces.
 fn fails_to_print<R: AllocGlobal + Abort + Threads + Wait + Sync>(
     rt: &R,
     line: &str,
@@ -56,8 +56,8 @@ fn fails_to_print<R: AllocGlobal + Abort + Threads + Wait + Sync>(
     Ok(())
 }
 
-// Its errors are a line of 67 bytes, which goes in 23 pieces, and one of 54, which goes in 18: each line
-// is written by itself.
+// The errors are a line of 67 bytes, written in 23 pieces, and one of 54 bytes, written in 18. Each line is
+// its own write.
 fn reported(before: u32) -> usize {
     if before < 23 {
         before as usize * 3
@@ -92,7 +92,7 @@ fn with_recovery_each_call_of_a_sink_that_fails_cuts_its_text(rt: HostRuntime) -
     fails_to_report(&rt, "run --recover", POOL_RECOVERED)
 }
 
-// What a failed write leaves.
+// The texts that are left after a failed write.
 const FAILED_WRITES: [(Ends, Row); 6] = [
     (
         Ends {
@@ -197,7 +197,7 @@ fn nothing_is_written_after_a_write_that_failed(rt: HostRuntime) -> Result<(), F
     expect_failing(&rt, &FAILED_WRITES)
 }
 
-// Words that are no line of the program.
+// Words that are no command line of the program.
 const NO_LINES: [&str; 18] = [
     "",
     "Run",

@@ -1,5 +1,5 @@
-//! The files of `examples/`, with the output and the reports that their head comments tell.
-//! Expected values are by hand.
+//! Tests of the files of `examples/`, with the output and the reports that their head comments state.
+//! Expected values are written by hand.
 
 use crate::calls::{Row, expect_rows};
 use golf_run_texts::Status;
@@ -327,7 +327,7 @@ goroutine 2: chan receive at line 28, started at line 33
 collection 2: marked 0, reported 0, kept 1, reclaimed 0, objects 2
 ";
 
-// The files, and what their head comments tell.
+// The files, and the texts that their head comments state.
 const ROWS: [Row; 9] = [
     Row {
         shows: "a pool that nobody closes",

@@ -1,4 +1,4 @@
-//! Generated files.
+//! Tests of generated files.
 
 use crate::calls::{Outcome, Row, expect_rows, run_with};
 use golf_command_sample::sample_file;
@@ -8,7 +8,8 @@ use std::sync::Wait;
 use std::test::Fail;
 use std::thread::Threads;
 
-// How often the gate is passed if the program gets the words of this line over this file, and finds something.
+// How often the gate is passed in a call with these words over this file, or `None` if the call reports no
+// goroutine.
 fn passes<R: AllocGlobal + Threads + Wait + Sync>(
     rt: &R,
     line: &str,
@@ -23,7 +24,7 @@ fn passes<R: AllocGlobal + Threads + Wait + Sync>(
     }
 }
 
-// Generated files, and how they are summed up.
+// Generated files, and their summary lines.
 const ROWS: [Row; 3] = [
     Row {
         shows: "a file of 1",
@@ -56,7 +57,7 @@ fn generated_files_are_summed_up(rt: HostRuntime) -> Result<(), Fail> {
     expect_rows(&rt, &ROWS)
 }
 
-// 100 marked objects and 50 awake sleepers are scanned, and each marker passes the gate once more.
+// The markers scan 100 marked objects and 50 awake sleepers, and each marker passes the gate once more.
 #[test]
 fn all_markers_scan_a_generated_file(rt: HostRuntime) -> Result<(), Fail> {
     let file = sample_file(rt.alloc(), 100)?;

@@ -1,4 +1,4 @@
-//! Tests of the program: worked examples, refusals, faults of its streams, and what its markers see.
+//! Tests of the program: worked examples, refusals, faults of its streams, and the passes of its markers.
 #![tactic(auto)]
 
 #[cfg(test)]

@@ -1,4 +1,4 @@
-//! Files at the limits of the program and past them. Files are made as the tests run.
+//! Tests of files at the limits of the program and above them. The tests make these files.
 
 use crate::calls::{Ends, expect, expect_ends};
 use golf_base::List;
@@ -9,7 +9,7 @@ use std::sync::Wait;
 use std::test::Fail;
 use std::thread::Threads;
 
-// So many parentheses around a number, on line 3.
+// A number in `count` pairs of parentheses, on line 3.
 fn nested(alloc: Global, count: usize) -> Result<List<u8>, Fail> {
     let mut file = List::new(alloc);
     file.extend_from_slice(b"package main\nfunc main() {\nx := ")?;
@@ -20,7 +20,7 @@ fn nested(alloc: Global, count: usize) -> Result<List<u8>, Fail> {
     Ok(file)
 }
 
-// A struct of so many fields, on line 2.
+// A struct of `count` fields, on line 2.
 fn struct_of(alloc: Global, count: u32) -> Result<List<u8>, Fail> {
     let mut file = List::new(alloc);
     file.extend_from_slice(b"package main\ntype T struct { a1")?;
@@ -31,7 +31,8 @@ fn struct_of(alloc: Global, count: u32) -> Result<List<u8>, Fail> {
     Ok(file)
 }
 
-// A run of this file, of which the ends take so many bytes a call, ends so and writes these texts.
+// Fails the test unless a run of this file ends so and writes these texts. The ends take `most` bytes a
+// call.
 fn expect_bytes<R: AllocGlobal + Abort + Threads + Wait + Sync>(
     rt: &R,
     most: u32,
@@ -44,7 +45,7 @@ fn expect_bytes<R: AllocGlobal + Abort + Threads + Wait + Sync>(
     expect_ends(rt, "run", file, Ends::of(most), status, out, err)
 }
 
-// Files at a limit, which end well.
+// Files at a limit, whose runs return.
 const CLEAN: [&str; 2] = [
     r"package main
 func main() {
@@ -63,7 +64,7 @@ f(9997)
 ",
 ];
 
-// Files past a limit, and what they end with.
+// Files above a limit, and the lines of their ends.
 const CRASHED: [(&str, &str); 3] = [
     (
         r"package main
@@ -96,7 +97,7 @@ f(9998)
     ),
 ];
 
-// Parentheses at the limit and past it, and a struct past its limit.
+// Parentheses at the limit and above it, and a struct above its limit.
 fn limits_of_made_files<R: AllocGlobal + Abort + Threads + Wait + Sync>(
     rt: &R,
 ) -> Result<(), Fail> {
@@ -126,7 +127,7 @@ fn a_struct_may_have_64_fields(rt: HostRuntime) -> Result<(), Fail> {
     expect_bytes(&rt, 4, file.as_slice(), Status::Clean, "", "")
 }
 
-// A file that prints, and ends in a comment, of so many bytes.
+// A file of `length` bytes that prints and ends in a comment.
 fn file_of(alloc: Global, length: usize) -> Result<List<u8>, Fail> {
     let mut file = List::new(alloc);
     let program = "\
@@ -153,7 +154,7 @@ fn a_file_of_1048576_bytes_runs_and_one_of_a_byte_more_does_not(
     expect_bytes(&rt, 4096, more.as_slice(), Status::Refused, "", line)
 }
 
-// What ten thousand goroutines that wait in one `select` each are reported as.
+// The errors of two collections with ten thousand goroutines that each wait in a `select`.
 fn reports_of_selects(alloc: Global) -> Result<String, Fail> {
     let mut errors = String::new(alloc);
     errors.push_str(
@@ -201,8 +202,8 @@ fn ten_thousand_that_wait_in_a_select_are_reported_once_in_rising_number(
     expect_bytes(&rt, 4096, file, Status::Found, "", errors.as_str())
 }
 
-// A recursion of so many frames besides that of `main`, each of which defers a call; the innermost
-// one panics on line 16. The frame that calls `main` is one more.
+// A recursion of `frames` frames besides that of `main`, each of which defers a call. The innermost one
+// panics on line 16. The frame that calls `main` is one more.
 fn deferring(alloc: Global, frames: u32) -> Result<String, Fail> {
     Ok(format!(in alloc;
         "\

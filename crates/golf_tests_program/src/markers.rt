@@ -1,4 +1,4 @@
-//! What the markers of the program see at their gate.
+//! Tests of how the markers of the program pass their gate.
 
 use crate::calls::{Outcome, Row, expect_rows, run_with};
 use crate::rounds::RoundGate;
@@ -11,7 +11,7 @@ use std::sync::Wait;
 use std::test::Fail;
 use std::thread::Threads;
 
-// The one global is a slice of four channels.
+// The only global is a slice of four channels.
 const GLOBALS_IN_A_SLICE: &str = "\
     package main\n\
     import \"runtime\"\n\
@@ -57,8 +57,8 @@ fn sixteen_markers_of_the_program_mark_at_once(rt: HostRuntime) -> Result<(), Fa
     Ok(())
 }
 
-// How often the gate is passed: once for each marked object and each awake sleeper, and once more by each marker. A second
-// marking, with a finaliser or recovery, passes none.
+// How often the gate is passed: once for each marked object and each awake sleeper, and once more by each
+// marker. The second marking of a collection does not pass it.
 const SIXTEEN: [(&str, &str, u64); 4] = [
     ("run --markers 16", TWO_ROUNDS, 20),
     ("run --markers 16 --recover", TWO_ROUNDS, 20),

@@ -1,4 +1,5 @@
-//! Meaning lines: the number of functions that agree with their source, and how else such a line ends.
+//! Tests of the command line `meaning`: the number of functions that agree with their source, and the other
+//! ends.
 
 use crate::calls::{Ends, Row, expect_failing, expect_rows, expect_usage};
 use crate::runs::EMPTY_MAIN;
@@ -34,7 +35,7 @@ const AGREEING: [Row; 5] = [
         out: "meaning: 1 functions agree\n",
         err: "",
     },
-    // A function made for `go` of a built-in operation is none of the file.
+    // A function that is made for `go` of a built-in operation does not count as a function of the file.
     Row {
         shows: "a file with a method and a deferred close has two functions",
         line: "meaning",
@@ -56,7 +57,7 @@ const AGREEING: [Row; 5] = [
         out: "meaning: 2 functions agree\n",
         err: "",
     },
-    // It would run for ever.
+    // This file would run for ever.
     Row {
         shows: "nothing is run",
         line: "meaning",
@@ -104,7 +105,7 @@ fn a_file_of_a_meaning_line_may_be_refused(rt: HostRuntime) -> Result<(), Fail> 
     expect_rows(&rt, &REFUSED)
 }
 
-// Calls of the source and of `out` that fail. The line is 27 bytes long, which as many calls write.
+// Calls of the source and of `out` that fail. The line has 27 bytes, and 27 calls write it.
 const FAILING: [(Ends, Row); 4] = [
     (
         Ends {
@@ -177,7 +178,7 @@ fn a_stream_that_fails_on_a_meaning_line_is_told(rt: HostRuntime) -> Result<(), 
     expect_failing(&rt, &FAILING)
 }
 
-// A failing source is not asked.
+// The program does not read the failing source.
 #[test]
 fn other_words_beside_meaning_read_nothing(rt: HostRuntime) -> Result<(), Fail> {
     expect_usage(&rt, &["meaning x", "meaning -- --"])

@@ -1,4 +1,4 @@
-//! Runs by options: their schedules, their added collections, and recovery.
+//! Tests of runs by options: schedules, added collections, and recovery.
 
 use crate::calls::{Outcome, Row, expect_rows, run_with};
 use crate::runs::EMPTY_MAIN;
@@ -9,7 +9,7 @@ use std::sync::Wait;
 use std::test::Fail;
 use std::thread::Threads;
 
-// Runs of an empty `main` by schedules, numbers of turns, a seed and markers.
+// Runs of an empty `main` with schedules, numbers of turns, a seed and markers.
 const ROWS: [Row; 6] = [
     Row {
         shows: "two choices are spent",
@@ -66,7 +66,7 @@ fn turns_and_choices_are_spent_or_enough(rt: HostRuntime) -> Result<(), Fail> {
     expect_rows(&rt, &ROWS)
 }
 
-// Runs with collections that are added.
+// Runs with added collections.
 const ADDED: [Row; 2] = [
     Row {
         shows: "asleep with a collection after each turn",
@@ -87,8 +87,8 @@ collection 5: marked 1, reported 0, kept 0, reclaimed 0, objects 1
 fatal error: all goroutines are asleep - deadlock!
 ",
     },
-    // The turns are the call of `main`, the collection, and two returns, the last of which ends the
-    // program: none is added after it.
+    // The turns are the call of `main`, the collection, and two returns. The last return ends the program,
+    // so no collection is added after it.
     Row {
         shows: "a collection of the program comes before the one that is added",
         line: "run --every=1",
@@ -113,7 +113,7 @@ fn collections_are_added_after_turns(rt: HostRuntime) -> Result<(), Fail> {
     expect_rows(&rt, &ADDED)
 }
 
-// Each of 10,000 goroutines keeps 65,536 integers and waits for ever.
+// Each of 10,000 goroutines holds 65,536 integers and waits for ever.
 const HOLDERS: &str = "\
     package main\n\
     func hold(a []int, c chan int) {\n\
@@ -126,7 +126,7 @@ const HOLDERS: &str = "\
     \t}\n\
     }\n";
 
-// How many collections kept nobody and left at most two objects.
+// How many collections kept no goroutine and left at most two objects.
 fn empty_collections(text: &str) -> usize {
     text.lines()
         .filter(|line| {
@@ -139,7 +139,7 @@ fn empty_collections(text: &str) -> usize {
         .count()
 }
 
-// Whether all holders were reported and taken back by 160 collections, before this last line.
+// Whether 160 collections reported and reclaimed all holders, before this last line.
 fn are_taken_back(errors: &[u8], last: &str) -> bool {
     let Ok(text) = str::from_utf8(errors) else {
         return false;
@@ -151,8 +151,8 @@ fn are_taken_back(errors: &[u8], last: &str) -> bool {
     empty_collections(text) == 160 && reported == 10_000 && text.ends_with(last)
 }
 
-// Whether a run of the holders by these words ends so, prints nothing, and takes all holders back,
-// before this last line.
+// Whether a run of the holders with these words ends so, prints nothing, and reclaims all holders, before
+// this last line.
 fn takes_back<R: AllocGlobal + Threads + Wait + Sync>(
     rt: &R,
     line: &str,

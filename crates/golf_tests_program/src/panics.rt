@@ -1,4 +1,4 @@
-//! Panics and fatal errors (Go specification, "Handling panics", "Run-time panics", "Send
+//! Tests of panics and fatal errors (Go specification, "Handling panics", "Run-time panics", "Send
 //! statements", "Close"; package sync).
 
 use crate::calls::{Row, expect, expect_rows};
@@ -6,7 +6,7 @@ use golf_run_texts::Status;
 use std::alloc::Global;
 use std::test::Fail;
 
-// Bodies of `main` that panic on line 12, after a deferred call was set up, and what they end with.
+// Bodies of `main` that panic on line 12, after `main` deferred a call, and the last lines of their runs.
 const PANICS: [(&str, &str); 5] = [
     (
         "wg := new(sync.WaitGroup)\n\twg.Add(-1)",
@@ -61,7 +61,7 @@ fn each_panic_runs_deferred_calls_first(rt: HostRuntime) -> Result<(), Fail> {
 
 // Files of several goroutines.
 const ROWS: [Row; 3] = [
-    // The second value waits until the first is received; then the sender goes on.
+    // The second value waits until the first one is received. Then the sender goes on.
     Row {
         shows: "who sends twice into a buffer of one goes on after a receive",
         line: "run",

@@ -1,4 +1,4 @@
-//! Runs with `--why`: certificates, and what leads to goroutines that wait and are live.
+//! Tests of runs with `--why`: certificates, and the ways to live goroutines that wait.
 
 use crate::calls::{Ends, Row, expect_failing, expect_rows};
 use crate::worked::{POOL, POOL_OUT};
@@ -45,8 +45,8 @@ const ROWS: [Row; 4] = [
         out: "",
         err: TWO_ROUNDS_ERRORS,
     },
-    // The globals x and y, objects 1 and 2, both refer to the channel, object 3, that goroutine 2 waits
-    // on; goroutine 3 waits on a channel that nothing else refers to.
+    // The globals x and y are objects 1 and 2. Both refer to the channel, object 3, on which goroutine 2
+    // waits. Goroutine 3 waits on a channel to which nothing else refers.
     Row {
         shows: "a reason has the less of two parents and a dead goroutine has none",
         line: "run --why",
@@ -124,7 +124,7 @@ fn why_goroutines_that_wait_are_live(rt: HostRuntime) -> Result<(), Fail> {
     expect_rows(&rt, &ROWS)
 }
 
-// Each line is a write of its own: the third call of `err` has the line of goroutine 2.
+// Each line is its own write: the third call of `err` has the line of goroutine 2.
 const FAILING: [(Ends, Row); 1] = [(
     Ends {
         most: 256,

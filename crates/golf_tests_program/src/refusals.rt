@@ -1,4 +1,4 @@
-//! Files that are refused, each with its line.
+//! Tests of refused files, each with its line.
 
 use crate::calls::{Ends, Outcome, Row, expect, expect_ends, expect_rows, run_with};
 use crate::worked::{POOL, POOL_ERRORS, POOL_OUT};
@@ -8,7 +8,7 @@ use std::sync::Wait;
 use std::test::Fail;
 use std::thread::Threads;
 
-// Bodies of `main`, the first line of which is 4, that break a rule of types.
+// Bodies of `main`, whose first line is line 4, that break a rule of types.
 const BODIES: [(&str, &str); 7] = [
     ("\tfmt.Println(y)\n", "refused: line 4: rule 3\n"),
     ("\tx := 1\n\tx := 2\n", "refused: line 5: rule 24\n"),
@@ -71,7 +71,7 @@ fn bytes_that_do_not_lex_are_refused_at_their_place(rt: HostRuntime) -> Result<(
     expect_rows(&rt, &UNLEXED)
 }
 
-// Files whose tokens are no file.
+// Files that have no syntax tree.
 const UNPARSED: [Row; 3] = [
     Row {
         shows: "a function literal",
@@ -114,7 +114,7 @@ fn tokens_that_are_no_file_are_refused_on_a_line(rt: HostRuntime) -> Result<(), 
     expect_rows(&rt, &UNPARSED)
 }
 
-// Files that break a rule of types, or two: the first one is named.
+// Files that break one rule of types, or two: the first one is named.
 const BROKEN: [Row; 5] = [
     Row {
         shows: "no main",
@@ -197,19 +197,19 @@ fn a_file_of_one_byte_more_than_the_limit_is_too_long(rt: HostRuntime) -> Result
     )
 }
 
-// Whether a text is the one line of a refusal.
+// Whether a text is exactly one line of a refusal.
 fn is_refusal(text: &[u8]) -> bool {
     let newlines = text.iter().filter(|byte| **byte == b'\n').count();
     newlines == 1 && text.starts_with(b"refused: ") && text.ends_with(b"\n")
 }
 
-// Whether a run of this file writes the one line of a refusal alone.
+// Whether a run of this file writes exactly one line of a refusal.
 fn is_refused<R: AllocGlobal + Threads + Wait + Sync>(rt: &R, file: &[u8]) -> Result<bool, Fail> {
     let Outcome { status, out, err } = run_with(rt, "run", file, &OpenGate)?;
     Ok(status == Status::Refused && out.written().is_empty() && is_refusal(err.written()))
 }
 
-// The prefix of the pool of so many bytes.
+// The first `length` bytes of the pool.
 fn prefix(length: usize) -> &'static [u8] {
     let (prefix, _) = POOL.as_bytes().split_at(length.min(POOL.len()));
     prefix
@@ -223,7 +223,7 @@ fn each_prefix_of_the_pool_is_refused_with_one_line(rt: HostRuntime) -> Result<(
     Ok(())
 }
 
-// The pool has 753 bytes, and is the same file without its last newline.
+// The pool has 753 bytes. Without its last newline it means the same.
 const ENDS: [(usize, Status, &str, &str); 5] = [
     (752, Status::Found, POOL_OUT, POOL_ERRORS),
     (753, Status::Found, POOL_OUT, POOL_ERRORS),

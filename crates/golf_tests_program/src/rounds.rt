@@ -1,12 +1,13 @@
-//! A gate at which all who pass it meet.
+//! A gate at which all markers or workers meet.
 
 use golf_base::Gate;
 use std::sync::atomic::{AtomicU64, Ordering};
 
-/// How often each looks for the others.
+/// How often each of them looks for the others.
 const LOOKS: u64 = 100_000_000;
 
-/// In one of its turns each of so many markers or workers waits until all of them have come there. None waits for ever.
+/// In one of its turns each of `count` markers or workers waits until all of them have come there. None
+/// waits for ever.
 #[derive(Drop)]
 pub struct RoundGate {
     count: u64,
@@ -17,7 +18,7 @@ pub struct RoundGate {
 }
 
 impl RoundGate {
-    /// A gate for so many, who wait for each other in this turn.
+    /// Returns a gate for `count` markers or workers, which wait for each other in this turn.
     pub fn new(count: u64, turn: u64) -> RoundGate {
         RoundGate {
             count,
@@ -28,12 +29,12 @@ impl RoundGate {
         }
     }
 
-    /// How often it was passed.
+    /// Returns how often the gate was passed.
     pub fn passes(&self) -> u64 {
         self.passes.load(Ordering::SeqCst)
     }
 
-    /// Whether each of them has seen that all had come.
+    /// Returns whether each of them has seen that all had come.
     pub fn all_met(&self) -> bool {
         self.met.load(Ordering::SeqCst) == self.count
     }

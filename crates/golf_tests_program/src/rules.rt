@@ -1,12 +1,14 @@
-//! Rules of the language and of this runtime, each shown by a file. Expected values come from the
-//! Go specification ("Select statements", "Defer statements", "Handling panics", "For statements"),
-//! the documentation of packages sync and runtime, and from the rules of this runtime.
+//! Tests of rules of the language and of this runtime, each shown by a file. Expected values are from:
+//!
+//! - the Go specification ("Select statements", "Defer statements", "Handling panics", "For statements"),
+//! - the documentation of packages sync and runtime,
+//! - the rules of this runtime.
 
 use crate::calls::{Row, expect_rows};
 use golf_run_texts::Status;
 use std::test::Fail;
 
-// Rules that what a file prints shows.
+// Rules that the output of a file shows.
 const PRINTED: [Row; 6] = [
     Row {
         shows: "a closed select receives by its first case",
@@ -202,7 +204,7 @@ fn rules_that_the_output_shows(rt: HostRuntime) -> Result<(), Fail> {
     expect_rows(&rt, &PRINTED)
 }
 
-// Rules that the end of a file shows.
+// Rules that the ending of a file shows.
 const ENDED: [Row; 6] = [
     Row {
         shows: "a closed select panics by its first case",

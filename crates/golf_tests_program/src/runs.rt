@@ -1,4 +1,4 @@
-//! Worked examples: what a file prints, what its collections report, and how it ends.
+//! Worked examples: the output of a file, the reports of its collections, and its ending.
 
 use crate::calls::{Row, expect, expect_rows};
 use golf_run_texts::Status;
@@ -43,7 +43,8 @@ pub const LEAK: &str = "\
     \truntime.GC()\n\
     }\n";
 
-/// Goroutine 2 waits on a channel of the main one, and goroutine 3 on one that goroutine 2 refers to.
+/// Goroutine 2 waits on a channel of the main goroutine. Goroutine 3 waits on a channel to which goroutine
+/// 2 refers.
 pub const TWO_ROUNDS: &str = "\
     package main\n\
     import \"fmt\"\n\
@@ -71,7 +72,7 @@ pub const TWO_ROUNDS: &str = "\
     \tclose(a)\n\
     }\n";
 
-// What small files print.
+// Small files, and their output.
 const PRINTED: [Row; 4] = [
     Row {
         shows: "an empty main writes nothing",
@@ -119,7 +120,7 @@ fn what_small_files_print(rt: HostRuntime) -> Result<(), Fail> {
     expect_rows(&rt, &PRINTED)
 }
 
-// What collections report.
+// Files, and the reports of their collections.
 const COLLECTED: [Row; 3] = [
     Row {
         shows: "a leak is reported with its lines",
@@ -180,7 +181,7 @@ fn what_collections_report(rt: HostRuntime) -> Result<(), Fail> {
     expect_rows(&rt, &COLLECTED)
 }
 
-// Files that do not end by themselves.
+// Files whose programs do not return.
 const STOPPED: [Row; 2] = [
     Row {
         shows: "a program that waits alone is asleep",
@@ -219,7 +220,7 @@ fn what_waits_or_runs_for_ever_is_stopped(rt: HostRuntime) -> Result<(), Fail> {
     expect_rows(&rt, &STOPPED)
 }
 
-// A file whose `main` calls the first of so many functions, each of which calls the next one.
+// A file whose `main` calls the first of `count` functions, each of which calls the next one.
 fn chain(alloc: Global, count: u32) -> Result<String, Fail> {
     let mut file = String::from_str(alloc, "package main\nfunc main() {\n\tf1()\n}\n")?;
     for number in 1..count {

@@ -1,4 +1,4 @@
-//! What a collection sees of the frame that collects: a variable that is read no more keeps nothing.
+//! Tests of the frame that collects: a variable that is not read again keeps nothing reachable.
 
 use crate::calls::{Row, expect_rows};
 use golf_run_texts::Status;
@@ -74,7 +74,7 @@ const CLOSED_LATER_ERRORS: &str =
 panic: send on closed channel (goroutine 2, line 5)
 ";
 
-// Files whose frame that collects has variables that are read later, or no more.
+// Files in which the frame that collects has variables that are read later, or never again.
 const ROWS: [Row; 7] = [
     Row {
         shows: "a sender whose channel is read no more is reported",

@@ -1,4 +1,4 @@
-//! Runs by threads: their history, its replay by written choices, and how they end.
+//! Tests of runs by threads: their history, its repetition by written choices, and their endings.
 
 use crate::calls::{Ends, Outcome, Row, expect_ends, expect_failing, expect_rows, run_with};
 use crate::rounds::RoundGate;
@@ -51,7 +51,7 @@ fn runs_by_threads_tell_their_history(rt: HostRuntime) -> Result<(), Fail> {
     expect_rows(&rt, &ROWS)
 }
 
-// The errors before the line of the history, and that line's numbers.
+// The errors before the line of the history, and the numbers of that line.
 fn split_history(errors: &[u8]) -> Result<(&str, &str), Fail> {
     let Ok(text) = str::from_utf8(errors) else {
         return Err(Fail::new("no text"));
@@ -62,7 +62,7 @@ fn split_history(errors: &[u8]) -> Result<(&str, &str), Fail> {
     }
 }
 
-// The line that asks for a run by these numbers as choices.
+// The command line for a run with these numbers as choices.
 fn again(alloc: Global, numbers: &str) -> Result<String, Fail> {
     Ok(format!(in alloc; "run --schedule choices:{numbers}")?)
 }
@@ -91,7 +91,7 @@ fn threads_of_the_program_step_at_the_same_time(rt: HostRuntime) -> Result<(), F
     Ok(())
 }
 
-// How many numbers a list of them has.
+// How many numbers a list has.
 fn count_of(numbers: &str) -> u64 {
     let mut count = 1;
     for byte in numbers.as_bytes() {
@@ -102,7 +102,7 @@ fn count_of(numbers: &str) -> u64 {
     count
 }
 
-// A worker comes to its turn 1 once it has taken a turn of the program.
+// A worker comes to its turn 1 after it has taken a turn of the program.
 #[test]
 fn each_of_four_threads_of_the_program_takes_a_turn(rt: HostRuntime) -> Result<(), Fail> {
     let gate = RoundGate::new(4, 1);
@@ -122,7 +122,8 @@ fn each_of_four_threads_passes_the_gate_on_an_empty_main(rt: HostRuntime) -> Res
     Ok(())
 }
 
-// The numbers from 0 to 99,999: the one goroutine takes each turn, and its place among one is always 0.
+// The errors with the numbers from 0 to 99,999. The only goroutine takes each turn, and its place among one
+// is always 0.
 fn endless_errors(alloc: Global) -> Result<String, Fail> {
     let mut text = String::from_str(alloc, "stopped after 100000 turns\nhistory: 0")?;
     for number in 1..100_000u32 {
@@ -139,7 +140,7 @@ fn threads_stop_after_a_hundred_thousand_turns(rt: HostRuntime) -> Result<(), Fa
     expect_ends(&rt, line, file, ends, Status::Spent, b"", err.as_bytes())
 }
 
-// Calls of the source and of the sinks that fail. The output is `1` and a newline, which two calls write.
+// Calls of the source and of the sinks that fail. The output is `1` and a newline, and two calls write it.
 const FAILING: [(Ends, Row); 4] = [
     (
         Ends {

@@ -1,10 +1,11 @@
-//! Worked examples of the whole language: what a file prints, what its collections report, and how it ends.
+//! Worked examples of the whole language: the output of a file, the reports of its collections, and its
+//! ending.
 
 use crate::calls::{Row, expect_rows};
 use golf_run_texts::Status;
 use std::test::Fail;
 
-/// A pool of workers, and a reply that nobody takes.
+/// A worker pool, and a reply that no goroutine takes.
 pub const POOL: &str = "\
     package main\n\
     \n\
@@ -73,7 +74,7 @@ goroutine 5: chan send at line 34, started at line 29
 
 pub const POOL_OUT: &str = "sum 55\n";
 
-/// A `select` with two cases that are both ready.
+/// A `select` with two cases, both of which are ready.
 pub const CHOICE: &str = "\
     package main\n\
     import \"fmt\"\n\
@@ -88,7 +89,7 @@ pub const CHOICE: &str = "\
     \t}\n\
     }\n";
 
-/// Two goroutines wait for each other, and two collections.
+/// Two goroutines that wait for each other, and two collections.
 pub const CYCLE: &str = "\
     package main\n\
     import \"runtime\"\n\
@@ -116,7 +117,7 @@ goroutine 3: chan receive at line 4, started at line 11
 collection 2: marked 0, reported 0, kept 2, reclaimed 0, objects 2
 ";
 
-// What files print.
+// Files, and their output.
 const PRINTED: [Row; 2] = [
     Row {
         shows: "buffers default close range",

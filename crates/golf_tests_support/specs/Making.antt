@@ -7,7 +7,7 @@ use Rattle.golf_model.specs.Graph.{NumbersRise}
 abbrev pub AreBelow : ℕ → List ℕ → Type 0
 AreBelow n ps = Every (λ p. p < n) ps
 
--- its nodes so far are numbered in order, and each place that it names is below the count
+-- the nodes so far are numbered in order, and each place that they name is below the count
 pub record IsInMaking (count : ℕ) (g : GraphParts) : Type 0 where
   pub small : count < 2 ^ 32
   pub numbered : length g.numbers ≡ length g.children
@@ -19,11 +19,11 @@ pub record IsInMaking (count : ℕ) (g : GraphParts) : Type 0 where
   pub waits : Every (λ x. AreBelow count x.waits) g.sleepers
   pub references : Every (λ x. AreBelow count x.references) g.sleepers
 
--- a graph of nothing
+-- the graph without a node
 abbrev pub no_parts : GraphParts
 no_parts = record { numbers = []; children = []; finalised = []; roots = []; sleepers = [] }
 
--- one more node, with these children
+-- the graph with one more node, which has these children
 abbrev pub with_node : GraphParts → List ℕ → GraphParts
 with_node g row = record {
   numbers = g.numbers ++ record { 0 = length g.children } ∷ [];
@@ -34,7 +34,7 @@ with_node g row = record {
   sleepers = g.sleepers;
 }
 
--- one more root
+-- the graph with one more root
 abbrev pub with_root : GraphParts → ℕ → GraphParts
 with_root g node = record {
   numbers = g.numbers;
@@ -45,7 +45,7 @@ with_root g node = record {
   sleepers = g.sleepers;
 }
 
--- one more sleeper, whose goroutine is told as 0
+-- the graph with one more sleeper, whose goroutine has the number 0
 abbrev pub with_sleeper : GraphParts → List ℕ → List ℕ → GraphParts
 with_sleeper g waits references = record {
   numbers = g.numbers;

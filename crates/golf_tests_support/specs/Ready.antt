@@ -2,6 +2,6 @@
 use Rattle.std.specs.Prelude.{◌^◌, ◌<◌, length}
 use Rattle.golf_data.specs.declared.code.Function.{Function}
 
--- each instruction has a place
+-- each instruction of the function has a place below 2^32
 abbrev pub IsReady : Function → Type 0
 IsReady f = length f.body < 2 ^ 32

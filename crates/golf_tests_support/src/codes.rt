@@ -1,4 +1,4 @@
-//! Codes by hand.
+//! Codes made by hand, for tests.
 
 ghost use Rattle.std.specs.Prelude.{IsTrue};
 ghost use Rattle.golf_data.specs.Places.{HasPlaces};
@@ -9,7 +9,7 @@ use golf_data::{Code, CodeLine, Function, Instr, Value};
 use golf_live::live;
 use std::alloc::Global;
 
-/// Instructions at the lines 1, 2 and so on.
+/// Returns these instructions, on the lines 1, 2 and so on.
 pub fn lines(alloc: Global, instrs: Vec<Instr>) -> Result<List<CodeLine>, Memory> {
     let mut body = List::new(alloc);
     let mut line = 0u32;
@@ -20,8 +20,8 @@ pub fn lines(alloc: Global, instrs: Vec<Instr>) -> Result<List<CodeLine>, Memory
     Ok(body)
 }
 
-/// A function at line 1 with four slots, of which its arguments take the first, and room for four
-/// operands; its masks are those of its body.
+/// Returns a function at line 1 with four slots and room for four operands. Its arguments take the first
+/// slots. Its masks are those of its body.
 pub fn function(alloc: Global, params: u32, body: List<CodeLine>) -> Result<Function, Memory> {
     let live = live(alloc, 4, body.as_slice())?;
     Ok(Function {
@@ -34,8 +34,8 @@ pub fn function(alloc: Global, params: u32, body: List<CodeLine>) -> Result<Func
     })
 }
 
-/// A code without texts of these functions, with these globals, and with a struct type of these fields.
-/// The first function is `main`, at line 1.
+/// Returns a code without texts that has these functions and globals, and one struct type with these
+/// fields. The first function is `main`, at line 1.
 pub fn code(
     alloc: Global,
     functions: List<Function>,
@@ -57,14 +57,14 @@ pub fn code(
     })
 }
 
-// Whether each instruction of a function has a place.
+// Whether the body of a function has fewer than 2^32 instructions.
 fn is_ready(function: &Function) -> bool
     ensures { IsTrue result → IsReady function.now }
 {
     function.body.len() < (1 << 32)
 }
 
-/// Whether the machine can step a code.
+/// Returns whether the machine can step a code.
 #[tactic(auto, using(crate::proofs::Readiness::ready_places))]
 pub fn can_run(code: &Code) -> bool
     ensures { IsTrue result → HasPlaces code.now }

@@ -1,9 +1,9 @@
-//! How many goroutines and finalisers a small state has, told without memory.
+//! Counts the goroutines and finalisers of a small state, without memory.
 
 use golf_base::{GoroutineId, ObjectId};
 use golf_state::State;
 
-/// How many goroutines have not ended, of those with numbers below 64; goroutine 0 is among them.
+/// Returns how many goroutines with numbers below 64 have not ended. Goroutine 0 is among them.
 pub fn count_goroutines(state: &State) -> usize {
     let mut count = 0;
     for number in 0..64 {
@@ -14,7 +14,7 @@ pub fn count_goroutines(state: &State) -> usize {
     count
 }
 
-/// How many objects have a finaliser, of those with numbers below 64.
+/// Returns how many objects with numbers below 64 have a finaliser.
 pub fn count_finalisers(state: &State) -> usize {
     let mut count = 0;
     for number in 0..64 {

@@ -1,16 +1,16 @@
-//! Why a measurement comes to nothing.
+//! The reason for which a measurement fails.
 
 use crate::making::GraphFault;
 use golf_base::Memory;
 use std::alloc::AllocError;
 use std::io;
 
-/// Why a measurement came to nothing.
+/// The reason for which a measurement fails.
 #[derive(Debug, Drop)]
 pub enum BenchFault {
     /// Out of memory.
     Memory,
-    /// The graph that was to be measured cannot be made.
+    /// The graph of the measurement cannot be made.
     Graph(GraphFault),
     /// The clock or the output failed.
     Io(io::Error),

@@ -1,12 +1,12 @@
-//! Gates that see how markers run. None of them waits for ever.
+//! Gates that watch how markers run. None of them waits for ever.
 
 use golf_base::Gate;
 use std::sync::atomic::{AtomicU64, Ordering};
 
-/// How often a marker looks for the other one's flag.
+/// How often a marker looks for the flag of the other one.
 const LOOKS: u64 = 100_000_000;
 
-// Two flags, and who has seen the other one's.
+// A flag of each of two markers, and whether each has seen the flag of the other.
 #[derive(Drop)]
 struct Flags {
     raised: [AtomicU64; 2],
@@ -43,20 +43,21 @@ impl Flags {
     }
 }
 
-/// In turn 0 each of two markers raises its flag and looks for the other one's.
+/// In turn 0 each of two markers raises its flag and looks for the flag of the other.
 #[derive(Drop)]
 pub struct MeetingGate {
     flags: Flags,
 }
 
 impl MeetingGate {
+    /// Returns a gate whose flags are down.
     pub fn new() -> MeetingGate {
         MeetingGate {
             flags: Flags::new(),
         }
     }
 
-    /// Whether each of the two markers has seen the other one's flag.
+    /// Returns whether each of the two markers has seen the flag of the other.
     pub fn both_seen(&self) -> bool {
         self.flags.both_seen()
     }
@@ -71,21 +72,22 @@ impl Gate for MeetingGate {
     }
 }
 
-/// Marker 1 looks in its turn 0 for the flag that marker 0 raises in its turn 1, and raises its own
-/// in its turn 1, for which it must have taken a place.
+/// In its turn 0, marker 1 looks for the flag that marker 0 raises in its turn 1. In its own turn 1, for
+/// which it must have taken a place, it raises its flag.
 #[derive(Drop)]
 pub struct StealingGate {
     flags: Flags,
 }
 
 impl StealingGate {
+    /// Returns a gate whose flags are down.
     pub fn new() -> StealingGate {
         StealingGate {
             flags: Flags::new(),
         }
     }
 
-    /// Whether each of the two markers has seen the other one's flag.
+    /// Returns whether each of the two markers has seen the flag of the other.
     pub fn both_seen(&self) -> bool {
         self.flags.both_seen()
     }
@@ -115,6 +117,7 @@ pub struct CountingGate {
 }
 
 impl CountingGate {
+    /// Returns a gate that has counted nothing.
     pub fn new() -> CountingGate {
         CountingGate {
             passes: AtomicU64::new(0),
@@ -123,12 +126,12 @@ impl CountingGate {
         }
     }
 
-    /// How often it was passed.
+    /// Returns how often the gate was passed.
     pub fn passes(&self) -> u64 {
         self.passes.load(Ordering::SeqCst)
     }
 
-    /// The passes, and the sums of markers and turns.
+    /// Returns how often the gate was passed, the sum of the markers' numbers, and the sum of the turns.
     pub fn sums(&self) -> (u64, u64, u64) {
         (
             self.passes.load(Ordering::SeqCst),

@@ -1,5 +1,8 @@
-//! Graphs, gates, codes and their turns for tests and measurements, and why a measurement comes to nothing. Graphs are
-//! made a place at a time, of a shape, or such that they look random; gates see how markers run.
+//! Helpers of tests and measurements: graphs, gates, codes and turns.
+//!
+//! - Graphs are made place by place, of a shape, or pseudo-random.
+//! - Gates watch how markers run.
+//! - Codes are made by hand, and stepped turn by turn.
 #![tactic(auto)]
 
 mod codes;

@@ -1,4 +1,6 @@
-//! Graphs that are made a place at a time.
+//! Makes graphs place by place.
+//!
+//! A graph that is made here names only nodes that it has.
 
 ghost use Rattle.std.specs.Prelude.{◌≡◌, ◌<◌, IfOk};
 ghost use Rattle.golf_theory.specs.Membership.{Every};
@@ -9,14 +11,14 @@ use golf_rows::FlatRows;
 use std::alloc::{AllocError, Global};
 use std::marker::Model;
 
-/// Why a graph cannot be made.
+/// The reason for which a graph cannot be made.
 #[derive(Debug, Drop)]
 pub enum GraphFault {
     /// Out of memory.
     Memory,
-    /// A node of this number is named, and there is none.
+    /// A place names a node of this number, which the graph does not have.
     NoSuchNode(u32),
-    /// The graph has fewer nodes, or more, than were announced, or too many sleepers.
+    /// The graph has fewer or more nodes than announced, or too many sleepers.
     Miscounted,
 }
 
@@ -32,7 +34,7 @@ impl From<AllocError> for GraphFault {
     }
 }
 
-/// A graph under construction, whose nodes are announced by their count.
+/// A graph under construction. The number of its nodes is announced at the start.
 #[derive(Drop)]
 pub struct GraphMaker {
     count: u32,
@@ -53,7 +55,7 @@ impl Model for GraphMaker {
 impl GraphMaker {
     ghost use Rattle.golf_tests_support.specs.Making.{no_parts, with_node, with_root, with_sleeper};
 
-    /// No node yet, of `count`.
+    /// Returns the graph without a node yet, which will have `count` nodes.
     pub fn new(alloc: Global, count: u32) -> GraphMaker
         ensures { result ≡ no_parts }
     {
@@ -69,7 +71,7 @@ impl GraphMaker {
         }
     }
 
-    /// The next node, with these children.
+    /// Adds the next node, with these children.
     pub fn node(self, alloc: Global, children: &[u32]) -> Result<GraphMaker, GraphFault>
         ensures { IfOk result (λ maker. maker ≡ with_node self children.now) }
     {
@@ -85,7 +87,7 @@ impl GraphMaker {
         Ok(GraphMaker { count, parts })
     }
 
-    /// One more root.
+    /// Adds a root.
     pub fn root(self, node: u32) -> Result<GraphMaker, GraphFault>
         ensures { IfOk result (λ maker. maker ≡ with_root self node) }
     {
@@ -97,7 +99,7 @@ impl GraphMaker {
         Ok(GraphMaker { count, parts })
     }
 
-    /// The next sleeper.
+    /// Adds the next sleeper.
     pub fn sleeper(
         self,
         alloc: Global,
@@ -115,7 +117,7 @@ impl GraphMaker {
         Ok(GraphMaker { count, parts })
     }
 
-    /// The graph, if it has as many nodes as were announced.
+    /// Returns the graph, if it has as many nodes as announced.
     pub fn finish(self) -> Result<Graph, GraphFault>
         ensures { IfOk result (λ graph. graph ≡ self) }
     {
@@ -130,7 +132,7 @@ impl GraphMaker {
     }
 }
 
-// These nodes, each of them below the count.
+// These nodes, if each of them is below the count.
 fn nodes_of(alloc: Global, count: u32, nodes: &[u32]) -> Result<List<u32>, GraphFault>
     ensures same { IfOk result (λ list. list ≡ nodes.now) }
     ensures below { IfOk result (λ list. Every (λ p. p < count) list) }

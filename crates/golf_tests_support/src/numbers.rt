@@ -1,17 +1,20 @@
-//! Numbers that look random.
+//! Pseudo-random numbers.
+//!
+//! The same seed gives the same numbers on each machine.
 
-/// Numbers from a seed, by a linear congruential generator: the same seed gives the same numbers.
+/// A linear congruential generator. The same seed gives the same numbers.
 #[derive(Debug, Drop)]
 pub struct Numbers {
     state: u64,
 }
 
 impl Numbers {
+    /// Returns the generator of this seed.
     pub fn new(seed: u64) -> Numbers {
         Numbers { state: seed }
     }
 
-    /// The next number, below the bound, or 0 if the bound is 0.
+    /// Returns the next number, which is below the bound. It is 0 if the bound is 0.
     pub fn below(&mut self, bound: u32) -> u32 {
         self.state = self
             .state

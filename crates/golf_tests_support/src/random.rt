@@ -1,4 +1,4 @@
-//! Graphs that look random.
+//! Pseudo-random graphs.
 
 use crate::making::{GraphFault, GraphMaker};
 use crate::numbers::Numbers;
@@ -6,7 +6,7 @@ use golf_base::List;
 use golf_model::Graph;
 use std::alloc::Global;
 
-// Up to `most` nodes of `count`.
+// Up to `most` nodes of a graph of `count` nodes.
 fn some_nodes(
     alloc: Global,
     numbers: &mut Numbers,
@@ -23,8 +23,8 @@ fn some_nodes(
     Ok(nodes)
 }
 
-/// A graph of up to 119 nodes, which have up to two children each; up to three of them are roots. Up
-/// to 79 sleepers wait on up to three nodes and refer to up to three.
+/// Returns a graph of up to 119 nodes with up to two children each, and up to three roots. It has up to 79
+/// sleepers, each of which waits on up to three nodes and refers to up to three.
 pub fn random_graph(alloc: Global, numbers: &mut Numbers) -> Result<Graph, GraphFault> {
     let nodes = numbers.below(120);
     let mut maker = GraphMaker::new(alloc, nodes);

@@ -1,4 +1,4 @@
-//! Graphs of a shape, whose one root leads to all nodes.
+//! Graphs of a shape, with one root that reaches all nodes.
 
 use crate::making::{GraphFault, GraphMaker};
 use crate::numbers::Numbers;
@@ -6,24 +6,24 @@ use golf_base::List;
 use golf_model::Graph;
 use std::alloc::Global;
 
-/// How the nodes of a graph hang together.
+/// The shape of a graph.
 #[derive(Clone, Copy, Debug, PartialEq, Eq)]
 pub enum Shape {
-    /// Each node has the one of the next number as its child.
+    /// Each node has the next number as its child.
     List,
-    /// A list through all nodes in an order that looks random.
+    /// A list of all nodes in a pseudo-random order.
     Shuffled,
     /// A binary tree, level by level.
     Tree,
-    /// A tree of four children a node, level by level.
+    /// A tree with four children for each node, level by level.
     Quad,
-    /// The shuffled list, whose nodes have one more child that looks random.
+    /// The shuffled list, whose nodes each have one more pseudo-random child.
     Random,
-    /// The shuffled list, whose nodes have seven more children that look random.
+    /// The shuffled list, whose nodes each have seven more pseudo-random children.
     Dense,
 }
 
-/// A graph of this shape with so many nodes.
+/// Returns a graph of this shape with `nodes` nodes.
 pub fn shaped(alloc: Global, shape: Shape, nodes: u32) -> Result<Graph, GraphFault> {
     match shape {
         Shape::List => list(alloc, nodes),
@@ -35,7 +35,7 @@ pub fn shaped(alloc: Global, shape: Shape, nodes: u32) -> Result<Graph, GraphFau
     }
 }
 
-// A root of the graph, if it has a node.
+// The graph with this root, if it has a node.
 fn rooted(maker: GraphMaker, nodes: u32, root: u32) -> Result<Graph, GraphFault> {
     if nodes == 0 {
         return maker.finish();
@@ -54,7 +54,7 @@ fn list(alloc: Global, nodes: u32) -> Result<Graph, GraphFault> {
     rooted(maker, nodes, 0)
 }
 
-// The children of a node in a tree of so many nodes, with so many children each.
+// The children of a node in a tree of `nodes` nodes with `each` children for a node.
 fn branches(alloc: Global, node: u32, nodes: u32, each: u32) -> Result<List<u32>, GraphFault> {
     let mut children = List::new(alloc);
     for branch in 1..=each {
@@ -84,7 +84,7 @@ fn swap(order: &mut List<u32>, i: usize, j: usize) {
     }
 }
 
-// All nodes, in an order that looks random.
+// All nodes, in a pseudo-random order.
 fn shuffled_nodes(alloc: Global, nodes: u32) -> Result<List<u32>, GraphFault> {
     let mut order = List::new(alloc);
     for node in 0..nodes {
@@ -104,7 +104,7 @@ fn link(next: &mut List<Option<u32>>, from: u32, to: u32) {
     }
 }
 
-// For each node the one after it in this order.
+// For each node the next one in this order.
 fn next_nodes(alloc: Global, order: &[u32]) -> Result<List<Option<u32>>, GraphFault> {
     let mut next = List::new(alloc);
     next.extend_with(order.len(), None)?;
@@ -130,7 +130,7 @@ fn shuffled(alloc: Global, nodes: u32) -> Result<Graph, GraphFault> {
     }
 }
 
-// The next node, if there is one, and so many nodes that look random.
+// The next node, if there is one, and `more` pseudo-random nodes.
 fn threads(
     alloc: Global,
     next: Option<u32>,

@@ -1,4 +1,4 @@
-//! Turns of the machine, one at a time.
+//! Takes turns of the machine, one at a time.
 
 ghost use Rattle.golf_model.specs.Futures.{Leads};
 
@@ -9,7 +9,8 @@ use golf_machine::{Turned, turn};
 use golf_state::State;
 use std::alloc::Global;
 
-/// A turn with this number, if the program goes on and the machine can step its code: what it came to.
+/// Takes the turn of this number, and returns its result. `None` if the program has ended or the machine
+/// cannot step its code.
 pub fn take_turn(
     alloc: Global,
     code: &Code,

@@ -1,4 +1,4 @@
-//! The generated file, and the line that sums its run up.
+//! Tests of the generated file, and of the summary line of its run.
 
 use golf_base::List;
 use golf_command_sample::{Summary, sample_file, summary_line};

@@ -1,4 +1,4 @@
-//! Rows of words that stand for a line. Between two words of a row is one `|`.
+//! Tests of rows of words that stand for a command line. There is one `|` between two words of a row.
 
 use golf_command_words::{CommandLine, parse};
 use golf_run_schedules::{RunOptions, Schedule};
@@ -6,7 +6,7 @@ use std::alloc::Global;
 use std::process::Abort;
 use std::test::Fail;
 
-/// The line that a row stands for, if any.
+/// Returns the command line that a row stands for, or `None`.
 pub(crate) fn line(alloc: Global, row: &str) -> Result<Option<CommandLine>, Fail> {
     let mut words = Vec::new(alloc);
     for word in row.split('|') {
@@ -15,7 +15,7 @@ pub(crate) fn line(alloc: Global, row: &str) -> Result<Option<CommandLine>, Fail
     Ok(parse(alloc, &words)?)
 }
 
-// The options of a run line.
+// The options of a row that stands for a run.
 fn options(alloc: Global, row: &str) -> Result<RunOptions, Fail> {
     match line(alloc, row)? {
         Some(CommandLine::Run(options)) => Ok(options),
@@ -23,10 +23,10 @@ fn options(alloc: Global, row: &str) -> Result<RunOptions, Fail> {
     }
 }
 
-// A row, and its turns, its turns between collections, its markers, and whether it recovers.
+// A row, the turns of its run, the turns between its collections, its markers, and whether it recovers.
 type Run<'a> = (&'a str, u32, Option<u32>, u32, bool);
 
-// These are run lines that rotate and give no reasons, with these numbers.
+// Fails the test unless these rows stand for runs with these options, which rotate and give no reasons.
 fn are_runs(rt: &impl Abort, alloc: Global, rows: &[Run<'_>]) -> Result<(), Fail> {
     for (row, turns, every, markers, recover) in rows {
         let got = options(alloc, *row)?;
@@ -127,7 +127,7 @@ fn numbers_go_to_the_ends_of_their_ranges(rt: HostRuntime) -> Result<(), Fail> {
     are_runs(&rt, rt.alloc(), &RANGES)
 }
 
-// The seed of a run line, and its markers.
+// The seed of a run, and its markers, or `None` without a seed.
 fn seed(alloc: Global, row: &str) -> Result<Option<(u64, u32)>, Fail> {
     let got = options(alloc, row)?;
     match &got.schedule {
@@ -144,7 +144,7 @@ fn a_seed_may_be_any_number_of_sixty_four_bits(rt: HostRuntime) -> Result<(), Fa
     Ok(())
 }
 
-// Whether a row is a run line by these choices.
+// Whether a row stands for a run by these choices.
 fn has_choices(alloc: Global, row: &str, wanted: &[u64]) -> Result<bool, Fail> {
     let got = options(alloc, row)?;
     match &got.schedule {
@@ -160,7 +160,7 @@ fn choices_are_the_numbers_as_written(rt: HostRuntime) -> Result<(), Fail> {
     Ok(())
 }
 
-/// What a line without options is.
+/// A command line without options.
 #[derive(Clone, Copy, Debug, PartialEq, Eq)]
 enum Kind {
     Generate(u32),
@@ -168,7 +168,7 @@ enum Kind {
     Meaning,
 }
 
-// What a row is, if it is a line without options.
+// The command line without options that a row stands for, or `None`.
 fn kind_of(alloc: Global, row: &str) -> Result<Option<Kind>, Fail> {
     match line(alloc, row)? {
         Some(CommandLine::Generate(number)) => Ok(Some(Kind::Generate(number))),
@@ -178,7 +178,7 @@ fn kind_of(alloc: Global, row: &str) -> Result<Option<Kind>, Fail> {
     }
 }
 
-// These rows are these lines.
+// Fails the test unless these rows stand for these command lines.
 fn are(rt: &impl Abort, alloc: Global, rows: &[(&str, Kind)]) -> Result<(), Fail> {
     for (row, wanted) in rows {
         assert!(rt; kind_of(alloc, *row)? == Some(*wanted), "{row}");

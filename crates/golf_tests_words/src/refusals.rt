@@ -1,4 +1,4 @@
-//! Rows of words that stand for no line.
+//! Tests of rows of words that stand for no command line.
 
 use crate::lines::line;
 use golf_command_words::parse;
@@ -6,7 +6,7 @@ use std::alloc::Global;
 use std::process::Abort;
 use std::test::Fail;
 
-// Each of these ends, after this prefix, is a row that stands for no line.
+// Fails the test unless each of these ends, after this front, is a row that stands for no command line.
 fn refuses(rt: &impl Abort, alloc: Global, front: &str, ends: &[&str]) -> Result<(), Fail> {
     for end in ends {
         let row = format!(in alloc; "{front}{end}")?;

@@ -1,10 +1,10 @@
-//! Schedules and the events of a run.
+//! Tests of schedules and of the events of a run.
 
 use golf_base::List;
 use golf_run_schedules::{Event, Events, Schedule};
 use std::test::Fail;
 
-// Whether the events are these and no more.
+// Whether the events are exactly these.
 fn are(events: Events, wanted: &[Event]) -> bool {
     let mut events = events;
     for event in wanted {
@@ -21,7 +21,7 @@ fn rotate_gives_the_numbers_from_0(rt: HostRuntime) {
     assert!(rt; are(events, &[Event::Turn(0), Event::Turn(1), Event::Turn(2)]));
 }
 
-// The members of the congruence were worked out apart, in whole numbers.
+// The members of the congruence were computed apart from this code, with whole numbers.
 #[test]
 fn seed_0_begins_with_167951807(rt: HostRuntime) {
     let events = Events::new(Schedule::Seed(0), 3, None);

@@ -1,4 +1,4 @@
-//! The texts that the program makes and the numbers of its statuses, each as a literal.
+//! Tests of the texts of the program, and of the numbers of its statuses. Each expected text is a literal.
 
 use golf_base::{GoroutineId, List, ObjectId};
 use golf_data::{Ending, Entry, PanicKind, Report, WaitKind};
@@ -39,7 +39,7 @@ goroutine 2: sync.RWMutex.Lock at line 3, started at line 4
 goroutine 2: sync.Cond.Wait at line 3, started at line 4
 ";
 
-// A report of a goroutine for each way of waiting.
+// Fails the test unless the report of a goroutine is written so, for each kind of wait.
 fn report_is_written_so(rt: &impl Abort, alloc: Global) -> Result<(), Fail> {
     let mut reported = List::new(alloc);
     for wait in WAITS.iter() {
@@ -62,7 +62,7 @@ fn report_is_written_so(rt: &impl Abort, alloc: Global) -> Result<(), Fail> {
     Ok(())
 }
 
-// Each panic and each fatal error of goroutine 3 on line 5.
+// The line of each panic and each fatal error of goroutine 3 on line 5.
 const FAULTS: [(PanicKind, &str); 16] = [
     (PanicKind::Custom(0), "panic: lost (goroutine 3, line 5)\n"),
     (
@@ -127,7 +127,7 @@ const FAULTS: [(PanicKind, &str); 16] = [
     ),
 ];
 
-// A text is this one.
+// Fails the test unless the text is this one.
 fn is_written_so(rt: &impl Abort, text: &List<u8>, wanted: &str) {
     is_fixed_so(rt, text.as_slice(), wanted);
 }
@@ -178,7 +178,7 @@ fn lines_with_numbers_are_written_so(rt: &impl Abort, alloc: Global) -> Result<(
     Ok(())
 }
 
-// A text of bytes is this one.
+// Fails the test unless these bytes are this text.
 fn is_fixed_so(rt: &impl Abort, text: &[u8], wanted: &str) {
     assert_eq!(rt; text, wanted.as_bytes());
 }

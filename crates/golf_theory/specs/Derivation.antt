@@ -7,6 +7,6 @@ module _ {A : Type 0} (Follows : List A → A → Type 0) where
   IsDerivation [] = Unit {0}
   IsDerivation (x ∷ earlier) = Follows earlier x × IsDerivation earlier
 
-  -- a derivation ends with it
+  -- some derivation ends with x
   abbrev pub Derived : A → Type 0
   Derived x = (earlier : List A) × IsDerivation (x ∷ earlier)

@@ -22,13 +22,13 @@ abbrev pub FindOnly : Type 0 → Type 0
 FindOnly X = (p : ℕ → Bool) (k : ℕ) (es : List (ℕ × X)) → (p k ≡ true → find k (only p es) ≡ find k es)
     × (p k ≡ false → find k (only p es) ≡ None)
 
--- a cut goes with each change
+-- a cut commutes with each change
 abbrev pub OnlyGoes : Type 0 → Type 0
 OnlyGoes X = (p : ℕ → Bool) (k : ℕ) (v : X) (es : List (ℕ × X)) → (only p (put k v es) ≡ put k v (only p es))
     × (p k ≡ true → only p (add k v es) ≡ add k v (only p es))
     × ((f : ℕ → X → X) → only p (map_values f es) ≡ map_values f (only p es))
 
--- the keys that pass a test are those of the entries that do
+-- the keys that pass a test are exactly the keys of the entries that pass it
 abbrev pub KeysPass : Type 0 → Type 0
 KeysPass X = (p : ℕ → X → Bool) (k : ℕ) (es : List (ℕ × X)) → In k (keys_where p es)
     ↔ ((x : X) × Entry es k x × (p k x ≡ true))
@@ -37,12 +37,12 @@ KeysPass X = (p : ℕ → X → Bool) (k : ℕ) (es : List (ℕ × X)) → In k 
 abbrev pub EntriesFound : Type 0 → Type 0
 EntriesFound X = (k : ℕ) (x : X) (es : List (ℕ × X)) → IsRising es → Entry es k x ↔ (find k es ≡ Some x)
 
--- keys that rise go on rising
+-- keys that rise still rise after each change
 abbrev pub KeysRise : Type 0 → Type 0
 KeysRise X = (p : ℕ → Bool) (k : ℕ) (v : X) (es : List (ℕ × X)) → IsRising es → IsRising (put k v es)
     × IsRising (only p es) × (AllBelow k es → IsRising (add k v es))
 
--- of two sets that have the roots and are closed under the steps, what is reached is the least
+-- the reached set has the roots, is closed under the steps, and lies in each set that does both
 abbrev pub ReachedLeast : Type 0 → Type 0
 ReachedLeast X = (leads : X → X → Bool) (roots : List X) →
     ((x : X) → In x roots → Reached (λ y. In y roots) (λ q y. leads q y ≡ true) x)
@@ -52,17 +52,17 @@ ReachedLeast X = (leads : X → X → Bool) (roots : List X) →
     → ((q x : X) → test q ≡ true → leads q x ≡ true → test x ≡ true) → (x : X)
     → Reached (λ y. In y roots) (λ q y. leads q y ≡ true) x → test x ≡ true)
 
--- the computed least set of a rule that grows and gives candidates alone is what the rule derives
+-- the computed least set is exactly what the rule derives, if the rule is monotone and derives candidates only
 abbrev pub LeastDerived : Type 0 → Type 0
 LeastDerived X = (rule : List X → X → Bool) (candidates : List X)
     → ((xs ys : List X) (x : X) → ((y : X) → In y xs → In y ys) → rule xs x ≡ true → rule ys x ≡ true)
     → ((xs : List X) (x : X) → ((y : X) → In y xs → In y candidates) → rule xs x ≡ true → In x candidates)
     → (x : X) → In x (least rule candidates) ↔ Derived (λ xs y. rule xs y ≡ true) x
 
--- a list in which each number stands at most as often as its word says is no longer than the words' sum
+-- a list in which each number occurs at most as often as its word says is no longer than the words' sum
 abbrev pub Counted : Type 0
 Counted = (xs words : List ℕ) → ((x : ℕ) → times x xs ≤ get_or words x 0) → length xs ≤ sum words
 
--- a number is a member exactly if it stands at least once, and exactly if the test says so
+-- a number is a member exactly when it occurs at least once, and exactly when the test says so
 abbrev pub MembersCount : Type 0
 MembersCount = (x : ℕ) (xs : List ℕ) → (In x xs ↔ (1 ≤ times x xs)) × (In x xs ↔ (is_in x xs ≡ true))

@@ -12,7 +12,7 @@ abbrev pub find : {X : Type 0} → ℕ → List (ℕ × X) → Option X
 find k [] = None
 find k (e ∷ es) = cond (k == e.0) (Some e.1) (find k es)
 
--- the value at the key becomes v, in place; a key that is not there stays away
+-- the value at the key becomes v, in place; without an entry at the key the map is unchanged
 abbrev pub put : {X : Type 0} → ℕ → X → List (ℕ × X) → List (ℕ × X)
 put k v [] = []
 put k v (e ∷ es) = (e.0, cond (k == e.0) v e.1) ∷ put k v es
@@ -40,7 +40,7 @@ keys_where p (e ∷ es) = cond (p e.0 e.1) (e.0 ∷ keys_where p es) (keys_where
 abbrev pub keys : {X : Type 0} → List (ℕ × X) → List ℕ
 keys es = map (λ e. e.0) es
 
--- each value becomes what the function gives for its key and it
+-- each value becomes what the function gives for its key and the value
 abbrev pub map_values : {X Y : Type 0} → (ℕ → X → Y) → List (ℕ × X) → List (ℕ × Y)
 map_values f [] = []
 map_values f (e ∷ es) = (e.0, f e.0 e.1) ∷ map_values f es

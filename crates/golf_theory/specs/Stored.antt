@@ -1,7 +1,7 @@
 -- Maps and sets of numbers as lists in memory hold them: a map by places, a set in rising order.
 use Rattle.std.specs.Prelude.{ℕ, suc, cond, not, List, [], ◌∷◌, Option, Some, None, ◌==◌, nat_lt, filter}
 
--- the entries of a list of places, some of them empty, whose first place has the number k
+-- the entries of a list of places, some of them empty; the first place has the number k
 abbrev pub entries : {X : Type 0} → ℕ → List (Option X) → List (ℕ × X)
 entries k [] = []
 entries k (None ∷ xs) = entries (suc k) xs

@@ -1,4 +1,4 @@
--- What is told of a state's marking and of the goroutines that wait and are live (profile).
+-- The explanation of a state's marking, and of the waiting goroutines that are live (profile).
 use Rattle.std.specs.Prelude.{◌≡◌, ℕ, ◌+◌, List, [], ◌∷◌, ◌++◌, map, length, Option, Some, None, slice_get}
 use Rattle.golf_theory.specs.Maps.{find}
 use Rattle.golf_data.specs.declared.report.Entry.{Entry}
@@ -13,16 +13,16 @@ use Rattle.golf_why.specs.declared.explanation.Reached.{Reached}
 use Rattle.golf_why.specs.declared.explanation.Explanation.{Explanation}
 use Rattle.golf_why.specs.Members.{members_before}
 
--- how many places the certificate of the state's marking has: each place of the least closed set once
+-- the number of places of the certificate of the state's marking: each place of the least closed set once
 unfoldable pub certificate_size : State → ℕ
 certificate_size s = length (least_in_order (live_parts s))
 
--- how each sleeper is blocked, as a report would say it
+-- how each sleeper is blocked, as a report says it
 abbrev pub asleep_in : State → GraphParts → List (Option Entry)
 asleep_in s g = map (λ x. slice_get (entry_of x.goroutine.0 (find x.goroutine.0 s.goroutines)) 0) g.sleepers
 
--- what is told of a sleeper that is blocked so, by the places of its reason; nothing if it has none, since it is dead
--- then
+-- the explanation of a sleeper that is blocked so, by the places of its reason; empty without a reason, since it is
+-- then dead
 abbrev pub reached_by : GraphParts → Entry → List ℕ → List Reached
 reached_by g e [] = []
 reached_by g e (p ∷ ps) = record {
@@ -32,17 +32,17 @@ reached_by g e (p ∷ ps) = record {
   by = members_before g (p ∷ ps);
 } ∷ []
 
--- what is told of the sleeper of this number
+-- the explanation of the sleeper of this number
 abbrev pub reached_at : GraphParts → ℕ → Option Entry → List Reached
 reached_at g k None = []
 reached_at g k (Some e) = reached_by g e (reason_in g k)
 
--- what is told of those from this number on
+-- the explanations of the sleepers from this number on
 abbrev pub reached_from : GraphParts → ℕ → List (Option Entry) → List Reached
 reached_from g k [] = []
 reached_from g k (o ∷ os) = reached_at g k o ++ reached_from g (k + 1) os
 
--- the goroutines other than 0 that wait and are live, in rising number, and what leads to each
+-- the goroutines other than 0 that wait and are live, in rising order of number, each with the way to it
 unfoldable pub reached_in : State → List Reached
 reached_in s = reached_from (live_parts s) 0 (asleep_in s (live_parts s))
 
@@ -50,14 +50,14 @@ abbrev pub listed : Option Reached → List Reached
 listed None = []
 listed (Some r) = r ∷ []
 
--- it was made from this state
+-- the explanation was made from this state
 pub record Explains (s : State) (e : Explanation) : Type 0 where
   pub graph : e.graph ≡ live_parts s
   pub asleep : e.asleep ≡ asleep_in s e.graph
   pub reasons : HasReasons e.graph e.reasons
   pub places : e.places ≡ certificate_size s
 
--- the reasons are those of its graph, and each sleeper has its entry
+-- the reasons are those of the explanation's graph, and each sleeper has its entry
 pub record IsReady (e : Explanation) : Type 0 where
   pub reasons : HasReasons e.graph e.reasons
   pub entries : length e.asleep ≡ sleeper_count e.graph

@@ -1,4 +1,4 @@
--- What is promised of the definitions.
+-- Laws on explanations.
 use Rattle.std.specs.Prelude.{◌≡◌, ℕ, List, [], ◌∷◌, None, slice_get, unwrap_or}
 use Rattle.golf_theory.specs.Maps.{find}
 use Rattle.golf_data.specs.declared.report.Entry.{Entry}
@@ -15,11 +15,11 @@ use Rattle.golf_why.specs.declared.explanation.Reached.{Reached}
 use Rattle.golf_why.specs.Members.{members_before}
 use Rattle.golf_why.specs.Explaining.{asleep_in, reached_at}
 
--- what is told of the sleeper of this number
+-- the explanation of the sleeper of this number
 abbrev pub told : State → ℕ → List Reached
 told s k = reached_at (live_parts s) k (unwrap_or (slice_get (asleep_in s (live_parts s)) k) None)
 
--- how it is blocked, as a report would say it, and what its one reason has before it
+-- the explanation says how the goroutine is blocked, as a report says it, and names the members of its one reason
 pub record IsToldOf (s : State) (k g : ℕ) : Type 0 where
   pub entry : Entry
   pub blocked : entry_of g (find g s.goroutines) ≡ entry ∷ []
@@ -32,12 +32,12 @@ pub record IsToldOf (s : State) (k g : ℕ) : Type 0 where
     by = members_before (live_parts s) places;
   } ∷ []
 
--- of a goroutine that is live, and of no other
+-- the explanation of a sleeper is there if the sleeper is live, and else empty
 pub record TellsLive (s : State) (k g : ℕ) : Type 0 where
   pub live : Live s (Node.AGoroutine g) → IsToldOf s k g
   pub dead : (Live s (Node.AGoroutine g) → ⊥) → told s k ≡ []
 
--- the sleepers of which something is told are the live ones
+-- a sleeper has an explanation exactly when it is live
 abbrev pub LiveAreTold : Type 0
 LiveAreTold = (s : State) → Numbered s → IsWhole s → IsInRange (live_parts s) → (k g : ℕ) → IsSleeper s k g
     → TellsLive s k g

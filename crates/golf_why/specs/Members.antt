@@ -1,4 +1,4 @@
--- What the places of a reason stand for.
+-- The objects and goroutines of the places of a reason.
 use Rattle.std.specs.Prelude.{ℕ, ◌-◌, ◌<◌, nat_lt, cond, List, map, take, length, slice_get, unwrap_or}
 use Rattle.golf_model.specs.declared.graph.GraphParts.{GraphParts}
 use Rattle.golf_model.specs.Graph.{node_count, sleeper_count, goroutine_at}
@@ -14,11 +14,11 @@ member_at g p =
     (member.Object (unwrap_or (slice_get g.numbers p) (record { 0 = 0 })))
     (member.Goroutine (unwrap_or (goroutine_at g (p - node_count g)) (record { 0 = 0 })))
 
--- those of all places but the last
+-- the members of all places except for the last one
 abbrev pub members_before : GraphParts → List ℕ → List Member
 members_before g places = map (member_at g) (take (length places - 1) places)
 
--- what the link places is there
+-- the link places a place of the graph
 abbrev pub IsWithin : GraphParts → Link → Type 0
 IsWithin g (Root node) = node < node_count g
 IsWithin g (Child from to) = to < node_count g

@@ -1,4 +1,5 @@
-//! A certificate that was verified, and why each goroutine that waits is live.
+//! An explanation of a collection: a certificate that was verified, and the reason for which each waiting
+//! goroutine is live.
 
 ghost use Rattle.std.specs.Prelude.{◌≡◌, ◌<◌, IfOk, length, slice_get, None, unwrap_or};
 ghost use Rattle.golf_theory.specs.Maps.{find};
@@ -27,14 +28,14 @@ pub struct Reached {
     pub wait: WaitKind,
     /// The line of the operation at which it is blocked.
     pub line: u32,
-    /// The shortest way to it, from a root of the collection on: each refers to the next, or awakens
-    /// it, and the last one awakens the goroutine. Of those that are as near to the roots each is the
-    /// least that does so, objects before goroutines.
+    /// The shortest way from a root of the collection to the goroutine. Each member refers to the next one,
+    /// or wakes it, and the last one wakes the goroutine. If several members are equally near to the roots,
+    /// the one with the smallest number is taken, objects before goroutines.
     pub by: List<Member>,
 }
 
-/// What a collection can tell of the goroutines that wait and are live. It stays what it is while
-/// the collection changes the state: some 100 bytes an object and a blocked goroutine.
+/// The explanation of one collection. It stays the same while the collection changes the state. It takes
+/// about 100 bytes for each object and each blocked goroutine.
 #[derive(Drop)]
 pub struct Explanation {
     graph: Graph,
@@ -43,7 +44,7 @@ pub struct Explanation {
     places: u32,
 }
 
-// How many places the certificate of a marking has. It was verified.
+// How many places the certificate of a marking has. The certificate is verified.
 fn certified(alloc: Global, graph: &Graph, marked: &Marked) -> Result<u32, Memory>
     requires { MarksLeast graph.now marked.now }
     ensures { IfOk result (λ places. places ≡ length (least_in_order graph.now)) }
@@ -55,7 +56,7 @@ fn certified(alloc: Global, graph: &Graph, marked: &Marked) -> Result<u32, Memor
     }
 }
 
-// What a report would say of a goroutine; nothing of one that is not blocked.
+// The entry of a report on a goroutine, or `None` if the goroutine is not blocked.
 fn entry(state: &State, g: GoroutineId) -> Option<Entry>
     ensures { result ≡ slice_get (entry_of g.0 (find g.0 state.now.goroutines)) 0 }
 {
@@ -71,7 +72,7 @@ fn entry(state: &State, g: GoroutineId) -> Option<Entry>
     }
 }
 
-// How each sleeper of a graph is blocked.
+// For each sleeper of a graph how it is blocked.
 fn asleep(alloc: Global, state: &State, graph: &Graph) -> Result<List<Option<Entry>>, Memory>
     ensures { IfOk result (λ entries. entries ≡ asleep_in state.now graph.now) }
 {
@@ -83,12 +84,12 @@ fn asleep(alloc: Global, state: &State, graph: &Graph) -> Result<List<Option<Ent
 }
 
 impl Explanation {
-    /// Makes the live graph of a state, marks it, certifies the marking and verifies the certificate,
-    /// and finds the reasons of all sleepers, in time linear in the graph but for a binary search
-    /// for each sleeper.
+    /// Explains a collection of a state. It makes and marks the live graph, certifies the marking, verifies
+    /// the certificate, and finds the reasons of all sleepers. The time is linear in the graph, except for
+    /// a binary search for each sleeper.
     ///
-    /// The only error is `Memory`, which also comes if objects and blocked goroutines together are too
-    /// many for a `u32`.
+    /// The only error is `Memory`, also if objects and blocked goroutines together are too many for a
+    /// `u32`.
     pub fn new(alloc: Global, state: &State) -> Result<Explanation, Memory>
         requires { IsWhole state.now }
         ensures explains { IfOk result (Explains state.now) }
@@ -107,24 +108,24 @@ impl Explanation {
         })
     }
 
-    /// How many objects and goroutines the certificate places: the live objects, and the live ones of
-    /// the blocked goroutines other than goroutine 0.
+    /// Returns how many places the certificate has: the live objects, and the blocked goroutines other than
+    /// goroutine 0 that are live.
     pub fn places(&self) -> u32
         ensures { result ≡ self.now.places }
     {
         self.places
     }
 
-    /// How many goroutines other than goroutine 0 are blocked. They are counted from 0, in rising
-    /// number.
+    /// Returns how many goroutines other than goroutine 0 are blocked. They are numbered from 0, in rising
+    /// order of goroutine.
     pub fn sleepers(&self) -> u32
         ensures { result ≡ sleeper_count self.now.graph }
     {
         self.graph.sleepers()
     }
 
-    /// What leads to this blocked goroutine; none if it is dead. The time is linear in the length of
-    /// the way. The only error is `Memory`.
+    /// Returns the way to this blocked goroutine, or `None` if it is dead. The time is linear in the length
+    /// of the way. The only error is `Memory`.
     pub fn reached(&self, alloc: Global, sleeper: u32) -> Result<Option<Reached>, Memory>
         requires ready { IsReady self.now }
         requires sleeper { sleeper < sleeper_count self.now.graph }

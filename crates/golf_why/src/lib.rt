@@ -1,5 +1,5 @@
-//! Why goroutines that wait are live: before a collection a certificate of its marking is made and
-//! verified, and for each such goroutine the shortest way by which it is reached.
+//! Explains why waiting goroutines are live. Before a collection it makes and verifies a certificate of the
+//! marking. For each waiting goroutine that is live it finds the shortest way from a root.
 #![tactic(auto)]
 
 mod explanation;

@@ -1,4 +1,6 @@
-//! What a reason names.
+//! The objects and goroutines that a reason names.
+//!
+//! A node is an object, and a sleeper is a goroutine.
 
 ghost use Rattle.std.specs.Prelude.{◌≡◌, ◌-◌, ◌<◌, IfOk};
 ghost use Rattle.golf_model.specs.Graph.{node_count};
@@ -25,7 +27,7 @@ fn object(graph: &Graph, node: u32) -> Member
     Member::Object(graph.number_of(node))
 }
 
-// What a link places.
+// The object or goroutine that a link places.
 fn placed(graph: &Graph, link: Link) -> Member
     requires { IsWithin graph.now link }
     ensures { result ≡ member_at graph.now (placed_by graph.now link) }
@@ -38,7 +40,7 @@ fn placed(graph: &Graph, link: Link) -> Member
     }
 }
 
-/// What the links of a reason place but for the last one, in their order.
+/// Returns the members that the links of a reason place, in their order, without the last one.
 pub(crate) fn before_last(
     alloc: Global,
     graph: &Graph,

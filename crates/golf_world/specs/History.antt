@@ -1,4 +1,4 @@
--- A history: whose turns they were, and their numbers.
+-- A history: the passes and the numbers of its turns.
 use Rattle.std.specs.Prelude.{◌≡◌, ℕ, ◌+◌, ◌*◌, ◌%◌, ◌<◌, ◌≤◌, ◌==◌, if◌then◌else◌, false, List, [], ◌∷◌, map, take}
 use Rattle.std.specs.Prelude.{length, Some, None, slice_get}
 use Rattle.golf_data.specs.declared.code.Code.{Code}
@@ -23,11 +23,11 @@ entry p number = record { pass = p; number = number }
 abbrev pub turns : List HistoryEntry → List Event
 turns es = map (λ e. Event.Turn e.number) es
 
--- the state after these entries, in the run whose collections free and remove nobody
+-- the state after these entries, in the run whose collections remove no goroutine
 unfoldable pub after : Code → List HistoryEntry → State
 after code es = real_run code (turns es) false
 
--- the reports of its collections
+-- the reports of the collections of that run
 unfoldable pub reports_after : Code → List HistoryEntry → List Report
 reports_after code es = real_reports code (turns es) false
 
@@ -42,11 +42,11 @@ stops code es = stops_by (λ s. real_collect s false (sets_finalisers code)) cod
 unfoldable pub booked : Code → List HistoryEntry → Book
 booked code es = books code new_book (stops code es)
 
--- how many goroutines can run then
+-- how many goroutines can run after these entries
 abbrev pub count : Code → List HistoryEntry → ℕ
 count code es = length (runnable (after code es))
 
--- the number with which a pass takes the turn at a place, if so many can run
+-- the number with which a pass takes the turn at a place t, if m goroutines can run
 abbrev pub number_at : ℕ → ℕ → ℕ → ℕ
 number_at p t m = (p + t) % m + m * t
 
@@ -61,7 +61,7 @@ pub record IsEntry (code : Code) (passes : ℕ) (before : List HistoryEntry) (e 
 abbrev pub IsHistory : Code → ℕ → List HistoryEntry → Type 0
 IsHistory code passes es = (t : ℕ) (e : HistoryEntry) → slice_get es t ≡ Some e → IsEntry code passes (take t es) e
 
--- what is guarded of a program: state, book and reports are those of the run of the entries
+-- the invariant of an execution: state, book and reports are those of the run of the entries
 pub record IsExecution (code : Code) (passes : ℕ) (s : State) (b : Book) (es : List HistoryEntry)
     (rs : List Report) : Type 0 where
   pub state : s ≡ after code es
@@ -75,7 +75,7 @@ pub record IsExecution (code : Code) (passes : ℕ) (s : State) (b : Book) (es :
   pub few : length es ≤ most_entries
   pub narrow : length s.goroutines ≤ length es + 2
 
--- the places and numbers of the entries of a pass, from a place on
+-- the places and numbers of the entries of a pass, from the place t on
 abbrev pub own_from : ℕ → ℕ → List HistoryEntry → List (ℕ × ℕ)
 own_from p t [] = []
 own_from p t (e ∷ es) = if e.pass == p then (t, e.number) ∷ own_from p (t + 1) es else own_from p (t + 1) es

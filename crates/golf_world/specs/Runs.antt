@@ -8,8 +8,8 @@ use Rattle.golf_model.specs.Collecting.{sets_finalisers}
 use Rattle.golf_world.specs.declared.history.History.{History}
 use Rattle.golf_world.specs.History.{most_entries, turns, IsHistory}
 
--- the state and the reports are those of the run of the entries' numbers whose collections free and remove nobody; it
--- prints, ends and reports as the plain run of these numbers; and it has ended or has as many turns as it may have
+-- State and reports are those of the run of the entries' numbers whose collections remove no goroutine. It prints, ends
+-- and reports as the plain run of these numbers. It has ended, or has as many turns as a history may have.
 pub record IsWholeRun (code : Code) (passes : ℕ) (s : State) (h : History) : Type 0 where
   pub state : s ≡ real_run code (turns h.entries) false
   pub reports : h.reports ≡ real_reports code (turns h.entries) false

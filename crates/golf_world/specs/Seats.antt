@@ -1,4 +1,4 @@
--- What the seat of a pass knows.
+-- The account of the seat of a pass.
 use Rattle.std.specs.Prelude.{◌≡◌, ℕ, List, [], ◌∷◌, Option, Some, None}
 use Rattle.atomic_table.specs.Seated.{TableId}
 use Rattle.atomic_table.specs.declared.shared.Seat.{Seat}
@@ -22,7 +22,7 @@ abbrev pub mine_of : Option SeatOf → List (ℕ × ℕ)
 mine_of None = []
 mine_of (Some s) = mine_in s.me.0.held
 
--- it is there, of this table, and stands for this pass alone
+-- the seat is there, belongs to this table, and has only this pass
 abbrev pub IsSeatOfPass : TableId → ℕ → ℕ → Option SeatOf → Type 0
 IsSeatOfPass table passes p None = ⊥
 IsSeatOfPass table passes p (Some s) = (s.table_id ≡ table)

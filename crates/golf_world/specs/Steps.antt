@@ -1,4 +1,4 @@
--- What clauses say of passes and of steps.
+-- Words of clauses on passes and steps.
 use Rattle.std.specs.Prelude.{◌≡◌, ◌↔◌, ℕ, ◌<◌, true, false, Option, Result, List, [], ◌∷◌, ◌++◌, length, Some, None}
 use Rattle.std.specs.Prelude.{Ok, Err}
 use mathlib.Core.List.{IsPrefix}
@@ -21,7 +21,7 @@ abbrev pub place_in : List FrameView → ℕ
 place_in [] = 0
 place_in (f ∷ fs) = f.at
 
--- without a report the turn asks for no collection, and is all that happened; with one the collection followed
+-- without a report the turn asked for no collection, and nothing else happened; with one the collection followed
 abbrev pub HasAdvanced : Code → ℕ → Option Report → State → State → Book → Book → Type 0
 HasAdvanced code n None s t b c = (wants_collection code s n ≡ false) × (t ≡ step code s n) × (c ≡ b)
 HasAdvanced code n (Some r) s t b c =
@@ -35,7 +35,7 @@ pub record Pass : Type 0 where
   pub seen : List HistoryEntry
   pub mine : List (ℕ × ℕ)
 
--- the history, and what a turn of the pass makes of it
+-- the history before and after a turn of the pass with this result
 abbrev pub Does : Code → ℕ → Stepped → List HistoryEntry → List HistoryEntry → Type 0
 Does code p (Stepped.Turned at g number) old new =
     (at ≡ length old) × (length old < most_entries) × (ending (after code old) ≡ None)
@@ -44,8 +44,8 @@ Does code p (Stepped.Turned at g number) old new =
 Does code p (Stepped.Ended e) old new = (ending (after code old) ≡ Some e) × (new ≡ old)
 Does code p Stepped.Spent old new = (ending (after code old) ≡ None) × (length old ≡ most_entries) × (new ≡ old)
 
--- the pass took a turn: what it had seen is a prefix of what stood before, its entry stands last, and is one of its
--- own; its goroutine is the one that the number picks
+-- The pass took a turn. The history that it had seen is a prefix of `before`. Its entry is the last one, and one of its
+-- own. Its goroutine is the one that the number picks.
 pub record HasTurned (code : Code) (old new : Pass) (at : ℕ) (g : GoroutineId) (number : ℕ) : Type 0 where
   pub before : List HistoryEntry
   pub later : IsPrefix old.seen before
@@ -57,13 +57,13 @@ pub record HasTurned (code : Code) (old new : Pass) (at : ℕ) (g : GoroutineId)
   pub goes : ending (after code before) ≡ None
   pub whose : whose_turn (after code before) number ≡ Some g.0
 
--- the run of what the pass has now seen has ended, and it has no entry more
+-- the run of the history that the pass has now seen has ended, and the pass has no new entry
 pub record HasEnded (code : Code) (old new : Pass) (e : Ending) : Type 0 where
   pub later : IsPrefix old.seen new.seen
   pub mine : new.mine ≡ old.mine
   pub ends : ending (after code new.seen) ≡ Some e
 
--- it has not, and there are as many entries as there may be
+-- that run has not ended, and the history is full
 pub record IsSpent (code : Code) (old new : Pass) : Type 0 where
   pub later : IsPrefix old.seen new.seen
   pub mine : new.mine ≡ old.mine
@@ -82,8 +82,8 @@ IsTurn (Ok (Stepped.Ended e)) at number = ⊥
 IsTurn (Ok Stepped.Spent) at number = ⊥
 IsTurn (Err m) at number = ⊥
 
--- when each answer comes: a turn exactly if the pass has one entry more; else an ending exactly if the run of what it
--- has seen has ended, and spent exactly if that has not ended and has as many entries as there may be
+-- When each answer comes. A turn: exactly when the pass has one more entry. Otherwise an ending: exactly when the run
+-- of the seen history has ended. Spent: exactly when it has not ended and the history is full.
 pub record ComesExactly (code : Code) (r : Result Stepped Memory) (old new : Pass) : Type 0 where
   pub turned : (at number : ℕ) → IsTurn r at number ↔ (new.mine ≡ old.mine ++ (at, number) ∷ [])
   pub ended : (e : Ending) → (r ≡ Ok (Stepped.Ended e))
@@ -91,16 +91,16 @@ pub record ComesExactly (code : Code) (r : Result Stepped Memory) (old new : Pas
   pub spent : (r ≡ Ok Stepped.Spent) ↔ ((new.mine ≡ old.mine) × (ending (after code new.seen) ≡ None)
       × (length new.seen ≡ most_entries))
 
--- without memory nothing was done: the run of what the pass has seen has not ended and could go on
+-- without memory nothing was done: the run of the seen history has not ended and could go on
 pub record HasFailed (code : Code) (old new : Pass) : Type 0 where
   pub mine : new.mine ≡ old.mine
   pub goes : ending (after code new.seen) ≡ None
   pub few : length new.seen < most_entries
 
--- what the pass has seen is a prefix of the history, and its entries in the history are its own, in their order
+-- the pass has seen a prefix of the history, and its entries there are its own, in their order
 abbrev pub IsPassIn : List HistoryEntry → Pass → Type 0
 IsPassIn es p = IsPrefix p.seen es × (own p.number es ≡ p.mine)
 
--- the passes that a world begins with
+-- the passes of a new world
 abbrev pub IsNewPass : ℕ → Pass → Type 0
 IsNewPass n p = (p.number ≡ n) × (p.seen ≡ []) × (p.mine ≡ [])

@@ -1,4 +1,6 @@
 //! The program that passes step: its state, its book of reports, and the history of its turns.
+//!
+//! The invariant: state, book and reports are those of the run of the history's entries.
 
 ghost use Rattle.std.specs.Prelude.{◌≡◌, ◌+◌, ◌<◌, ◌≤◌, ◌++◌, [], IfOk, OnErr, None, length, option_to_list};
 ghost use Rattle.golf_data.specs.Places.{HasPlaces};
@@ -46,7 +48,7 @@ fn how_many(state: &State) -> u64
     state.runnable_count() as u64
 }
 
-// The number with which a pass takes the turn at a place, if so many can run.
+// The number with which a pass takes the turn at a place, if `count` goroutines can run.
 fn number_of(pass: u32, at: usize, count: u64) -> u64
     requires some { 0 < count }
     requires few { count ≤ most_entries + 2 }
@@ -69,7 +71,7 @@ fn add_report(reports: &mut Room<Report>, report: Option<Report>)
 impl<W: WorldName> Execution<W> {
     ghost use Rattle.golf_world.specs.History.{after, reports_after, IsHistory};
 
-    /// No entry yet.
+    /// Returns the execution without an entry.
     pub(crate) fn new(alloc: Global, state: State) -> Execution<W>
         requires state { state ≡ start_of W.code }
         requires places { HasPlaces W.code }
@@ -84,8 +86,8 @@ impl<W: WorldName> Execution<W> {
         }
     }
 
-    /// A turn of this pass, and its entry, unless the program has ended or the history is full. On
-    /// `Memory` all is as before.
+    /// Takes a turn of this pass and adds its entry, unless the program has ended or the history is full.
+    /// On `Err`, which is `Memory`, nothing has changed.
     pub(crate) fn take_turn<R: Threads + Sync>(
         &mut self,
         rt: &R,
@@ -122,7 +124,7 @@ impl<W: WorldName> Execution<W> {
         })
     }
 
-    /// The state, and the history.
+    /// Returns the state and the history.
     pub(crate) fn into_parts(self) -> (State, History)
         ensures entries { result.1.entries ≡ self }
         ensures state { result.0 ≡ after W.code result.1.entries }

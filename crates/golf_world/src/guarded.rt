@@ -1,4 +1,6 @@
-//! What the lock of a world keeps.
+//! The data that the lock of a world guards.
+//!
+//! Only the thread that holds the lock changes it.
 
 ghost use Rattle.std.specs.Prelude.{◌≡◌, ◌<◌, [], IfOk, OnErr};
 ghost use mathlib.Core.List.{IsPrefix};
@@ -17,7 +19,7 @@ use std::alloc::Global;
 use std::marker::Model;
 use std::thread::Threads;
 
-/// The program, and the keeper's seat, which knows its history. Contracts see it as the history.
+/// The program, and the keeper's seat, which knows the history. Contracts see it as the history.
 #[derive(Drop)]
 pub(crate) struct Guarded<W: WorldName> {
     pub(crate) execution: Execution<W>,
@@ -45,7 +47,7 @@ impl<W: WorldName> Guarded<W> {
         Guarded { execution, keeper }
     }
 
-    /// A step of the pass.
+    /// Takes a step of the pass.
     pub(crate) fn step<R: Threads + Sync>(
         &mut self,
         rt: &R,

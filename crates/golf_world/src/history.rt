@@ -1,4 +1,4 @@
-//! The turns that the passes of a world took, in order, and what a step comes to.
+//! The history of a world: the turns that its passes took, in order. And the result of a step.
 
 use golf_base::{GoroutineId, List};
 use golf_data::{Ending, Report};
@@ -6,26 +6,25 @@ use golf_data::{Ending, Report};
 /// The most entries of a history.
 pub const MOST_ENTRIES: usize = 100_000;
 
-/// A turn: the number of the pass that took it, counted from 0, and the number that chose the
-/// goroutine.
+/// A turn: the number of the pass that took it, from 0, and the number that chose the goroutine.
 #[derive(Clone, Copy, Debug, PartialEq, Eq)]
 pub struct HistoryEntry {
     pub pass: u32,
     pub number: u64,
 }
 
-/// All turns of a world, in order, at most `MOST_ENTRIES`, and the reports of their collections.
+/// All turns of a world in order, at most `MOST_ENTRIES`, and the reports of their collections.
 #[derive(Drop)]
 pub struct History {
     pub entries: List<HistoryEntry>,
     pub reports: List<Report>,
 }
 
-/// What a step came to.
+/// The result of a step.
 #[derive(Clone, Copy, Debug, PartialEq, Eq)]
 pub enum Stepped {
-    /// This goroutine took a turn with this number; its entry stands at this place of the history,
-    /// counted from 0.
+    /// This goroutine took a turn with this number. Its entry is at the place `at` of the history, counted
+    /// from 0.
     Turned {
         at: u32,
         goroutine: GoroutineId,
@@ -33,6 +32,6 @@ pub enum Stepped {
     },
     /// The program has ended, so no turn was taken.
     Ended(Ending),
-    /// The program has not ended, and the history has its `MOST_ENTRIES` entries.
+    /// The program has not ended, but the history is full: it has `MOST_ENTRIES` entries.
     Spent,
 }

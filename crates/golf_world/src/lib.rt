@@ -1,4 +1,7 @@
-//! Threads step one program: each through a pass of its own, one at a time, so that their turns make one history.
+//! Threads step one program, each with its own pass, one at a time. Their turns make one history.
+//!
+//! - `World`, `StepPass`: the program, and the pass of one thread.
+//! - `run_world`, `run_threads`: run a program by several threads to its end.
 #![tactic(auto)]
 
 mod execution;

@@ -1,4 +1,4 @@
-//! What a caller steps a world with.
+//! The pass with which one thread steps a world.
 
 ghost use Rattle.std.specs.Prelude.{◌≡◌, ◌<◌, [], Some};
 ghost use Rattle.golf_world.specs.Rule.{pass_view};
@@ -7,8 +7,8 @@ use crate::rule::{View, WorldName};
 use atomic_table::Seat;
 use std::marker::{Model, PhantomData};
 
-/// One pass of a world, for one thread at a time. Contracts see its number, the prefix of the history that it has
-/// seen, and the places and numbers of its own entries.
+/// One pass of a world, for one thread at a time. Contracts see its number, the prefix of the history that
+/// it has seen, and the places and numbers of its own entries.
 #[derive(Drop)]
 pub struct StepPass<W: WorldName> {
     pub(crate) number: u32,
@@ -44,14 +44,14 @@ impl<W: WorldName> StepPass<W> {
         }
     }
 
-    /// The number of the pass, from 0 to one less than the number of passes.
+    /// Returns the number of the pass, from 0 up to one less than the number of passes.
     pub fn number(&self) -> u32
         ensures { result ≡ self.now.number }
     {
         self.number
     }
 
-    /// The seat of the pass.
+    /// Returns the seat of the pass.
     pub(crate) fn into_seat(self) -> Seat<(), View>
         ensures table { result.table_id ≡ W.table }
         ensures view { result.me ≡ (pass_view W.passes self.number self.mine self.seen, []) }

@@ -1,4 +1,4 @@
-//! The passes of a world: split off when it is made, and joined when it is closed.
+//! The passes of a world. It splits them off when it is made, and joins them when it is closed.
 
 ghost use Rattle.std.specs.Prelude.{◌≡◌, ◌<◌, [], IfOk, length, Some, slice_get, true, ℕ};
 ghost use Rattle.golf_theory.specs.Membership.{Every, In};
@@ -14,7 +14,7 @@ use std::alloc::Global;
 /// The table of a world, which owns its word.
 pub(crate) type OwnedTable = Table<(), View, u32, WorldRule, Global>;
 
-/// Splits the passes off, in order. On `Memory` no pass is handed back.
+/// Splits the passes off, in order. On `Memory` it returns no pass.
 pub(crate) fn split_passes<W: WorldName>(
     alloc: Global,
     table: &OwnedTable,
@@ -39,7 +39,7 @@ pub(crate) fn split_passes<W: WorldName>(
     Ok(list)
 }
 
-/// The keeper's seat, with all passes joined to it.
+/// Returns the keeper's seat, after all passes are joined to it.
 pub(crate) fn join_passes<W: WorldName>(
     table: &OwnedTable,
     mut keeper: Seat<(), View>,

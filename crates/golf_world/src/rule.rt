@@ -1,21 +1,22 @@
-//! Which world a value belongs to, and the rule of the world's table.
+//! The name of a world, and the rule of its table.
 
 use crate::history::HistoryEntry;
 use atomic_table::{Join, Play, Split, TableRule};
 use std::collections::LinkedList;
 use std::marker::{Brand, PhantomData};
 
-/// Names one world. The program picks the members at the call of a function that is generic over it.
+/// Names one world. The program chooses the members where it calls a function that is generic over the
+/// name.
 pub trait WorldName {
     ghost use Rattle.std.specs.Prelude.{ℕ};
     ghost use Rattle.atomic_table.specs.Seated.{TableId};
     ghost use Rattle.golf_data.specs.declared.code.Code.{Code};
 
-    /// Its table.
+    /// The table of the world.
     ghost table: { TableId };
-    /// How many passes it has.
+    /// The number of its passes.
     ghost passes: { ℕ };
-    /// What it runs.
+    /// The code that it runs.
     ghost code: { Code };
 }
 
@@ -29,26 +30,27 @@ impl WorldName for Brand {
     ghost code = { no_code };
 }
 
-/// A pass's number, and the places and numbers of its entries, in order.
+/// The number of a pass, and the places and numbers of its entries, in order.
 pub struct PassEntries {
     pub pass: u32,
     pub mine: LinkedList<(u32, u64)>,
 }
 
-/// What a seat knows. No value of it is ever made.
+/// The account of a seat. It is a ghost type: no value of it is ever made.
 pub struct View {
-    /// How many passes the world has.
+    /// The number of passes of the world.
     pub passes: u32,
-    /// Whether it is the keeper's, which has seen the whole history.
+    /// Whether the seat is the keeper's, which has seen the whole history.
     pub keeps: bool,
-    /// The passes that it stands for.
+    /// The passes that the seat stands for.
     pub held: LinkedList<PassEntries>,
-    /// A prefix of the history.
+    /// The prefix of the history that the seat has seen.
     pub seen: LinkedList<HistoryEntry>,
-    /// Prefixes of it that the seats which were joined to it had seen.
+    /// The prefixes that the seats joined to this one had seen.
     pub earlier: LinkedList<LinkedList<HistoryEntry>>,
 }
 
+/// The rule of the shared world: its history grows only at its end.
 pub struct WorldRule;
 
 impl TableRule<(), View, u32> for WorldRule {
@@ -59,7 +61,7 @@ impl TableRule<(), View, u32> for WorldRule {
     ghost first = { first_view };
 }
 
-/// An entry of the one pass that the seat stands for joins the history.
+/// The step that adds an entry of the one pass that the seat stands for.
 pub struct Append<W: WorldName> {
     of: PhantomData<W>,
 }
@@ -70,7 +72,7 @@ impl<W: WorldName> Play<(), View> for Append<W> {
     ghost then = { λ step me n now. AppendTells W.code step me n now };
 }
 
-/// A look at the history.
+/// The step that looks at the history.
 pub struct Look;
 
 impl Play<(), View> for Look {
@@ -79,7 +81,7 @@ impl Play<(), View> for Look {
     ghost then = { LookTells };
 }
 
-/// Passes that are split off and joined in.
+/// Splits and joins of passes.
 pub struct PassTransfer;
 
 impl Split<View> for PassTransfer {

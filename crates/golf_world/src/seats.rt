@@ -1,5 +1,5 @@
-//! Steps on the table of a world, under its lock. In each the pass's seat is joined to the keeper's and split off
-//! again.
+//! Steps on the table of a world, under its lock. Each step joins the pass's seat to the keeper's, and
+//! splits it off again.
 
 ghost use Rattle.std.specs.Prelude.{◌≡◌, ◌<◌, ◌∷◌, ◌++◌, [], None, length};
 ghost use mathlib.Core.List.{IsPrefix};
@@ -13,7 +13,7 @@ use atomic_table::{Seat, Shared};
 
 pub(crate) type SharedTable = Shared<(), View, u32, WorldRule>;
 
-/// An entry of this pass joins the history, and the pass's own.
+/// Adds an entry of this pass to the history and to the pass. Returns the seat of the pass.
 pub(crate) fn append<W: WorldName>(
     table: &SharedTable,
     keeper: &mut Seat<(), View>,
@@ -38,7 +38,7 @@ pub(crate) fn append<W: WorldName>(
     table.split_seat::<PassTransfer>(keeper)
 }
 
-/// The pass sees the history.
+/// Lets the pass see the whole history. Returns the seat of the pass.
 pub(crate) fn look<W: WorldName>(
     table: &SharedTable,
     keeper: &mut Seat<(), View>,

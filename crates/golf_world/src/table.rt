@@ -1,4 +1,6 @@
 //! The table of a world.
+//!
+//! It is made before the world that uses it.
 
 // `specs/Names.antt` names the struct, so this file must not name that file.
 ghost use Rattle.std.specs.Prelude.{◌≡◌, ◌<◌, ◌≤◌, [], IfOk};
@@ -10,7 +12,7 @@ use atomic_table::{Seat, Table};
 use golf_base::Memory;
 use std::alloc::Global;
 
-/// A table of one word, with its first seat, which no world uses yet.
+/// A table of one word with its first seat, for a world that is still to be made.
 #[derive(Drop)]
 pub struct WorldTable {
     pub(crate) table: OwnedTable,
@@ -25,7 +27,7 @@ pub struct WorldTable {
 }
 
 impl WorldTable {
-    /// A table for so many passes, 1 to 16.
+    /// Returns a table for `passes` passes, 1 to 16. The only error is `Memory`.
     pub fn new(alloc: Global, passes: u32) -> Result<WorldTable, Memory>
         requires some { 0 < passes }
         requires few { passes ≤ 16 }

@@ -1,4 +1,6 @@
-//! A turn, and the collection that it asks for.
+//! A turn, and the collection that its instruction asks for, in one step.
+//!
+//! If the collection runs out of memory, the turn is taken back.
 
 ghost use Rattle.std.specs.Prelude.{◌≡◌, ◌<◌, ◌-◌, ◌^◌, [], true, None, IfOk, OnErr};
 ghost use Rattle.golf_data.specs.Places.{HasPlaces};
@@ -17,7 +19,7 @@ use golf_state::{State, advance};
 use std::alloc::Global;
 use std::thread::Threads;
 
-// Where the innermost frame of a goroutine stands.
+// The place of a goroutine's innermost frame, or 0 without a frame.
 fn place_of(state: &State, g: GoroutineId) -> u32
     ensures { result ≡ place_in (frames_of g.0 state.now) }
 {
@@ -27,7 +29,7 @@ fn place_of(state: &State, g: GoroutineId) -> u32
     }
 }
 
-// The innermost frame of a goroutine that runs stands at this place again.
+// Sets the place of the innermost frame of a running goroutine back.
 fn put_back(state: &mut State, g: GoroutineId, at: u32)
     requires { runs g.0 state.old ≡ true }
     ensures { state.new ≡ reframed g.0 (on_top (went at 0 []) (frames_of g.0 state.old)) state.old }
@@ -35,10 +37,10 @@ fn put_back(state: &mut State, g: GoroutineId, at: u32)
     advance(state.frames_mut(g), at, 0);
 }
 
-/// The turn of this number, and the collection that its instruction asks for, with its report: by one
-/// marker, with an open gate, and without recovery. If the collection is out of memory, the goroutine
-/// stands at its instruction again, which is all that its turn changed. On `Memory` state and book are
-/// as before.
+/// Takes the turn of this number, and does the collection that its instruction asks for: with one marker,
+/// with open gates, and without recovery. Returns its report, or `None` without a collection. On `Err`,
+/// which is `Memory`, state and book are unchanged: a turn before a failed collection only moved the
+/// goroutine's place, which is set back.
 pub(crate) fn turn_and_collect<R: Threads + Sync>(
     rt: &R,
     alloc: Global,

@@ -1,4 +1,6 @@
-//! Runs a program by threads that step it, each in a thread of its own.
+//! Runs a program by several threads that step it.
+//!
+//! Each worker steps until the program has ended or the history is full.
 
 ghost use Rattle.std.specs.Prelude.{◌≡◌, ◌<◌, ◌≤◌, IfOk, IsTrue, None, length};
 ghost use Rattle.std.specs.Thread.{IsSync};
@@ -22,8 +24,8 @@ use std::marker::Brand;
 use std::sync::Wait;
 use std::thread::{Threads, join_mut};
 
-// Steps until a step is no turn. It passes the gate before each, outside the lock, with the number of
-// the pass and that of its turn, counted from 0.
+// Steps until a step is not a turn. Before each step it passes the gate, outside the lock, with the number
+// of the pass and the number of its turn, counted from 0.
 fn work<W: WorldName, R: Threads + Wait + Sync, G: Gate>(
     rt: &R,
     alloc: Global,
@@ -42,7 +44,7 @@ fn work<W: WorldName, R: Threads + Wait + Sync, G: Gate>(
     }
 }
 
-// The workers, each in a thread of its own.
+// Runs the workers, each in its own thread.
 fn work_all<W: WorldName + Send + Sync, R: Threads + Wait + Sync, G: Gate + Sync>(
     rt: &R,
     alloc: Global,
@@ -70,9 +72,9 @@ fn work_all<W: WorldName + Send + Sync, R: Threads + Wait + Sync, G: Gate + Sync
     );
 }
 
-/// Runs the program by as many threads as the table has passes, in a world that `W` names, until it has
-/// ended or has taken `MOST_ENTRIES` turns. A worker that is out of memory stops, and the others go on: the
-/// answer is `Memory` if the program came to neither end so.
+/// Runs the program by as many threads as the table has passes, in the world that `W` names. It runs until
+/// the program has ended or has taken `MOST_ENTRIES` turns. A worker without memory stops, and the others
+/// go on. If the program then reaches neither end, the error is `Memory`.
 pub fn run_world<W: WorldName + Send + Sync, R: Threads + Wait + Sync, G: Gate + Sync>(
     rt: &R,
     alloc: Global,
@@ -108,9 +110,9 @@ fn is_done(state: &State, entries: &[HistoryEntry]) -> bool
     }
 }
 
-/// Runs the program from its start by so many threads, 1 to 16, until it has ended or has taken
-/// `MOST_ENTRIES` turns. Each passes the gate before each of its steps. If no thread can be made, its steps are
-/// taken by another one.
+/// Runs the program from its start by `passes` threads, 1 to 16, until it has ended or has taken
+/// `MOST_ENTRIES` turns. Each thread passes the gate before each of its steps. If a thread cannot be made,
+/// another one takes its steps.
 pub fn run_threads<R: Threads + Wait + Sync, G: Gate + Sync>(
     rt: &R,
     alloc: Global,

@@ -1,4 +1,6 @@
-//! A program that callers' threads step.
+//! A program that the threads of callers step.
+//!
+//! A lock lets one pass step at a time.
 
 ghost use Rattle.std.specs.Prelude.{◌≡◌, ◌<◌, ◌≤◌, IfOk, OnErr, length, Some, slice_get, ℕ};
 ghost use mathlib.Core.List.{IsPrefix};
@@ -23,7 +25,7 @@ use std::alloc::Global;
 use std::sync::{Mutex, Wait};
 use std::thread::Threads;
 
-/// A program that threads step through a `&`, each with a pass of its own.
+/// A program that threads step through a `&`, each with its own pass.
 #[derive(Drop)]
 pub struct World<W: WorldName> {
     lock: Mutex<Guarded<W>>,
@@ -36,8 +38,8 @@ pub struct World<W: WorldName> {
 }
 
 impl<W: WorldName> World<W> {
-    /// A world at its first turn, and its passes, which are numbered from 0. `W` names the table, its number of passes
-    /// and the code. On `Memory` nothing is handed back.
+    /// Returns a world before its first turn, and its passes, which are numbered from 0. `W` names the
+    /// table, the number of passes and the code. On `Memory` it returns nothing.
     pub fn new(
         alloc: Global,
         table: WorldTable,
@@ -67,12 +69,13 @@ impl<W: WorldName> World<W> {
         Ok((world, list))
     }
 
-    /// A step of the program by this pass, while no other pass takes one: of the m goroutines that can run, in rising
-    /// order, the one at the place `(p + t) % m` takes a turn, if p is the number of the pass and t the number of
-    /// entries. A collection that its instruction asks for follows at once, with one marker, without recovery. Nothing
-    /// is done if the program has ended or the history has its `MOST_ENTRIES` entries.
+    /// Takes a step of the program by this pass, while no other pass takes one. Let p be the number of the
+    /// pass, t the number of entries, and m the number of goroutines that can run. The goroutine at the
+    /// place `(p + t) % m`, in rising order, takes a turn. A collection that its instruction asks for
+    /// follows at once, with one marker and without recovery. If the program has ended, or the history has
+    /// `MOST_ENTRIES` entries, it takes no turn.
     ///
-    /// On `Memory` state, history and reports are as before the call.
+    /// On `Err`, which is `Memory`, state, history and reports are unchanged.
     pub fn step<R: Threads + Wait + Sync>(
         &self,
         rt: &R,
@@ -89,8 +92,8 @@ impl<W: WorldName> World<W> {
         guarded.step(rt, alloc, &self.code, &self.table.shared, pass)
     }
 
-    /// The state and the history, once no thread steps any more. The passes are those that were kept: of each the
-    /// history has just its own entries, in its order.
+    /// Returns the state and the history, after no thread steps any more. The history has for each pass in
+    /// `passes` exactly the entries of that pass, in their order.
     pub fn close(self, passes: List<StepPass<W>>) -> (State, History)
         ensures state { result.0 ≡ after W.code result.1.entries }
         ensures reports { result.1.reports ≡ reports_after W.code result.1.entries }

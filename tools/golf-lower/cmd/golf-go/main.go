@@ -1,11 +1,13 @@
 // Command golf-go runs Go files by golf: it lowers them, runs `golf run` on what comes out, and writes output, reports and
-// panics with the lines and functions of the files. With the word explore it runs `golf-explore all` in its place.
+// panics with the lines and functions of the files. With the word explore it runs `golf-explore all` in its place. With the
+// word page it writes the page of the run.
 //
 //	golf-go FILE.go .. [--late] [--pause] [words of golf run]
 //	golf-go explore FILE.go .. [--late] [--pause] [words of golf-explore all]
+//	golf-go page FILE.go .. [--late] [--pause] [words of golf run]
 //
-// The programs are $GOLF and $GOLF_EXPLORE, or golf and golf-explore on the path. $GOLF_LOWERED names a file for the
-// lowered text.
+// The programs are $GOLF, $GOLF_EXPLORE and $GOLF_PAGE, or golf, golf-explore and golf-page on the path. $GOLF_LOWERED names
+// a file for the lowered text.
 package main
 
 import (
@@ -38,7 +40,7 @@ func main() { os.Exit(run(os.Args[1:], os.Stdout, os.Stderr)) }
 
 // words are the words of the command line.
 type words struct {
-	explore bool
+	mode    string // the first word, if it is explore or page
 	paths   []string
 	late    bool
 	pause   bool
@@ -50,8 +52,8 @@ type words struct {
 
 func parseWords(args []string) words {
 	var w words
-	if len(args) > 0 && args[0] == "explore" {
-		w.explore = true
+	if len(args) > 0 && (args[0] == "explore" || args[0] == "page") {
+		w.mode = args[0]
 		args = args[1:]
 	}
 	for len(args) > 0 && isPath(args[0]) {
@@ -104,7 +106,7 @@ func (w words) line() []string {
 func run(args []string, stdout, stderr io.Writer) int {
 	w := parseWords(args)
 	if len(w.paths) == 0 {
-		fmt.Fprintln(stderr, "usage: golf-go [explore] FILE.go .. [--late] [--pause] [words of golf run, or of golf-explore all]")
+		fmt.Fprintln(stderr, "usage: golf-go [explore | page] FILE.go .. [--late] [--pause] [words of golf run, or of golf-explore all]")
 		return usage
 	}
 	sources, tests, err := lower.ReadSources(w.paths)
@@ -123,8 +125,11 @@ func run(args []string, stdout, stderr io.Writer) int {
 			return noWrite
 		}
 	}
-	if w.explore {
+	switch w.mode {
+	case "explore":
 		return explore(w, low, stdout, stderr)
+	case "page":
+		return page(w, args, sources, low, stdout, stderr)
 	}
 	return execute(w, low, tests, stdout, stderr)
 }

@@ -1,25 +1,16 @@
-use denote.Enum.Bare.{sameb}
-use Rattle.std.proofs.Common.{◌≡◌, ◌∙◌, refl, sym, ap, inl, inr, true, true≢false, map, string_bytes}
-use Rattle.clap.specs.Simple.{app_of, subcommand_rows_of}
-use Rattle.clap.specs.contracts.error.kind.ErrorKind.{the_type}
-use Rattle.clap.specs.declared.error.kind.ErrorKind.TheVariants.{OutOfMemory}
-use Rattle.golf_command_words.proofs.Commands.{split_found, split_refused}
+use Rattle.std.proofs.Common.{◌≡◌, IfOk, map, option_and_then, string_bytes, subst, ap, ◌∙◌}
+use Rattle.clap.specs.Simple.{App, subcommand_rows_of}
+use Rattle.clap.specs.Faults.{is_simple_and_free}
+use Rattle.golf_command_words.specs.Splitting.{matched, split_of}
+use Rattle.golf_command_words.proofs.Commands.{simple_and_free}
 use Rattle.golf_command_words.proofs.splitting.split.Goals as goal
 
-pub returns-in-Ok : goal.returns-in-Ok
-returns-in-Ok c =
-    split_found (app_of c.in_ok-command.command) (map string_bytes c.args.words.now)
-    (subcommand_rows_of c.in-Ok.matches) c.in_ok-command.ensures
-    c.in-Ok.ensures.kinds (λ simple. (c.in-Ok.ensures.matches simple).1)
+pub match_words-requires : goal.match_words-requires
+match_words-requires c = ap is_simple_and_free c.in_ok-command.ensures ∙ simple_and_free
 
 pub returns : goal.returns
+unfolding split_of
 returns c =
-    split_refused (app_of c.in_ok-command.command)
-    (map string_bytes c.args.words.now) c.in-Err.error.kind c.in_ok-command.ensures
-    (λ simple. elim (c.in-Err.ensures.kinds simple) [
-      | inl memory ↦
-          let same : true ≡ sameb the_type OutOfMemory OutOfMemory = refl in
-          absurd (true≢false (same ∙ ap (λ k. sameb the_type k OutOfMemory) (sym (c.kind.ensures ∙ memory))
-          ∙ sym c.eq.ensures ∙ c.if-eq.false))
-      | inr among ↦ among
-    ])
+    subst (λ (a : App). IfOk c.match_words.result
+    (λ found. option_and_then subcommand_rows_of found ≡ matched a (map string_bytes c.args.words.now)))
+    c.in_ok-command.ensures c.match_words.ensures

@@ -18,10 +18,10 @@ judge-requires-clause-whole c =
 pub returns : goal.returns
 returns c =
     let code = c.args.code.now in
-    let t = after_all code (start_of code) c.args.path.now in
+    let t = after_all code (start_of code) c.args.origin.path.now in
     let s = c.take.new.state in
     let is : s ≡ after code t c.args.number = c.in_ok-take.ensures
     ∙ ap (λ (u : State). after code u c.args.number) c.in_ok-state.ensures.state in
-    added-new code t c.args.number s is c.args.visits.now.list c.push.new.self.list c.args.at c.requires.visits
+    added-new code t c.args.number s is c.args.visits.now.list c.push.new.self.list c.args.origin.at c.requires.visits
     c.requires.path.stands c.requires.path.on
     (subst (Unless code (IsWell s)) c.in_default.is c.in_ok-explored.ensures) c.in_ok-push.ensures

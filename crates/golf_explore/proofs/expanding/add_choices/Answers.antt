@@ -7,16 +7,18 @@ use Rattle.golf_explore.proofs.expanding.add_choices.Goals as goal
 
 pub loop-choice-init : goal.loop-choice-init
 loop-choice-init c = turned-none c.args.code.now c.args.visits.now.list
-    (after_all c.args.code.now (start_of c.args.code.now) c.args.path.now) c.args.place c.args.count c.requires.visits
+    (after_all c.args.code.now (start_of c.args.code.now) c.args.origin.path.now) c.args.place c.args.count
+    c.requires.visits
 
 pub add-requires-clause-path : goal.add-requires-clause-path
-add-requires-clause-path c = path-grown c.args.code.now c.args.visits.now.list c.loop-choice.visits.list c.args.at
-    c.args.path.now c.loop-choice.invariant.grows c.requires.path
+add-requires-clause-path c = path-grown c.args.code.now c.args.visits.now.list c.loop-choice.visits.list
+    c.args.origin.at
+    c.args.origin.path.now c.loop-choice.invariant.grows c.requires.path
 
 pub loop-choice-preserved : goal.loop-choice-preserved
 loop-choice-preserved c =
     let code = c.args.code.now in
-    let s = after_all code (start_of code) c.args.path.now in
+    let s = after_all code (start_of code) c.args.origin.path.now in
     let added : HasAdded code c.loop-choice.visits.list c.add.new.visits.list (after code s c.in-Some.number) =
     subst (Unless code _) c.in_default-2.is c.in_ok-explored.ensures in
     turned-more code c.args.visits.now.list s c.loop-choice.visits.list c.add.new.visits.list c.args.place c.args.count

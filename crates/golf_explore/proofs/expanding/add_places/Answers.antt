@@ -16,12 +16,12 @@ loop-place-init c = record {
 
 pub add_choices-requires-clause-path : goal.add_choices-requires-clause-path
 add_choices-requires-clause-path c = path-grown c.args.code.now c.args.visits.now.list c.loop-place.visits.list
-    c.args.at c.args.path.now c.loop-place.invariant.grows c.requires.path
+    c.args.origin.at c.args.origin.path.now c.loop-place.invariant.grows c.requires.path
 
 pub loop-place-preserved : goal.loop-place-preserved
 loop-place-preserved c =
     let code = c.args.code.now in
-    let s = after_all code (start_of code) c.args.path.now in
+    let s = after_all code (start_of code) c.args.origin.path.now in
     let choices : List ℕ = c.args.choices.now in
     let place = c.loop-place.place in
     let mid = c.loop-place.visits.list in
@@ -41,7 +41,7 @@ loop-place-preserved c =
 pub returns : goal.returns
 returns c =
     let code = c.args.code.now in
-    let s = after_all code (start_of code) c.args.path.now in
+    let s = after_all code (start_of code) c.args.origin.path.now in
     let choices : List ℕ = c.args.choices.now in
     let low : length choices ≤ c.loop-place.place = c.loop-place-test.false in
     let high : c.loop-place.place ≤ length choices = c.loop-place.auto.place-end in

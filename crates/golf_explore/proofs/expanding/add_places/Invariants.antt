@@ -10,6 +10,7 @@ abbrev pub invariant-loop-place : goal.invariant-loop-place
 invariant-loop-place l = record {
   grows : Grows l.fn.visits.list l.visits.list;
   visits : AreVisits l.code l.visits.list;
-  has : (place choice : ℕ) → place < l.place → IsTurn l.code (after_all l.code (start l.code) l.path) place choice
-      → In (after_turn l.code (after_all l.code (start l.code) l.path) place choice) (states l.visits.list);
+  has : (place choice : ℕ) → place < l.place
+      → IsTurn l.code (after_all l.code (start l.code) l.origin.path.now) place choice
+      → In (after_turn l.code (after_all l.code (start l.code) l.origin.path.now) place choice) (states l.visits.list);
 }

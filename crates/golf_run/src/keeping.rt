@@ -1,26 +1,25 @@
-//! A sink that keeps all that is written to it.
+//! A sink that keeps all bytes that are written to it.
+//!
+//! It holds the standard error of a run, or the text of an event.
 
-ghost use Rattle.std.specs.Prelude.{◌≡◌, []};
+ghost use Rattle.std.specs.Prelude.{◌≡◌};
 
 use golf_base::{Failed, List, Sink};
-use std::alloc::Global;
 
-/// A sink over memory that grows. A write fails only if memory has run out for it.
+/// A sink over a list that grows. A write fails only if memory runs out.
 #[derive(Drop)]
-pub(crate) struct Kept {
-    pub(crate) bytes: List<u8>,
+pub struct Kept {
+    /// The bytes.
+    pub bytes: List<u8>,
     failed: u64,
 }
 
 impl Kept {
-    /// Makes a sink to which nothing was written.
-    pub(crate) fn new(alloc: Global) -> Kept
-        ensures { result.bytes ≡ [] }
+    /// Returns a sink that has these bytes.
+    pub fn new(bytes: List<u8>) -> Kept
+        ensures { result.bytes ≡ bytes }
     {
-        Kept {
-            bytes: List::new(alloc),
-            failed: 0,
-        }
+        Kept { bytes, failed: 0 }
     }
 }
 

@@ -1,0 +1,13 @@
+use Rattle.std.proofs.Common.{◌≡◌, take}
+use Rattle.golf_model.specs.State.{start as start_of}
+use Rattle.golf_model.specs.Futures.{Leads}
+use Rattle.golf_explore.specs.Visiting.{after_all, GoesOn}
+use Rattle.golf_explore.proofs.attempting.attempt.Given as goal
+
+-- the state after the turns so far
+abbrev pub invariant-loop-number : goal.invariant-loop-number
+invariant-loop-number l = record {
+  led : l.state ≡ after_all l.code (start_of l.code) (take l.number-index l.numbers);
+  goes : GoesOn l.code (start_of l.code) (take l.number-index l.numbers);
+  leads : Leads l.code l.state;
+}

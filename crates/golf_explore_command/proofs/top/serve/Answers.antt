@@ -1,0 +1,19 @@
+use Rattle.std.proofs.Common.{Some, ap, ◌∙◌}
+use Rattle.golf_explore_words.specs.declared.line.ExploreLine.{ExploreLine}
+use Rattle.golf_explore_command.proofs.Calling.{fails, served}
+use Rattle.golf_explore_command.proofs.top.serve.Goals as goal
+
+pub returns-in-Err : goal.returns-in-Err
+returns-in-Err g c words is = fails words _ _ _ _ _ _ _ _ _ _ c.in-Err.status c.args.line is c.in-Err.ensures.fails
+
+pub returns-in-Ask : goal.returns-in-Ask
+returns-in-Ask g c words is =
+    let loads = c.in-Ok.ensures.loads in
+    served words (ExploreLine.Ask c.in-Ask.question) c.in-Ok.code (is ∙ ap (λ line. Some line) c.in-Ask.is) loads.1
+    loads.2 loads.3 loads.4 c.tell_answer.ensures
+
+pub returns : goal.returns
+returns g c words is =
+    let loads = c.in-Ok.ensures.loads in
+    served words (ExploreLine.Trace c.in-Trace.options) c.in-Ok.code (is ∙ ap (λ line. Some line) c.in-Trace.is)
+    loads.1 loads.2 loads.3 loads.4 c.tell_turns.ensures

@@ -1,0 +1,58 @@
+"""One run with all that a page tells of it."""
+
+import re
+
+from program import ERRORS, Failure
+from story import Story
+from trace import Trace
+from ways import add_ways
+from words import of_history, of_leak, of_page, options_of
+
+ACCEPTED = (0, 1, 2, 3)
+REFUSED = 4
+USAGE = 5
+
+
+class Run:
+    """A run: its trace, the story of its goroutines, what the file printed, its last line with the places of the page, and
+    its status. `how` says where the reasons are from."""
+
+    def __init__(self, programs, places, words):
+        self.programs, self.places = programs, places
+        self.words = of_page(of_leak(words))
+        self.options = options_of(self.words)
+        self.trace = self.by_threads() if "--threads" in self.options else self.by_words(self.words)
+        self.story = Story(self.trace)
+        self.printed = places.printed(self.trace.pieces)
+        self.tail = places.told_tail(self.trace.tail, self.printed)
+        self.exits = self.printed.exit is not None and bool(self.trace.tail)
+        self.status = self.printed.exit if self.exits else self.trace.status
+        self.how = ""
+        if self.accepted:
+            self.how = add_ways(self.story, self.trace, programs, self.repeated, places.finalisers)
+
+    @property
+    def accepted(self):
+        return self.trace.status in ACCEPTED
+
+    @property
+    def refusal(self):
+        """The line that refuses the file, or an empty text."""
+        return self.trace.lines[0][1] if self.trace.status == REFUSED and self.trace.lines else ""
+
+    def by_words(self, words):
+        """Takes a run, and notes the options that repeat it."""
+        self.repeated = options_of(words)
+        trace = Trace(self.programs.trace(words))
+        if trace.status == USAGE:
+            raise Failure("\n".join(line for turn, line in trace.lines), USAGE)
+        return trace
+
+    def by_threads(self):
+        """Takes a run by threads, and repeats it by the numbers of its turns."""
+        ran = self.programs.run(self.words)
+        errors = ran.text_of(ERRORS).decode("utf-8", "replace")
+        if ran.status == USAGE:
+            raise Failure(errors.rstrip("\n"), USAGE)
+        history = re.search(r"(?m)^history: ([\d,]+)$", errors)
+        return self.by_words(of_history(history[1]) if history else [])

@@ -1,0 +1,161 @@
+"use strict";
+// The goroutines of the run, and what each of them does at a moment. A moment is the state after a turn. Moment 0 is the
+// state before the first turn. In the lanes moment m lasts from m to m + 1.
+
+const data = JSON.parse(document.getElementById("data").textContent);
+const last = data ? data.last : 0;
+
+// ---- small things
+
+const $ = id => document.getElementById(id);
+const count = number => number.toLocaleString("en");
+const many = (number, word) => `${count(number)} ${word}${number === 1 ? "" : "s"}`;
+
+function element(tag, classes, text) {
+  const made = document.createElement(tag);
+  if (classes) made.className = classes;
+  if (text !== undefined) made.textContent = text;
+  return made;
+}
+
+function drawn(tag, attributes, text) {
+  const made = document.createElementNS("http://www.w3.org/2000/svg", tag);
+  for (const name in attributes) made.setAttribute(name, attributes[name]);
+  if (text !== undefined) made.textContent = text;
+  return made;
+}
+
+/** Returns the first place in 0 .. length at which the test holds. It must hold from there on. */
+function firstPlace(length, test) {
+  let low = 0, high = length;
+  while (low < high) {
+    const middle = (low + high) >> 1;
+    if (test(middle)) high = middle; else low = middle + 1;
+  }
+  return low;
+}
+
+// ---- goroutines
+
+const known = (number, otherwise) => number < 0 ? otherwise : number;
+
+function goroutineOf([number, name, started, begin, end, dead, reported, removed, waits]) {
+  const goroutine = {
+    number, name, started, begin, turns: [],
+    end: known(end, Infinity), dead: known(dead, Infinity),
+    reported: reported < 0 ? Infinity : turnOfCollection.get(reported), reportedBy: reported,
+    removed: removed < 0 ? Infinity : turnOfCollection.get(removed), removedBy: removed,
+  };
+  goroutine.waits = waits.map(([begin, end, row, kind, changes]) => ({
+    begin, end: known(end, Infinity), row, changes, kind: kind < 0 ? undefined : data.kinds[kind],
+  }));
+  return goroutine;
+}
+
+const turnOfCollection = new Map(data ? data.collections : []);
+const goroutines = data ? data.goroutines.map(goroutineOf) : [];
+const byNumber = new Map(goroutines.map(goroutine => [goroutine.number, goroutine]));
+if (data) data.who.forEach((number, at) => byNumber.get(number)?.turns.push(at + 1));
+
+// ---- places
+
+/** Returns the words for a row of the source. A row below 0 is in generated code. */
+function place(row) {
+  if (row < 0) {
+    const [name, before] = data.generated[-1 - row];
+    return before ? `${name} after ${place(before)}` : `${name} (generated)`;
+  }
+  const [name, before] = data.files.findLast(([, before]) => before < row);
+  return `line ${row - before}` + (data.files.length > 1 ? ` of ${name}` : "");
+}
+
+/** Returns the row that is marked for a place: in generated code that at which the goroutine was before. */
+const markedRow = row => row < 0 ? data.generated[-1 - row][1] : row;
+
+// ---- kinds of waits
+
+function kindClass(wait) {
+  if (wait === "chan receive") return "receive";
+  if (wait === "chan send") return "send";
+  if (wait === "select") return "select";
+  if (wait?.startsWith("sync.Cond")) return "condition";
+  if (wait?.startsWith("sync.WaitGroup")) return "group";
+  return wait?.startsWith("sync.") ? "lock" : "other";
+}
+
+function objectKind(wait) {
+  if (wait.startsWith("chan") || wait === "select") return "channel";
+  if (wait.startsWith("sync.Cond")) return "condition";
+  if (wait.startsWith("sync.WaitGroup")) return "wait group";
+  return wait.startsWith("sync.RW") ? "rwmutex" : wait.startsWith("sync.") ? "mutex" : "object";
+}
+
+/** The kinds of the objects on which goroutines wait. A wait names its kind, and its chain ends with the object. */
+const kindOfObject = new Map();
+for (const goroutine of goroutines) {
+  for (const wait of goroutine.waits) {
+    for (let at = 1; wait.kind && at < wait.changes.length; at += 2) {
+      const object = data.chains[wait.changes[at]].at(-1);
+      if (object > 0) kindOfObject.set(object, objectKind(wait.kind));
+    }
+  }
+}
+const memberName = number => number > 0 ? `${kindOfObject.get(number) ?? "object"} ${number}` : `G${-number}`;
+
+// ---- states
+
+/** Returns the wait of a goroutine at a moment, or undefined. */
+function waitAt(goroutine, moment) {
+  const wait = goroutine.waits[firstPlace(goroutine.waits.length, at => goroutine.waits[at].begin > moment) - 1];
+  return wait && moment < wait.end ? wait : undefined;
+}
+
+/** Returns the last looked-at moment that is not after this one, or -1. */
+function lookBefore(moment) {
+  if (data.looks === null) return Math.min(moment, last - (data.ended ? 1 : 0));
+  return data.looks[firstPlace(data.looks.length, at => data.looks[at] > moment) - 1] ?? -1;
+}
+
+/** Returns the chain that reaches a goroutine in its wait, with the moment at which it was seen, or undefined. If there was no
+ * look in the wait so far, the first one that comes in it is taken. */
+function chainAt(wait, moment) {
+  const place = firstPlace(wait.changes.length / 2, at => wait.changes[2 * at] > moment) - 1;
+  if (place >= 0) return { moment: Math.max(lookBefore(moment), wait.changes[2 * place]), members: data.chains[wait.changes[2 * place + 1]] };
+  return wait.changes.length ? { moment: wait.changes[0], members: data.chains[wait.changes[1]] } : undefined;
+}
+
+/** Returns the row at which a goroutine that can run is: that of its next turn. If it takes none, it is that of its last. */
+function rowOf(goroutine, moment) {
+  const at = firstPlace(goroutine.turns.length, place => goroutine.turns[place] > moment);
+  const turn = goroutine.turns[at] ?? goroutine.turns.at(-1);
+  return turn === undefined ? undefined : data.row[turn - 1];
+}
+
+const runsAt = (goroutine, moment) => moment > 0 && data.who[moment - 1] === goroutine.number;
+
+/** Returns what a goroutine does at a moment: the name of the state, its words, its class, and of a wait its kind and row. */
+function stateOf(goroutine, moment) {
+  if (moment < goroutine.begin) return { name: "absent", text: "not started", classes: "" };
+  if (moment >= goroutine.removed) return { name: "gone", text: "taken back", classes: "" };
+  const wait = waitAt(goroutine, moment);
+  if (wait) return waitState(goroutine, wait, moment);
+  const runs = runsAt(goroutine, moment), classes = runs ? "is-run" : "";
+  if (data.fault && moment === last && goroutine.number === data.fault[0]) {
+    return { name: "ended", text: `crashed at ${place(data.fault[1])}`, classes: "is-dead" };
+  }
+  if (moment >= goroutine.end) return { name: "ended", text: runs ? "runs, and ends" : "ended", classes };
+  if (runs) return { name: "runs", text: `runs ${place(data.row[moment - 1])}`, classes };
+  if (goroutine.number === 0) return { name: "free", text: "no turn", classes };
+  const row = rowOf(goroutine, moment);
+  return { name: "free", text: row === undefined ? "can run" : `can run, ${place(row)}`, classes };
+}
+
+function waitState(goroutine, wait, moment) {
+  const shared = { kind: wait.kind ?? "blocked", row: wait.row, wait };
+  if (moment >= goroutine.dead) {
+    return { name: "dead", text: `dead at ${place(wait.row)}`, classes: "is-dead", ...shared };
+  }
+  const chain = chainAt(wait, moment), classes = kindClass(wait.kind);
+  if (data.asleep && moment === last) return { name: "asleep", text: `asleep at ${place(wait.row)}`, classes, chain, ...shared };
+  return { name: "blocked", text: `${shared.kind}, ${place(wait.row)}`, classes, chain, ...shared };
+}

@@ -1,0 +1,57 @@
+"""The words of `golf run`."""
+
+from program import Failure
+
+VALUED = ("--schedule", "--turns", "--every", "--markers", "--threads")
+MOST_TURNS = 100_000         # of a page
+MOST_BYTES_OF_A_WORD = 131_000  # Linux takes words of up to 128 KiB
+
+
+def of_leak(words):
+    """Returns the words after `leak:`, if the line of a leak is given as `golf-explore` prints it, in one word or in several.
+    Other words are returned as they are."""
+    if not words or not words[0].startswith("leak:"):
+        return words
+    words = " ".join(words).split()[1:]
+    if words[:1] == ["after"]:
+        raise Failure("the numbers of this leak are more than the words of a run may have")
+    return words
+
+
+def options_of(words):
+    """Returns the options by name, with None for an option without a value."""
+    options, at = {}, 0
+    while at < len(words):
+        name, sign, value = words[at].partition("=")
+        if name in VALUED and sign:
+            options[name] = value
+        elif name in VALUED and at + 1 < len(words):
+            at += 1
+            options[name] = words[at]
+        elif words[at] != "--":
+            options[words[at]] = None
+        at += 1
+    return options
+
+
+def written(options):
+    """Returns the words of options."""
+    return [word for name, value in options.items() for word in (name, value) if word is not None]
+
+
+def of_page(words):
+    """Returns the words with at most as many turns as a page shows. Faulty words are left to the program."""
+    options = options_of(words)
+    turns = options.get("--turns", str(MOST_TURNS + 1))
+    if "--threads" in options or not turns.isdecimal() or int(turns) <= MOST_TURNS:
+        return words
+    if "--turns" not in options:
+        return ["--turns", str(MOST_TURNS), *words]
+    return written({**options, "--turns": str(MOST_TURNS)})
+
+
+def of_history(history):
+    """Returns the words that repeat a run by threads, from the numbers of its `history` line."""
+    if len(history) > MOST_BYTES_OF_A_WORD:
+        raise Failure("the history of the run by threads is too long for the words of a run")
+    return ["--schedule", f"choices:{history}"]
