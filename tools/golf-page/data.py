@@ -97,7 +97,9 @@ def entry_of(goroutine, places, rows, kinds, chains):
         changes = [number for moment, chain in wait.chains for number in (moment, chains.of(chain))]
         waits.append([wait.begin, known(wait.end), rows[wait.begin - 1], kinds.of(wait.kind), changes])
     reported, removed = (known(None if place is None else place + 1) for place in (goroutine.reported, goroutine.removed))
-    started = rows[goroutine.begin - 1] if goroutine.started is not None else 0
+    started = 0
+    if goroutine.started is not None:
+        started = rows[goroutine.begin - 1] if goroutine.begin else places.row(goroutine.started)
     return [goroutine.number, name_of(goroutine, places), started, goroutine.begin, known(goroutine.end),
             known(goroutine.dead), reported, removed, waits]
 

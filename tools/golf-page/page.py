@@ -1,7 +1,7 @@
 #!/usr/bin/env python3
 """Makes one HTML page of a run, which needs nothing else: page.py [options] FILE [words of golf run] > page.html
 
-The words may be the line of a leak as golf-explore prints it, from `leak:` on. Options:
+The words may be an answer of golf-explore as it is printed, such as `leak: --every 26 --schedule choices:0,1`. Options:
 
     --golf PROGRAM      the program golf; without it $GOLF, or ./golf of the repository
     --explore PROGRAM   the program golf-explore; without it $GOLF_EXPLORE, or ./golf-explore of the repository
@@ -25,15 +25,14 @@ from program import Failure, Programs, program_path
 from run import USAGE, Run
 from source import rows_of
 from tell import STATUS, counted, fault_note, headline, output_rows, refusal_note, report_rows, rules_of
-from words import of_leak
+from words import of_answer
 
 HERE = os.path.dirname(os.path.abspath(__file__))
 RULES = os.path.join(os.path.dirname(os.path.dirname(HERE)), "docs", "LANGUAGE.md")
-USED = "usage: golf-page FILE [words of golf run], or the line of a leak after FILE"
+USED = "usage: golf-page FILE [words of golf run, or an answer of golf-explore]"
 OPTIONS = ("--golf", "--explore", "--lines", "--source", "--command")
 SCRIPTS = ("data.js", "lanes.js", "source.js", "why.js", "page.js")
-MOST_OF_A_COMMAND = 400
-MOST_OF_A_FACT = 36
+MOST_OF_A_COMMAND = 200
 
 
 class Page:
@@ -67,10 +66,9 @@ class Page:
         return re.sub(r"@@([A-Z]+)@@", lambda match: values[match[1]], view("template.html"))
 
     def facts(self):
-        options, run = self.run.options, self.run
-        schedule = f"by {options['--threads']} threads" if "--threads" in options else options.get("--schedule", "rotate")
+        run = self.run
         facts = [("status", str(run.status)), ("turns", f"{run.story.last:,}"),
-                 ("collections", f"{len(run.trace.collections):,}"), ("schedule", shortened(schedule, MOST_OF_A_FACT))]
+                 ("collections", f"{len(run.trace.collections):,}"), ("schedule", schedule_of(run.options))]
         shown = facts if run.accepted else facts[:1]
         return "".join(f"<div><dt>{name}</dt><dd>{html.escape(value)}</dd></div>" for name, value in shown)
 
@@ -106,6 +104,14 @@ class Page:
         return [*self.notes(), *dict.fromkeys(self.run.places.row(line) for line in lines)]
 
 
+def schedule_of(options):
+    """Returns the schedule in few words."""
+    if "--threads" in options:
+        return f"{options['--threads']} threads"
+    schedule = options.get("--schedule", "rotate")
+    return counted(schedule.count(",") + 1, "choice") if schedule.startswith("choices:") else schedule
+
+
 def shortened(text, most):
     return text if len(text) <= most else text[:most - 2] + " …"
 
@@ -129,7 +135,7 @@ def page_of(options, path, words):
         places = Lowered(originals, raw, read(options["--lines"]))
     else:
         places = Plain(path, raw)
-    command = options.get("--command", " ".join(["./golf run", *of_leak(words), "<", path]))
+    command = options.get("--command", " ".join(["./golf run", *of_answer(words), "<", path]))
     return Page(Run(Programs(golf, explore, raw), places, words), command)
 
 
@@ -158,7 +164,19 @@ def main(words):
     except OSError as fault:
         print(f"golf-page: {fault.filename}: {fault.strerror}", file=sys.stderr)
         return 1
-    sys.stdout.buffer.write(text.encode("utf-8", "replace"))
+    return put(text)
+
+
+def put(text):
+    """Writes the page. Returns the status."""
+    try:
+        sys.stdout.buffer.write(text.encode("utf-8", "replace"))
+        sys.stdout.flush()
+    except OSError as fault:
+        # Python writes the rest when it ends: to nowhere.
+        os.dup2(os.open(os.devnull, os.O_WRONLY), sys.stdout.fileno())
+        print(f"golf-page: the page cannot be written: {fault.strerror}", file=sys.stderr)
+        return 1
     return 0
 
 

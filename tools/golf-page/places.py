@@ -10,8 +10,8 @@ import re
 
 from source import Source
 
-# A lowered program prints a line in parts, as tools/golf-lower/output.go says. Between two parts, and after the last one if the
-# line does not end there, the mark is an operand of Println.
+# A lowered program prints a line in parts, as tools/golf-lower/output.go says. The mark is an operand of Println between two
+# parts, and after the last one if the line does not end there.
 MARK = "‿".encode()
 KIND = re.compile(MARK + b"(err|panic|exit) ")
 LINE = re.compile(r"\bline (\d+)\b")

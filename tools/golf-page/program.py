@@ -44,26 +44,26 @@ class Programs:
 
     def __init__(self, golf, explore, source):
         self.golf, self.explore, self.source = golf, explore, source
-        self.runs = 0
 
     def trace(self, words):
-        """Returns what `golf-explore trace` writes, in its order. A write that is too long for a datagram fails. Then the
-        run is taken again by pipes, which tell no order."""
-        self.runs += 1
-        written = in_order([self.explore, "trace", *words], self.source)
-        if written.status == LAUNCHER_FAILED:
-            raise Failure(f"{self.explore} could not go on")
-        return self.trace_again(words) if written.status == WRITE_FAILED else written
+        """Returns what `golf-explore trace` writes, in its order."""
+        return self.ordered([self.explore, "trace", *words])
 
     def trace_again(self, words):
         """Returns what `golf-explore trace` writes, each stream by itself."""
-        self.runs += 1
         return by_pipes([self.explore, "trace", *words], self.source)
 
     def run(self, words):
-        """Returns what `golf run` writes, each stream by itself."""
-        self.runs += 1
-        return by_pipes([self.golf, "run", *words], self.source)
+        """Returns what `golf run` writes, in its order."""
+        return self.ordered([self.golf, "run", *words])
+
+    def ordered(self, command):
+        """Returns what a command writes. A write that is too long for a datagram fails. Then the command is run again by pipes,
+        which tell no order."""
+        written = in_order(command, self.source)
+        if written.status == LAUNCHER_FAILED:
+            raise Failure(f"{command[0]} could not go on")
+        return by_pipes(command, self.source) if written.status == WRITE_FAILED else written
 
 
 def by_pipes(command, source):
@@ -109,11 +109,12 @@ def sender_to(receiver):
 def received(receiver, streams, launcher):
     """Returns (stream, bytes) of each message until one comes from another sender. What the launcher tells while it builds
     the program is handed on."""
-    writes = []
+    writes, buffer = [], bytearray(2 * MOST_BYTES_OF_A_WRITE)
     while True:
-        message, sender = receiver.recvfrom(2 * MOST_BYTES_OF_A_WRITE)
+        length, sender = receiver.recvfrom_into(buffer)
         if sender not in streams:
             return writes
+        message = bytes(memoryview(buffer)[:length])
         if streams[sender] == ERRORS and message.startswith(launcher.encode() + b": "):
             sys.stderr.buffer.write(message)
             sys.stderr.flush()

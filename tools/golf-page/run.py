@@ -4,13 +4,14 @@ import re
 
 from program import ERRORS, Failure
 from story import Story
-from trace import Trace
+from traced import Trace
 from ways import add_ways
-from words import of_history, of_leak, of_page, options_of
+from words import of_history, of_answer, of_page, options_of
 
 ACCEPTED = (0, 1, 2, 3)
 REFUSED = 4
 USAGE = 5
+WRONG_WORDS = "the words after the file are not those of golf run (docs/USAGE.md)"
 
 
 class Run:
@@ -19,7 +20,7 @@ class Run:
 
     def __init__(self, programs, places, words):
         self.programs, self.places = programs, places
-        self.words = of_page(of_leak(words))
+        self.words = of_page(of_answer(words))
         self.options = options_of(self.words)
         self.trace = self.by_threads() if "--threads" in self.options else self.by_words(self.words)
         self.story = Story(self.trace)
@@ -45,14 +46,13 @@ class Run:
         self.repeated = options_of(words)
         trace = Trace(self.programs.trace(words))
         if trace.status == USAGE:
-            raise Failure("\n".join(line for turn, line in trace.lines), USAGE)
+            raise Failure(WRONG_WORDS, USAGE)
         return trace
 
     def by_threads(self):
         """Takes a run by threads, and repeats it by the numbers of its turns."""
         ran = self.programs.run(self.words)
-        errors = ran.text_of(ERRORS).decode("utf-8", "replace")
         if ran.status == USAGE:
-            raise Failure(errors.rstrip("\n"), USAGE)
-        history = re.search(r"(?m)^history: ([\d,]+)$", errors)
+            raise Failure(WRONG_WORDS, USAGE)
+        history = re.search(r"(?m)^history: ([\d,]+)$", ran.text_of(ERRORS).decode("utf-8", "replace"))
         return self.by_words(of_history(history[1]) if history else [])

@@ -6,7 +6,8 @@ import re
 
 KEYWORDS = set("""break case chan const continue default defer else for func go goto if import interface map package range
 return select struct switch type var""".split())
-NAMES = set("any append bool byte cap close delete error false int len make new nil panic print println rune string true".split())
+NAMES = set("""any append bool byte cap close delete error false int len make new nil panic print println rune string
+true""".split())
 TOKEN = re.compile(r"""//[^\n]*|/\*.*?(?:\*/|\Z)|"(?:\\.|[^"\\\n])*"?|'(?:\\.|[^'\\\n])+'|`[^`]*(?:`|\Z)|\w+|\s+|.""", re.S)
 
 COMMENT, STRING, KEYWORD, NUMBER, BUILT_IN, NAME, OTHER = "c", "s", "k", "n", "b", "name", ""

@@ -23,8 +23,9 @@ class Wait:
 
 
 class Goroutine:
-    """One goroutine with its waits. `dead` is the first moment at which it is known to be dead. `reported` and `removed`
-    are places in the list of the collections of the run."""
+    """One goroutine with its waits. `started` is the line of its start, if that is known: that of goroutine 1 is told if it is
+    dead. `dead` is the first moment at which it is known to be dead. `reported` and `removed` are places in the list of the
+    collections of the run."""
 
     def __init__(self, number, begin, started):
         self.number, self.begin, self.started = number, begin, started
@@ -98,6 +99,7 @@ class Story:
     def mark_dead(self, moment, entry):
         goroutine = self.goroutines[entry.goroutine]
         goroutine.wait_at(moment, entry.line).kind = entry.wait
+        goroutine.started = entry.started
         goroutine.dead = moment if goroutine.dead is None else min(goroutine.dead, moment)
         return goroutine
 

@@ -3,7 +3,7 @@
 import html
 import re
 
-from trace import COLLECTION, DEAD, REACHED, STOPPED
+from traced import COLLECTION, DEAD, REACHED, STOPPED
 
 STATUS = {
     0: "The run returned, and nothing was reported.",
@@ -149,8 +149,8 @@ def report_rows(run):
 
 
 def report_lines(run):
-    """Returns (turn, text, class, goroutine) of each line of standard error, in order. What a lowered file printed to it comes
-    at its turn."""
+    """Returns (turn, text, class, goroutine) of each line of standard error, in order. What a lowered file printed to it
+    comes at its turn."""
     lines = [(turn, run.places.told_text(line), *kind_of(line)) for turn, line in run.trace.lines]
     printed = [(turn, line, "printed", None) for turn, line in output_lines(run.printed.errors)]
     lines = sorted(printed + lines, key=lambda line: line[0] or 0) if printed else lines

@@ -11,7 +11,7 @@ import itertools
 import os
 
 from program import Failure
-from trace import Trace
+from traced import Trace
 from words import written
 
 LOOKS = 2000     # the most added collections of a run that is too long for one after each turn

@@ -3,18 +3,19 @@
 from program import Failure
 
 VALUED = ("--schedule", "--turns", "--every", "--markers", "--threads")
-MOST_TURNS = 100_000         # of a page
+ANSWERS = ("leak:", "panic:", "asleep:")
+MOST_TURNS = 100_000  # of a page
 MOST_BYTES_OF_A_WORD = 131_000  # Linux takes words of up to 128 KiB
 
 
-def of_leak(words):
-    """Returns the words after `leak:`, if the line of a leak is given as `golf-explore` prints it, in one word or in several.
-    Other words are returned as they are."""
-    if not words or not words[0].startswith("leak:"):
+def of_answer(words):
+    """Returns the words of a run from an answer of `golf-explore`, given as it is printed, in one word or in several:
+    `leak: --every 26 --schedule choices:0,1`. Other words are returned as they are."""
+    if not words or not words[0].startswith(ANSWERS):
         return words
     words = " ".join(words).split()[1:]
     if words[:1] == ["after"]:
-        raise Failure("the numbers of this leak are more than the words of a run may have")
+        raise Failure("the numbers of this answer are more than the words of a run may have")
     return words
 
 

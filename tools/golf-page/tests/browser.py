@@ -35,6 +35,7 @@ class Browser:
         self.session = self.call("Target.attachToTarget", {"targetId": target, "flatten": True})["sessionId"]
         for domain in ("Page", "Runtime", "Log"):
             self.call(domain + ".enable")
+        self.call("Performance.enable", {"timeDomain": "threadTicks"})
 
     def start(self, program):
         read_far, self.write_near = os.pipe()
@@ -89,6 +90,11 @@ class Browser:
         began = time.monotonic()
         self.load(f"file://{path}{fragment}")
         return time.monotonic() - began
+
+    def processor_seconds(self):
+        """Returns the seconds of processor time that the page has taken so far. They do not depend on other work."""
+        metrics = self.call("Performance.getMetrics")["metrics"]
+        return next(metric["value"] for metric in metrics if metric["name"] == "TaskDuration")
 
     def load(self, address):
         self.events.clear()

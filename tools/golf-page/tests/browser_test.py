@@ -462,11 +462,14 @@ CONTRAST = """(selector => {
 
 
 class Large(InBrowser):
-    """Long runs and many goroutines. The times depend on what else the machine does, so they may be five times as long here."""
+    """Long runs and many goroutines. A page opens in two seconds of processor time."""
+
+    def open_soon(self, path):
+        self.open(path)
+        self.assertLess(self.browser.processor_seconds(), 2)
 
     def test_thousand_goroutines(self):
-        seconds = self.open(sample("thousand"))
-        self.assertLess(seconds, 10)
+        self.open_soon(sample("thousand"))
         self.assertLess(self.value("document.querySelectorAll('.lane').length"), 10)
         self.assertEqual(self.value("[...document.querySelectorAll('.fold .who b')].map(each => each.textContent)"),
                          ["600 × handle", "300 × lost", "100 × idle"])
@@ -479,7 +482,7 @@ class Large(InBrowser):
             self.browser.shot(os.path.join(SHOTS, "thousand.png"))
 
     def test_100_000_turns(self):
-        self.assertLess(self.open(self.file(MANY_TURNS)), 10)
+        self.open_soon(self.file(MANY_TURNS))
         self.shows("of 100,000", self.now())
         self.value("show(50000)")
         self.browser.press("z")
@@ -488,12 +491,12 @@ class Large(InBrowser):
         self.assertEqual(self.value("[view.from, view.to]"), [49_900, 50_100])
 
     def test_many_goroutines(self):
-        self.assertLess(self.open(self.file(MANY_GOROUTINES)), 10)
+        self.open_soon(self.file(MANY_GOROUTINES))
         self.shows("goroutines left out", self.text("#legend"))
 
     def test_a_file_of_1_megabyte(self):
         text = many_functions()
-        self.assertLess(self.open(self.file(text)), 10)
+        self.open_soon(self.file(text))
         line = text[:text.index("<-c")].count("\n") + 1
         self.assertEqual(self.mark(line), "hit dead: G2")
 

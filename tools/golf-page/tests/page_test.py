@@ -30,7 +30,7 @@ import places
 import program
 import source
 import tell
-import trace
+import traced
 import words
 
 GOLF = program.program_path(None, "GOLF", "golf")
@@ -252,6 +252,9 @@ class ByHand(unittest.TestCase):
 LEAK_CYCLE = os.path.join(ROOT, "examples", "schedules", "lock_cycle_leaks.go")
 
 
+LOCK_AT_RETURN = os.path.join(ROOT, "examples", "schedules", "lock_at_return_leaks.go")
+
+
 class Words(unittest.TestCase):
     """The words of a page."""
 
@@ -264,9 +267,18 @@ class Words(unittest.TestCase):
             self.assertEqual(reported, {2: (11, 25), 4: (11, 27)})
             self.assertFalse(shown["ended"])
 
+    def test_main_can_be_dead(self):
+        made = page_of(LOCK_AT_RETURN, ran(EXPLORE, "search", path=LOCK_AT_RETURN)[0].split("\n")[0])
+        self.assertEqual(tell.headline(made.run)[1], "Goroutine 1 waits for ever at line 10 (sync.Mutex.Lock), started at line 18.")
+        self.assertEqual(data.data_of(made.run)["goroutines"][0][2], 18)
+
+    def test_a_run_that_falls_asleep_is_shown_by_its_line(self):
+        made = page_of(LOCK_AT_RETURN, ran(EXPLORE, "search", "--for", "asleep", path=LOCK_AT_RETURN)[0].split("\n")[0])
+        self.assertEqual(tell.headline(made.run)[0], "All goroutines are asleep")
+
     def test_a_leak_with_too_many_numbers_is_told(self):
         with self.assertRaisesRegex(program.Failure, "more than the words of a run may have"):
-            words.of_leak("leak: after 4099 turns, more than 4096".split())
+            words.of_answer("leak: after 4099 turns, more than 4096".split())
 
     def test_most_turns(self):
         self.assertEqual(words.of_page(["--why"]), ["--turns", "100000", "--why"])
@@ -278,7 +290,7 @@ class Words(unittest.TestCase):
     def test_threads(self):
         made = page_of(example("worker_pool"), "--threads", "4")
         self.assertEqual(b"".join(piece for turn, piece in made.run.printed.output), b"sum 385\n")
-        self.assertIn("by 4 threads", made.html())
+        self.assertIn("<dd>4 threads</dd>", made.html())
         self.assertEqual(made.run.story.last, len(made.run.trace.turns))
 
     def test_a_history_that_is_too_long_is_told(self):
@@ -300,6 +312,12 @@ class Words(unittest.TestCase):
             self.assertEqual(page.main(["--explore", os.path.join(ROOT, "nowhere"), example("leak")]), 1)
         self.assertIn("there is no program", errors.getvalue())
 
+    def test_a_page_that_cannot_be_written(self):
+        with open("/dev/full", "wb") as full:
+            done = subprocess.run([sys.executable, os.path.join(TOOL, "page.py"), "--golf", GOLF, "--explore", EXPLORE, example("leak")],
+                                  stdout=full, stderr=subprocess.PIPE, check=False)
+        self.assertEqual((done.returncode, done.stderr), (1, b"golf-page: the page cannot be written: No space left on device\n"))
+
     def test_page_goes_to_standard_output(self):
         out = io.TextIOWrapper(io.BytesIO(), encoding="utf-8")
         with redirect_stdout(out):
@@ -317,23 +335,23 @@ class Reading(unittest.TestCase):
     """How lines are read."""
 
     def test_all_parts_of_a_turn(self):
-        read = trace.Trace(written("turn 1: goroutine 1 at line 9, starts goroutine 2\n",
+        read = traced.Trace(written("turn 1: goroutine 1 at line 9, starts goroutine 2\n",
                                    "turn 2: goroutine 2 at line 5, blocks, wakes goroutine 3\n",
                                    "turn 3: goroutine 12 at line 20, ends, wakes goroutine 2, goroutine 10\n"))
         self.assertEqual(read.turns, [(1, 9, 2, False, False, ()), (2, 5, None, True, False, (3,)), (12, 20, None, False, True, (2, 10))])
 
     def test_output_has_the_next_turn(self):
-        read = trace.Trace(written(">a\n", "turn 1: goroutine 1 at line 9\ncollec", "tion 1: marked 0, reported 0, kept 0, "
+        read = traced.Trace(written(">a\n", "turn 1: goroutine 1 at line 9\ncollec", "tion 1: marked 0, reported 0, kept 0, "
                                    "reclaimed 0, objects 0\n", ">b\n", ">c\n", "turn 2: goroutine 1 at line 9\n"))
         self.assertEqual(read.pieces, [(1, b"a\n"), (2, b"b\n"), (2, b"c\n")])
         self.assertEqual([each.turn for each in read.collections], [1])
 
     def test_output_has_no_turn_if_the_order_is_not_known(self):
-        self.assertEqual(trace.Trace(written(">a\n", in_order=False)).pieces, [(None, b"a\n")])
+        self.assertEqual(traced.Trace(written(">a\n", in_order=False)).pieces, [(None, b"a\n")])
 
     def test_nothing_after_a_panic_is_read(self):
         text = "panic: a\nturn 2: goroutine 7 at line 1\ncollection 1: marked 0, reported 0, kept 0, reclaimed 0, objects 0 (goroutine 1, line 4)"
-        read = trace.Trace(written("turn 1: goroutine 1 at line 4\n", text[:12], text[12:] + "\n"))
+        read = traced.Trace(written("turn 1: goroutine 1 at line 4\n", text[:12], text[12:] + "\n"))
         self.assertEqual((len(read.turns), read.collections, read.tail), (1, [], text))
         self.assertEqual((read.fault[3], read.fault[4]), ("1", "4"))
 
@@ -341,7 +359,7 @@ class Reading(unittest.TestCase):
         for lines in (["turn 2: goroutine 1 at line 9\n"], ["turn 1: goroutine 1 at line 9, sleeps\n"],
                       ["collection 1: marked 0, reported 0, kept 0, reclaimed 0, objects 0\n", "goroutine 2: lost\n"]):
             with self.subTest(lines), self.assertRaises(program.Failure):
-                trace.Trace(written(*lines))
+                traced.Trace(written(*lines))
 
     def test_writes_come_in_their_order(self):
         script = "for i in 1 2 3 4 5 6 7 8 9; do echo out $i; echo err $i >&2; done; exit 3"

@@ -116,12 +116,12 @@ function lookBefore(moment) {
   return data.looks[firstPlace(data.looks.length, at => data.looks[at] > moment) - 1] ?? -1;
 }
 
-/** Returns the chain that reaches a goroutine in its wait, with the moment at which it was seen, or undefined. If there was no
- * look in the wait so far, the first one that comes in it is taken. */
-function chainAt(wait, moment) {
-  const place = firstPlace(wait.changes.length / 2, at => wait.changes[2 * at] > moment) - 1;
-  if (place >= 0) return { moment: Math.max(lookBefore(moment), wait.changes[2 * place]), members: data.chains[wait.changes[2 * place + 1]] };
-  return wait.changes.length ? { moment: wait.changes[0], members: data.chains[wait.changes[1]] } : undefined;
+/** Returns the chain that reaches a goroutine in its wait, with the moment at which it was seen, or undefined. If there was
+ * no look in the wait so far, the first one that comes in it is taken. */
+function chainAt({ changes }, moment) {
+  if (!changes.length) return undefined;
+  const before = 2 * (firstPlace(changes.length / 2, at => changes[2 * at] > moment) - 1), at = Math.max(0, before);
+  return { moment: before < 0 ? changes[0] : Math.max(lookBefore(moment), changes[at]), members: data.chains[changes[at + 1]] };
 }
 
 /** Returns the row at which a goroutine that can run is: that of its next turn. If it takes none, it is that of its last. */
@@ -133,7 +133,7 @@ function rowOf(goroutine, moment) {
 
 const runsAt = (goroutine, moment) => moment > 0 && data.who[moment - 1] === goroutine.number;
 
-/** Returns what a goroutine does at a moment: the name of the state, its words, its class, and of a wait its kind and row. */
+/** Returns what a goroutine does at a moment: the name of the state, its words and its class; of a wait its kind and row. */
 function stateOf(goroutine, moment) {
   if (moment < goroutine.begin) return { name: "absent", text: "not started", classes: "" };
   if (moment >= goroutine.removed) return { name: "gone", text: "taken back", classes: "" };
@@ -156,6 +156,7 @@ function waitState(goroutine, wait, moment) {
     return { name: "dead", text: `dead at ${place(wait.row)}`, classes: "is-dead", ...shared };
   }
   const chain = chainAt(wait, moment), classes = kindClass(wait.kind);
-  if (data.asleep && moment === last) return { name: "asleep", text: `asleep at ${place(wait.row)}`, classes, chain, ...shared };
-  return { name: "blocked", text: `${shared.kind}, ${place(wait.row)}`, classes, chain, ...shared };
+  const asleep = data.asleep && moment === last;
+  const text = asleep ? `asleep at ${place(wait.row)}` : `${shared.kind}, ${place(wait.row)}`;
+  return { name: asleep ? "asleep" : "blocked", text, classes, chain, ...shared };
 }

@@ -17,8 +17,8 @@ const box = (from, to, top, height) => `M${from} ${top}H${to}V${top + height}H${
 
 /** Returns [from, to] of the moments at which a goroutine took a turn. Pieces that are too near to be told apart are one. */
 function turnsInView(goroutine, grain) {
-  const turns = goroutine.turns, pieces = [];
-  for (let at = firstPlace(turns.length, place => turns[place] >= view.from); at < turns.length && turns[at] < view.to; at++) {
+  const turns = goroutine.turns, first = firstPlace(turns.length, at => turns[at] >= view.from), pieces = [];
+  for (let at = first; at < turns.length && turns[at] < view.to; at++) {
     const piece = pieces.at(-1);
     if (piece && turns[at] - piece[1] <= grain) piece[1] = turns[at] + 1; else pieces.push([turns[at], turns[at] + 1]);
   }
@@ -35,8 +35,12 @@ function waitsInView(goroutine) {
   return found;
 }
 
-/** Draws the track of a goroutine. Far away, a wait is drawn over turns and leaves them the lower half, so that neither hides
- * the other. */
+const trackPicture = () => drawn("svg", {
+  viewBox: `${view.from} 0 ${view.to - view.from} 100`, preserveAspectRatio: "none", "aria-hidden": "true",
+});
+
+/** Draws the track of a goroutine. Far away, a wait is drawn over turns and leaves them the lower half, so that neither
+ * hides the other. */
 function drawTrack(track, goroutine) {
   const grain = (view.to - view.from) / MOST_PIECES, far = grain > 1, waits = new Map();
   const turns = turnsInView(goroutine, Math.max(0, grain - 1));
@@ -46,7 +50,7 @@ function drawTrack(track, goroutine) {
     waits.set(key, (waits.get(key) ?? "") + box(wait.begin, Math.max(wait.end, wait.begin + grain), 18, 64));
   }
   const paths = [["free", freePath(goroutine)], ...far ? [ran(18, 64)] : [], ...waits, far ? ran(50, 32) : ran(18, 64)];
-  const picture = drawn("svg", { viewBox: `${view.from} 0 ${view.to - view.from} 100`, preserveAspectRatio: "none", "aria-hidden": "true" });
+  const picture = trackPicture();
   picture.append(...paths.filter(([, d]) => d).map(([classes, d]) => drawn("path", { class: classes, d })));
   track.replaceChildren(picture, ...deadBars(goroutine));
   drawTags(track, goroutine);
@@ -54,11 +58,12 @@ function drawTrack(track, goroutine) {
 
 /** The thin line from the start of a goroutine to its end. Waits, turns and death are drawn over it. */
 function freePath(goroutine) {
+  if (goroutine.number === 0) return "";
   const end = Math.min(goroutine.end, goroutine.dead, last + 1);
   const begins = goroutine.waits.map(wait => wait.begin), ends = goroutine.waits.map(wait => Math.min(wait.end, end));
-  if (goroutine.number === 0) return "";
-  return [goroutine.begin, ...ends].map((from, at) => [from, Math.min(begins[at] ?? end, end)])
-    .filter(([from, to]) => from < to && to > view.from && from < view.to).map(([from, to]) => box(from, to, 46, 8)).join("");
+  const pieces = [goroutine.begin, ...ends].map((from, at) => [from, Math.min(begins[at] ?? end, end)]);
+  const inView = pieces.filter(([from, to]) => from < to && to > view.from && from < view.to);
+  return inView.map(([from, to]) => box(from, to, 46, 8)).join("");
 }
 
 /** Returns [from, to] of the times of a dead goroutine: not yet reported, reported, and taken back. The turn in which it
@@ -103,12 +108,14 @@ function addTag(track, width, [begin, end], texts, classes) {
   track.append(tag);
 }
 
+const startOf = goroutine => goroutine.started ? `, started at ${place(goroutine.started)}` : "";
+
 function laneOf(goroutine) {
   const lane = element("li", "lane"), who = element("button", "who"), name = element("b", "", `G${goroutine.number} `);
   const state = element("small"), track = element("div", "track");
   name.append(element("i", "", goroutine.name));
   who.append(name, state);
-  who.title = `goroutine ${goroutine.number}, ${goroutine.name}` + (goroutine.started ? `, started at ${place(goroutine.started)}` : "");
+  who.title = `goroutine ${goroutine.number}, ${goroutine.name}${startOf(goroutine)}`;
   who.addEventListener("click", () => select(goroutine.number));
   lane.append(who, track);
   lane.dataset.g = goroutine.number;
@@ -151,8 +158,10 @@ function drawFold(track, list) {
   for (let moment = view.from; moment < view.to; moment += step) moments.push(Math.floor(moment));
   const sums = counted(list, moments), below = new Float64Array(moments.length);
   const keys = [...sums.keys()].sort((a, b) => orderOfFold(a) - orderOfFold(b));
-  const picture = drawn("svg", { viewBox: `${view.from} 0 ${view.to - view.from} 100`, preserveAspectRatio: "none", "aria-hidden": "true" });
-  for (const key of keys) picture.append(drawn("path", { class: key, d: foldPath(sums.get(key), below, moments, list.length) }));
+  const picture = trackPicture();
+  for (const key of keys) {
+    picture.append(drawn("path", { class: key, d: foldPath(sums.get(key), below, moments, list.length) }));
+  }
   track.replaceChildren(picture);
 }
 
@@ -173,10 +182,10 @@ function foldPath(sum, below, moments, most) {
 }
 
 function foldOf(list) {
-  const lane = element("li", "lane fold"), who = element("button", "who"), state = element("small"), track = element("div", "track");
-  const name = list[0].name || "goroutines";
+  const lane = element("li", "lane fold"), who = element("button", "who"), state = element("small");
+  const track = element("div", "track"), name = list[0].name || "goroutines";
   who.append(element("b", "", `${count(list.length)} × ${name}`), state);
-  who.title = `${count(list.length)} goroutines, ${name}` + (list[0].started ? `, started at ${place(list[0].started)}` : "");
+  who.title = `${count(list.length)} goroutines, ${name}${startOf(list[0])}`;
   who.setAttribute("aria-expanded", "false");
   lane.append(who, track);
   rows.push({ list, lane, state, draw: () => drawFold(track, list) });
@@ -235,18 +244,20 @@ function setView(near, moment) {
 
 /** Moves the view if the moment comes near its edge. */
 function follow(moment) {
-  const edge = NEAR / 10;
-  if (view.near && ((moment < view.from + edge && view.from > 0) || (moment > view.to - edge && view.to <= last))) setView(true, moment);
+  const edge = NEAR / 10, before = moment < view.from + edge && view.from > 0;
+  const after = moment > view.to - edge && view.to <= last;
+  if (view.near && (before || after)) setView(true, moment);
 }
 
 // ---- the ruler, and the marks across the lanes
 
-const UNITS = [1, 2, 5].flatMap(digit => [1, 10, 100, 1000, 10000, 100000].map(power => digit * power)).sort((a, b) => a - b);
+const UNITS = [1, 10, 100, 1000, 10000, 100000].flatMap(power => [power, 2 * power, 5 * power]);
 
 function buildRuler() {
   const ruler = $("ruler"), width = ruler.clientWidth || 600;
   ruler.querySelectorAll("span, em").forEach(each => each.remove());
-  const end = Math.min(last, view.to - 1), unit = UNITS.find(each => each >= (end - view.from) / Math.max(2, width / 58)) ?? last;
+  const end = Math.min(last, view.to - 1), least = (end - view.from) / Math.max(2, width / 58);
+  const unit = UNITS.find(each => each >= least) ?? last;
   const put = turn => {
     const mark = element("span", "", count(turn));
     mark.style.left = `${share(turn) * 100}%`;
@@ -278,7 +289,8 @@ function buildMarks(ruler, width) {
 
 function buildLegend() {
   const put = (classes, text) => $("legend").append(element("span", classes, text));
-  const kinds = new Map(), waits = goroutines.flatMap(goroutine => goroutine.waits.filter(wait => wait.begin < goroutine.dead));
+  const kinds = new Map();
+  const waits = goroutines.flatMap(goroutine => goroutine.waits.filter(wait => wait.begin < goroutine.dead));
   for (const { kind } of waits) {
     const classes = kindClass(kind);
     kinds.set(classes, (kinds.get(classes) ?? new Set()).add(kind ?? "blocked"));
@@ -286,9 +298,10 @@ function buildLegend() {
   put("is-run", "took this turn");
   put("l-free", "can run");
   for (const [classes, names] of kinds) put(classes, [...names].join(", "));
-  if (goroutines.some(goroutine => goroutine.dead < Math.min(goroutine.reported, last + 1))) put("l-dead", "dead, not yet reported");
-  if (goroutines.some(goroutine => goroutine.reported < Math.min(goroutine.removed, last + 1))) put("is-dead", "dead, reported");
-  if (goroutines.some(goroutine => goroutine.removed <= last)) put("l-gone", "taken back");
+  const some = test => goroutines.some(test), end = last + 1;
+  if (some(({ dead, reported }) => dead < Math.min(reported, end))) put("l-dead", "dead, not yet reported");
+  if (some(({ reported, removed }) => reported < Math.min(removed, end))) put("is-dead", "dead, reported");
+  if (some(({ removed }) => removed <= last)) put("l-gone", "taken back");
   if (data.collections.length) put("l-collection", "collection");
   if (data.left_out) put("l-text", `${many(data.left_out, "goroutine")} left out`);
 }

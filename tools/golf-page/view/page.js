@@ -39,22 +39,27 @@ function showLane({ goroutine, list, lane, state }, states) {
     return;
   }
   const { name, kind, row, text, classes } = states.get(goroutine.number);
-  if (name === "blocked") state.replaceChildren(element("span", "long", `${kind}, `), place(row)); else state.textContent = text;
+  if (name === "blocked") state.replaceChildren(element("span", "long", `${kind}, `), place(row));
+  else state.textContent = text;
   state.className = classes;
   lane.classList.toggle("selected", goroutine.number === selected);
 }
 
 function showFoldState(list, state, states) {
-  const names = list.map(goroutine => states.get(goroutine.number).name), number = name => names.filter(each => each === name).length;
-  const dead = number("dead"), blocked = number("blocked") + number("asleep");
-  state.textContent = [dead ? `${count(dead)} dead` : "", blocked ? `${count(blocked)} blocked` : ""].filter(Boolean).join(", ") || "none blocked";
-  state.className = dead ? "is-dead" : "";
+  const found = list.map(goroutine => states.get(goroutine.number));
+  state.textContent = countsOf(found) || "none blocked";
+  state.className = found.some(({ name }) => name === "dead") ? "is-dead" : "";
+}
+
+/** Returns how many of these states are blocked, asleep and dead. */
+function countsOf(states) {
+  const counts = ["blocked", "asleep", "dead"].map(name => [states.filter(state => state.name === name).length, name]);
+  return counts.filter(([number]) => number).map(([number, name]) => `${count(number)} ${name}`).join(", ");
 }
 
 /** Writes what happened in the turn, and how many goroutines are blocked and dead. */
 function showNow(moment, states) {
-  const number = name => states.filter(([, state]) => state.name === name).length, blocked = number("blocked"), dead = number("dead");
-  const counts = [blocked ? `${count(blocked)} blocked` : "", dead ? `${count(dead)} dead` : ""].filter(Boolean).join(", ") || "nobody is blocked";
+  const counts = countsOf(states.map(([, state]) => state)) || "nobody is blocked";
   const parts = [whatHappened(moment), data.asleep && moment === last ? "all goroutines are asleep" : counts];
   const collections = data.collections.filter(([, turn]) => turn === moment).map(([number]) => count(number));
   if (collections.length) parts.push(`collection ${collections.join(" and ")}`);
@@ -109,7 +114,8 @@ function whatHappened(moment) {
     else changes.set(one, [...changes.get(one) ?? [], [several, number]]);
   }
   for (const [one, list] of changes) {
-    const names = list.length > 3 ? `${count(list.length)} goroutines` : list.map(([, number]) => `G${number}`).join(" and ");
+    const all = list.map(([, number]) => `G${number}`);
+    const names = all.length > 3 ? `${count(all.length)} goroutines` : all.join(" and ");
     parts.push(`${names} ${list.length === 1 ? one : list[0][0]}`);
   }
   return parts.join(", ");
@@ -186,10 +192,12 @@ function readAddress() {
 
 /** The page opens where most can be seen: at the last report, at a panic, or when most goroutines are blocked. */
 function firstMoment() {
-  const reports = goroutines.filter(goroutine => goroutine.reported <= last).map(goroutine => Math.min(goroutine.reported, goroutine.removed - 1));
+  const reported = goroutines.filter(goroutine => goroutine.reported <= last);
+  const reports = reported.map(({ reported, removed }) => Math.min(reported, removed - 1));
   if (reports.length) return reports.reduce((most, moment) => Math.max(most, moment));
   if (data.fault) return last;
-  const changes = goroutines.flatMap(({ waits }) => waits.flatMap(wait => [[wait.begin, 1], [Math.min(wait.end, last + 1), -1]]));
+  const waits = goroutines.flatMap(goroutine => goroutine.waits);
+  const changes = waits.flatMap(({ begin, end }) => [[begin, 1], [Math.min(end, last + 1), -1]]);
   changes.sort((a, b) => a[0] - b[0] || a[1] - b[1]);
   let number = 0, most = 0, found = last;
   changes.forEach(([, change], at) => {
@@ -200,7 +208,8 @@ function firstMoment() {
 }
 
 function listen() {
-  const buttons = { zoom, previous: previousChange, back: () => show(now - 1), play, on: () => show(now + 1), next: nextChange };
+  const back = () => show(now - 1), on = () => show(now + 1);
+  const buttons = { zoom, previous: previousChange, back, play, on, next: nextChange };
   for (const name in buttons) $(`b-${name}`).addEventListener("click", buttons[name]);
   $("slider").addEventListener("input", () => show(+$("slider").value));
   $("field").addEventListener("pointerdown", onPointerDown);
@@ -219,7 +228,9 @@ function start() {
   buildLanes();
   buildLegend();
   drawLanes();
-  for (const { row, turn } of printedRows) if (row.closest("#output") && turn) row.append(element("small", "", `G${data.who[turn - 1]}`));
+  for (const { row, turn } of printedRows) {
+    if (row.closest("#output") && turn) row.append(element("small", "", `G${data.who[turn - 1]}`));
+  }
   listen();
   show(readAddress() ?? firstMoment());
 }

@@ -76,11 +76,11 @@ function showFault(moment) {
   const fault = document.querySelector("#source .fault");
   if (!fault) return;
   fault.hidden = moment < last;
-  if (moment === last && mark(markedRow(data.fault[1]), ["hit", "dead"])) fault.closest("li").previousElementSibling.style.setProperty("--k", "var(--dead)");
+  if (moment === last) mark(markedRow(data.fault[1]), ["hit", "dead"]);
 }
 
-/** Brings the marks into view: all if that is possible, else those of blocked goroutines, else the first of these, unless one
- * is in view. */
+/** Brings the marks into view: all if that is possible, else those of blocked goroutines, else the first of these, unless
+ * one is in view. */
 function scrollToMarks() {
   const list = $("source"), high = list.clientHeight, top = list.scrollTop, room = high - 90;
   const blocked = topsOf(marked.filter(row => row.classList.contains("hit"))), all = topsOf(marked);

@@ -15,9 +15,8 @@ function groupsOf(states) {
   };
   const together = waiting.length > MOST_SINGLE;
   for (const [goroutine, state] of waiting) {
-    const single = String(goroutine.number), told = goroutine.reported <= now;
-    if (state.name === "dead") put(dead, together ? `${state.kind} ${state.row} ${goroutine.started} ${told}` : single, goroutine, state);
-    else put(live, together ? `${state.kind} ${state.row} ${alike(state)}` : single, goroutine, state);
+    const isDead = state.name === "dead", common = isDead ? `${goroutine.started} ${goroutine.reported <= now}` : alike(state);
+    put(isDead ? dead : live, together ? `${state.kind} ${state.row} ${common}` : goroutine.number, goroutine, state);
   }
   return { live: [...live.values()], dead: [...dead.values()] };
 }
@@ -74,7 +73,8 @@ class Graph {
   picture() {
     if (this.live.length) this.addLive();
     if (this.dead.length) this.addDead();
-    const height = this.bottom + 4, picture = drawn("svg", { "aria-hidden": "true", viewBox: `0 0 ${this.width} ${height}` });
+    const height = this.bottom + 4;
+    const picture = drawn("svg", { "aria-hidden": "true", viewBox: `0 0 ${this.width} ${height}` });
     this.drawEdges();
     this.drawRoot(height);
     for (const node of this.nodes.values()) this.drawNode(node);
@@ -125,14 +125,15 @@ class Graph {
   }
 
   severalNode(group, at, member, number) {
-    const kind = member > 0 ? kindOfObject.get(member) ?? "object" : "goroutine";
-    return this.node(`several ${group.members[0].number} ${at}`, { kind: "object", text: `${count(number)} ${kind}${kind === "mutex" ? "es" : "s"}` });
+    const kind = member > 0 ? kindOfObject.get(member) ?? "object" : "goroutine", ending = kind.endsWith("x") ? "es" : "s";
+    return this.node(`several ${group.members[0].number} ${at}`, { kind: "object", text: `${count(number)} ${kind}${ending}` });
   }
 
   memberNode(member) {
     if (member > 0) return this.node(`object ${member}`, { kind: "object", text: memberName(member) });
     const group = this.groupOf.get(-member);
-    return this.node(`goroutine ${group ? group.members[0].number : -member}`, { kind: "goroutine", group, text: memberName(member) });
+    const number = group ? group.members[0].number : -member;
+    return this.node(`goroutine ${number}`, { kind: "goroutine", group, text: memberName(member) });
   }
 
   widthOf(node) {
@@ -153,7 +154,8 @@ class Graph {
   // ---- dead goroutines: an island that no way leads to
 
   addDead() {
-    const left = 1 + ROOT_WIDTH + 52, top = this.bottom + (this.live.length ? 14 : 0), stacks = [...this.stacksOf().values()];
+    const left = 1 + ROOT_WIDTH + 52, top = this.bottom + (this.live.length ? 14 : 0);
+    const stacks = [...this.stacksOf().values()];
     const inTwo = this.dead.length > 3 && this.room > 760 && stacks.every(stack => stack.groups.length === 1);
     const columns = inTwo ? 2 : 1, cell = OBJECT_WIDTH + 22 + this.gap + this.deadWidth + 34;
     let row = 0;
@@ -195,7 +197,8 @@ class Graph {
     const middle = (top + this.bottom) / 2;
     this.back.append(drawn("rect", { class: "island", x, y: top, width, height: this.bottom - top, rx: 10 }),
       drawn("text", { class: "caption", x: x + 14, y: top + 19 }, "nothing live reaches this"));
-    this.lines.append(drawn("path", { class: "edge", d: `M${1 + ROOT_WIDTH} ${middle}H${x - 14}`, "stroke-dasharray": "2 3" }),
+    const gap = `M${1 + ROOT_WIDTH} ${middle}H${x - 14}`;
+    this.lines.append(drawn("path", { class: "edge", d: gap, "stroke-dasharray": "2 3" }),
       drawn("path", { class: "cut", d: `M${x - 25} ${middle - 5}l10 10m0 -10l-10 10` }));
     this.width = Math.max(this.width, x + width + 1);
   }
@@ -216,16 +219,18 @@ class Graph {
   }
 
   drawRoot(height) {
-    const root = drawn("g", { class: "root" }), middle = (TOP - 6 + height - 4) / 2;
+    const root = drawn("g", { class: "root" }), middle = (TOP - 6 + height - 4) / 2, name = height > 66 ? "ROOTS" : "R";
+    const transform = `translate(${ROOT_WIDTH / 2 + 5} ${middle}) rotate(-90)`;
     root.append(drawn("rect", { x: 1, y: TOP - 6, width: ROOT_WIDTH, height: height - TOP, rx: 8 }),
-      drawn("text", { transform: `translate(${ROOT_WIDTH / 2 + 5} ${middle}) rotate(-90)`, "text-anchor": "middle" }, height > 66 ? "ROOTS" : "R"));
+      drawn("text", { transform, "text-anchor": "middle" }, name));
     this.boxes.prepend(root);
   }
 
   drawNode(node) {
     if (node.group) this.drawGroup(node.group, node.x, node.y, this.liveWidth);
     if (node.group || node.kind === "root") return;
-    const width = this.widthOf(node), height = node.kind === "object" ? OBJECT_HEIGHT : GOROUTINE_HEIGHT, box = drawn("g", { class: "object" });
+    const width = this.widthOf(node), height = node.kind === "object" ? OBJECT_HEIGHT : GOROUTINE_HEIGHT;
+    const box = drawn("g", { class: "object" });
     box.append(drawn("rect", { x: node.x, y: node.y - height / 2, width, height, rx: 6 }),
       drawn("text", { x: node.x + width / 2, y: node.y + 4, "text-anchor": "middle" }, node.text));
     this.boxes.append(box);
@@ -234,11 +239,12 @@ class Graph {
   drawGroup(group, x, y, width) {
     const { state, members } = group, chosen = members.some(goroutine => goroutine.number === selected);
     const name = members.length < 4 && members[0].name ? `${namesOf(members)} ${members[0].name}` : namesOf(members);
+    const wait = shortened(`${shortKind(state.kind)}, ${place(state.row)}`, Math.floor((width - 18) / 5.7));
     const box = drawn("g", { class: `goroutine ${state.classes}${chosen ? " selected" : ""}` });
     box.append(drawn("title", {}, `${namesOf(members)}: ${state.text}`),
       drawn("rect", { x, y: y - GOROUTINE_HEIGHT / 2, width, height: GOROUTINE_HEIGHT, rx: 9 }),
       drawn("text", { class: "first", x: x + 11, y: y - 3 }, shortened(name, Math.floor((width - 20) / 7.3))),
-      drawn("text", { class: "small", x: x + 11, y: y + 13 }, shortened(`${shortKind(state.kind)}, ${place(state.row)}`, Math.floor((width - 18) / 5.7))));
+      drawn("text", { class: "small", x: x + 11, y: y + 13 }, wait));
     box.addEventListener("click", () => select(members[0].number));
     this.boxes.append(box);
   }
@@ -265,7 +271,8 @@ function showWhy(moment, states) {
   const more = Math.max(0, groups.dead.length - MOST_REASONS) + Math.max(0, groups.live.length - MOST_REASONS);
   if (more) items.push(element("li", "empty", `and ${count(more)} more`));
   items.push(...removedReasons(moment), ...dividedNote(moment));
-  if (!items.length) items.push(element("li", "empty", moment === 0 ? "Nothing has run yet." : "No goroutine is blocked at this moment."));
+  const empty = moment === 0 ? "Nothing has run yet." : "No goroutine is blocked at this moment.";
+  if (!items.length) items.push(element("li", "empty", empty));
   $("reasons").replaceChildren(...items);
 }
 
@@ -277,16 +284,17 @@ function showGraph(groups) {
 
 /** Says how many goroutines are blocked, and after which turn their chains were seen. */
 function whyNote(moment, groups) {
-  const number = list => list.reduce((sum, group) => sum + group.members.length, 0), live = number(groups.live), dead = number(groups.dead);
-  const asleep = data.asleep && moment === last;
-  return [live ? `${count(live)} ${asleep ? "asleep" : "blocked and live"}` : "", dead ? `${count(dead)} dead` : "", seenNote(moment, groups)]
-    .filter(Boolean).join(", ");
+  const number = list => list.reduce((sum, group) => sum + group.members.length, 0);
+  const live = number(groups.live), dead = number(groups.dead);
+  const name = data.asleep && moment === last ? "asleep" : "blocked and live";
+  const parts = [live ? `${count(live)} ${name}` : "", dead ? `${count(dead)} dead` : "", seenNote(moment, groups)];
+  return parts.filter(Boolean).join(", ");
 }
 
 function liveHeading(moment, live) {
   if (!data.asleep || moment < last) return "Live, since a root reaches what they wait on:";
-  const chains = live.some(({ state }) => state.chain) ? " A chain is what reached a goroutine before the last one blocked." : "";
-  return `All goroutines are asleep.${chains}`;
+  if (!live.some(({ state }) => state.chain)) return "All goroutines are asleep.";
+  return "All goroutines are asleep. A chain is what reached a goroutine before the last one blocked.";
 }
 
 /** Says after which turn the chains were seen, if it is not this moment. */
@@ -298,7 +306,8 @@ function seenNote(moment, groups) {
 /** Returns an item of the list with the names of goroutines, and its paragraph. */
 function reason(members, classes) {
   const chosen = members.some(goroutine => goroutine.number === selected);
-  const item = element("li", classes + (chosen ? " selected" : "")), button = element("button", "g", namesOf(members)), text = element("p");
+  const item = element("li", classes + (chosen ? " selected" : "")), button = element("button", "g", namesOf(members));
+  const text = element("p");
   button.addEventListener("click", () => select(members[0].number));
   if (members.length > 3) button.title = members.slice(0, 200).map(goroutine => `G${goroutine.number}`).join(" ");
   item.append(button, text);
@@ -306,12 +315,14 @@ function reason(members, classes) {
 }
 
 function deadReason({ state, members }) {
-  const [item, text] = reason(members, state.classes), goroutine = members[0], one = members.length === 1, seen = lastObject(goroutine);
+  const [item, text] = reason(members, state.classes), goroutine = members[0], one = members.length === 1;
+  const seen = lastObject(goroutine);
   const deaths = members.map(each => each.dead), first = Math.min(...deaths), end = Math.max(...deaths);
-  const object = one && seen ? ` At turn ${count(seen.moment)}, when it was live, it waited on ${memberName(seen.object)}.` : "";
+  const wait = seen && `At turn ${count(seen.moment)}, when it was live, it waited on ${memberName(seen.object)}.`;
   const since = first === end ? `turn ${count(first)}` : `turns ${count(first)} to ${count(end)}`;
   text.append(element("span", "what", `${state.kind} at ${place(state.row)}`),
-    `: nothing live reaches what ${one ? "it waits" : "they wait"} on.${object} Started at ${place(goroutine.started)}. Dead since ${since}`
+    `: nothing live reaches what ${one ? "it waits" : "they wait"} on. ${one && wait ? `${wait} ` : ""}`
+    + `Started at ${place(goroutine.started)}. Dead since ${since}`
     + `${data.looks === null ? "" : " at the latest"}; ${reportOf(goroutine, one)}.`);
   return item;
 }
@@ -362,5 +373,6 @@ function removedReasons(moment) {
 function dividedNote(moment) {
   const numbers = data.divided.filter(number => (turnOfCollection.get(number) ?? Infinity) <= moment);
   if (!numbers.length) return [];
-  return [element("li", "heading", `Collection ${count(numbers.at(-1))} took some of the dead back and kept others. The program does not tell which.`)];
+  const words = `Collection ${count(numbers.at(-1))} took some of the dead back and kept others.`;
+  return [element("li", "heading", `${words} The program does not tell which.`)];
 }

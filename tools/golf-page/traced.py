@@ -70,7 +70,8 @@ class Collection:
 
 @functools.lru_cache(maxsize=1 << 16)
 def turn_of(text):
-    """Reads the line of a turn from behind its number. The lines of many turns repeat. Returns None if it is no such line."""
+    """Reads the line of a turn, from behind its number on. Returns None if it is no such line. The lines of many turns
+    repeat."""
     match = TURN.match(text)
     if not match:
         return None
