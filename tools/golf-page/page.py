@@ -23,7 +23,7 @@ from data import data_of, embedded
 from places import Lowered, Plain
 from program import Failure, Programs, program_path
 from run import USAGE, Run
-from source import rows_of
+from source import MOST_BYTES, rows_of
 from tell import STATUS, counted, fault_note, headline, output_rows, refusal_note, report_rows, rules_of
 from words import of_answer
 
@@ -75,12 +75,13 @@ class Page:
     def source(self):
         """Returns the rows of the files."""
         places, notes, wanted, parts = self.run.places, self.notes(), self.wanted(), []
+        most = MOST_BYTES // len(places.files)
         for source, (name, before) in zip(places.sources, places.files):
             if len(places.files) > 1:
                 parts.append(f"<li class=file>{html.escape(name)}</li>")
             inside = range(before + 1, before + len(source.rows) + 1)
             parts.append(rows_of(source, {row - before: note for row, note in notes.items() if row in inside},
-                                 [row - before for row in wanted if row in inside], before + 1))
+                                 [row - before for row in wanted if row in inside], before + 1, most))
         return "\n".join(parts)
 
     def notes(self):

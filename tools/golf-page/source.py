@@ -14,7 +14,7 @@ COMMENT, STRING, KEYWORD, NUMBER, BUILT_IN, NAME, OTHER = "c", "s", "k", "n", "b
 IN_COLOUR = (COMMENT, STRING, KEYWORD, NUMBER, BUILT_IN)
 
 MOST_OF_A_LINE = 2000  # the most characters of a line that are shown
-MOST_BYTES = 600_000   # the most bytes of all rows
+MOST_BYTES = 500_000   # the most bytes of the rows of all files
 AROUND = 3             # so many lines are shown before and after a line that must be
 
 
@@ -125,10 +125,10 @@ def call_name(words):
     return name
 
 
-def rows_of(source, notes, wanted, first=1):
-    """Returns the rows of a file. `notes` are the callouts below lines, as HTML. If the rows are too many bytes, those
-    around the wanted lines are shown, in the order in which they are wanted. `first` is the number of the first row."""
-    shown = shown_lines(source, wanted)
+def rows_of(source, notes, wanted, first, most):
+    """Returns the rows of a file. `notes` are the callouts below lines, as HTML. If the rows have more than the most bytes,
+    those around the wanted lines are shown, in the order in which they are wanted. `first` is the number of the first row."""
+    shown = shown_lines(source, wanted, most)
     rows, before = [], 0
     for line in [*shown, len(source.rows) + 1]:
         if line - before > 1:
@@ -146,13 +146,13 @@ def row_html(row, line, text):
     return f'<li id=L{row} data-n={row}><span class=no>{line}</span><code>{text or " "}</code><span class=at></span></li>'
 
 
-def shown_lines(source, wanted):
+def shown_lines(source, wanted, most):
     """Returns the lines that are shown, by rising number."""
     count = len(source.rows)
     cost = len(row_html(count, count, ""))
-    if sum(len(row) + cost for row in source.rows) <= MOST_BYTES:
+    if sum(len(row) + cost for row in source.rows) <= most:
         return range(1, count + 1)
-    shown, left = set(), MOST_BYTES
+    shown, left = set(), most
     for line in [*wanted, *range(1, count + 1)]:
         near = [each for each in range(max(1, line - AROUND), min(count, line + AROUND) + 1) if each not in shown]
         left -= sum(len(source.rows[each - 1]) + cost for each in near)

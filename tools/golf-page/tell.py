@@ -19,7 +19,7 @@ TOLD_FAULT = re.compile(r"(?s)(panic|fatal error): (.*) \(goroutine (\d+), (line
 GOOD, DOUBTFUL, BAD = "good", "warn", "bad"
 
 MOST_ROWS = 1000
-MOST_BYTES = 200_000   # of the rows of one list
+MOST_BYTES = 150_000   # of the rows of one list
 MOST_OF_A_ROW = 2000   # the most characters of a row
 
 

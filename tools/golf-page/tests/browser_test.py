@@ -385,6 +385,15 @@ class Use(InBrowser):
         self.browser.press("Enter")
         self.assertEqual(self.value("selected"), 2)
 
+    def test_the_focus_stays(self):
+        self.open(example("leak"))
+        for selector in ("#reasons .g", "#source .chip"):
+            self.value(f"document.querySelector('{selector}').focus()")
+            self.browser.press("Enter")
+            self.browser.press("ArrowLeft")
+            self.assertEqual(self.value(f"document.activeElement === document.querySelector('{selector}')"), True)
+            self.browser.press("ArrowRight")
+
     def test_slider(self):
         self.open(example("leak"))
         self.value("$('slider').value = 4; $('slider').dispatchEvent(new Event('input'))")

@@ -542,7 +542,9 @@ class Sources(unittest.TestCase):
 
     def test_wanted_lines_come_first(self):
         found = source.Source("x\n" * 200_000)
-        self.assertLessEqual({100_000, 150_000}, set(source.shown_lines(found, [100_000, 150_000])))
+        shown = source.shown_lines(found, [100_000, 150_000], 5_000)
+        self.assertEqual(list(shown)[-14:], [*range(99_997, 100_004), *range(149_997, 150_004)])
+        self.assertLess(len(source.rows_of(found, {}, [100_000], 1, 5_000)), 5_100)
 
 
 LOWERED = b"""package main

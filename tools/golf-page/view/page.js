@@ -15,6 +15,7 @@ function show(moment, again) {
   moment = Math.max(0, Math.min(last, Math.round(moment)));
   if (moment === now && !again) return;
   now = moment;
+  const focused = document.activeElement;
   follow(moment);
   const states = goroutines.map(goroutine => [goroutine, stateOf(goroutine, moment)]);
   const stateByNumber = new Map(states.map(([goroutine, state]) => [goroutine.number, state]));
@@ -27,8 +28,15 @@ function show(moment, again) {
   showPrinted(moment);
   showSource(moment, states);
   showWhy(moment, states);
+  keepFocus(focused);
   clearTimeout(settle);
   settle = setTimeout(() => history.replaceState(null, "", address()), 150);
+}
+
+/** Chips and reasons are made anew. If one of them had the focus, the new one of the same goroutine gets it. */
+function keepFocus(focused) {
+  if (document.contains(focused) || !focused.dataset.g) return;
+  document.querySelector(`.${focused.classList[0]}[data-g="${focused.dataset.g}"]`)?.focus({ preventScroll: true });
 }
 
 const address = () => `#t=${now}${selected === null ? "" : `&g=${selected}`}`;

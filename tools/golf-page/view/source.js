@@ -57,6 +57,7 @@ function markWaiting(row, list) {
 
 function chipOf(goroutine, state) {
   const chip = element("button", `chip ${state.classes}`, `G${goroutine.number}`);
+  chip.dataset.g = goroutine.number;
   chip.title = `goroutine ${goroutine.number}: ${state.text}`;
   chip.addEventListener("click", () => select(goroutine.number));
   return chip;

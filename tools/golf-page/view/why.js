@@ -5,7 +5,7 @@ const MOST_SINGLE = 16; // beyond, goroutines that wait alike are shown together
 
 // ---- goroutines that are shown together
 
-/** Returns the blocked goroutines of a moment, live and dead. Those that wait alike are one group if they are many. */
+/** Returns the blocked goroutines of a moment, live and dead. If they are many, goroutines that wait alike are one group. */
 function groupsOf(states) {
   const live = new Map(), dead = new Map(), waiting = states.filter(([, state]) => state.wait);
   const put = (groups, key, goroutine, state) => {
@@ -151,7 +151,7 @@ class Graph {
     this.bottom = Math.max(this.bottom, begin + height + ROW_GAP);
   }
 
-  // ---- dead goroutines: an island that no way leads to
+  // ---- dead goroutines: an island without a way from the roots
 
   addDead() {
     const left = 1 + ROOT_WIDTH + 52, top = this.bottom + (this.live.length ? 14 : 0);
@@ -308,6 +308,7 @@ function reason(members, classes) {
   const chosen = members.some(goroutine => goroutine.number === selected);
   const item = element("li", classes + (chosen ? " selected" : "")), button = element("button", "g", namesOf(members));
   const text = element("p");
+  button.dataset.g = members[0].number;
   button.addEventListener("click", () => select(members[0].number));
   if (members.length > 3) button.title = members.slice(0, 200).map(goroutine => `G${goroutine.number}`).join(" ");
   item.append(button, text);
