@@ -44,7 +44,7 @@ use Rattle.golf_code_shapes.specs.Sound.{ScopeFits, Shown, Gives, Callee, Turns,
 use Rattle.golf_code_shapes.specs.Flowing.{IsMaking, MadeFit}
 use Rattle.golf_code_shapes.proofs.Typings.{none-left, none-right, kept, sent-on, assigned-value}
 use Rattle.golf_code_shapes.proofs.Literals.{Arg, judgeds, arg-gives}
-use Rattle.golf_code_shapes.proofs.CallShapes.{arguments, Passes, Taken, passed, parts, one-passed}
+use Rattle.golf_code_shapes.proofs.CallShapes.{arguments, Passes, Taken, passed, parts, one-passed, file-taken}
 use Rattle.golf_code_shapes.proofs.Exprs.{fits}
 use Rattle.golf_code_shapes.proofs.Flows.{Right, quiet}
 
@@ -156,16 +156,8 @@ module _ (types : Types) (t : Tables) (ft : FunctionTypes) (A : List ℕ) (s : S
         → Turns types ft A receiver [] below
         → Silent types ft A (all (receiver ∷ pushes (arguments types t ft A s xs) ∷ op l (begin (k + 1) n) ∷ []))
     file-begins l k n below c receiver xs stand count pass hr =
-        begins l (k + 1) n receiver (pushes (arguments types t ft A s xs)) (record {
-          callee = c.1;
-          below = below;
-          above = known_types c.0.parameters;
-          there = c.3;
-          count = count ∙ ap length (sym c.4);
-          stand = λ ops. ap (λ ps. pushed ps ops) c.4 ∙ stand (known_types c.0.parameters) ops;
-          receiver_turns = hr;
-          arguments_pass = pass;
-        })
+        begins l (k + 1) n receiver (pushes (arguments types t ft A s xs))
+        (file-taken types t ft A s k below c stand count pass hr)
 
     -- what may be begun
     on-begin : (l next : ℕ) (m : Operand) (x : Made) (xs : List (Arg types t ft A s)) → may_be_begun m ≡ true

@@ -222,6 +222,19 @@ module _ (types : Types) (t : Tables) (ft : FunctionTypes) where
     pub made : MadeFit types a.functions ((in_loop b c x).lay a s).made
     pub none : ((in_loop b c x).walk s).faults ≡ []
 
+  -- a loop without a step behind its body
+  bare : {x : Part} {a : Around} {s : Scope} (A : List ℕ) (exits : List Shape) → Fits A s
+      → Slotted ft s.next ((in_loop 1 0 x).walk s).slots → MadeFit types a.functions ((in_loop 1 0 x).lay a s).made
+      → ((in_loop 1 0 x).walk s).faults ≡ [] → Loops x 1 0 a s A (shape [] A ∷ shape [] A ∷ exits)
+  bare A exits ok slots made none = record {
+    fits = ok;
+    breaks = (A, refl, every-self A);
+    continues = (A, refl, every-self A);
+    slots = slots;
+    made = made;
+    none = none;
+  }
+
   pub looped : (x : Part) → Right types t ft x → (b c : ℕ) (a : Around) (s : Scope) (A : List ℕ) (exits : List Shape)
       → Loops x b c a s A exits
       → Has types ft ((in_loop b c x).lay a s).piece (shape [] A) (shape [] A) exits
@@ -236,14 +249,7 @@ module _ (types : Types) (t : Tables) (ft : FunctionTypes) where
   right-forever l x calm h a s A exits ok ways slots made none =
       let sh = shape [] A in
       let E : List Shape = sh ∷ sh ∷ exits in
-      let b = looped x h 1 0 a s A E (record {
-        fits = ok;
-        breaks = (A, refl, every-self A);
-        continues = (A, refl, every-self A);
-        slots = slots;
-        made = made;
-        none = none;
-      }) in (
+      let b = looped x h 1 0 a s A E (bare A exits ok slots made none) in (
         quiet types t ft A exits s ((forever l (in_loop 1 0 x)).walk s) _
             (calm (record s { breaks = true; loops = true })) ok
             (has-block types ft _ sh sh exits (has-again types ft _ sh sh (sh ∷ exits)
@@ -259,15 +265,8 @@ module _ (types : Types) (t : Tables) (ft : FunctionTypes) where
       let sh = shape [] A in
       let E : List Shape = sh ∷ sh ∷ exits in
       let body = ((in_loop 1 0 x).lay a s).piece in
-      let b = looped x h 1 0 a s A E (record {
-        fits = ok;
-        breaks = (A, refl, every-self A);
-        continues = (A, refl, every-self A);
-        slots = slots;
-        made = made;
-        none =
-            none-right (W.condition l test s).faults _ none;
-      }) in (
+      let b = looped x h 1 0 a s A E
+      (bare A exits ok slots made (none-right (W.condition l test s).faults _ none)) in (
         quiet types t ft A exits s ((while t l test (in_loop 1 0 x)).walk s) _
             (calm (record s { breaks = true; loops = true })) ok
             (has-block types ft _ sh sh exits (has-again types ft _ sh sh (sh ∷ exits)

@@ -29,14 +29,14 @@ use Rattle.golf_check_types.specs.Calls.{steady_faults, call_faults, called, pla
 use Rattle.golf_check_types.specs.Calls.{finalises_by, signature_takes, takes_alone, same_known, is_struct_pointer}
 use Rattle.golf_check_types.specs.Calls.{is_struct_type, called_with, sets_finaliser}
 use Rattle.golf_model_typing.specs.Types.{ValueType, Shape, Signature, FunctionTypes, Types}
-use Rattle.golf_model_typing.specs.Shapes.{InstructionFits, pushed, IsPrintable}
+use Rattle.golf_model_typing.specs.Shapes.{pushed, IsPrintable}
 use Rattle.golf_code_layout.specs.Piece.{Piece, all, op}
 use Rattle.golf_code_shapes.specs.Has.{shape, filled, To, Has}
 use Rattle.golf_code_shapes.proofs.Pieces.{has-empty, has-op, has-then}
 use Rattle.golf_code_of.specs.declared.tables.Tables.{Tables}
 use Rattle.golf_code_of.specs.Expressions.{Made, only}
 use Rattle.golf_code_of.specs.Calls.{Argument, pushes, operation, finaliser, finalising, receiver_base, call}
-use Rattle.golf_code_shapes.specs.Types.{base_type, layers_type, value_type, known_type, known_types}
+use Rattle.golf_code_shapes.specs.Types.{layers_type, value_type, known_type, known_types}
 use Rattle.golf_code_shapes.specs.Sound.{IsKnown, Callee, Turns, Pushes, Silent, Receives}
 use Rattle.golf_code_shapes.proofs.Typings.{none-left, none-right, kept, same-value}
 use Rattle.golf_code_shapes.proofs.Turning.{turn-op, one-turn}
@@ -139,6 +139,23 @@ module _ (types : Types) (t : Tables) (ft : FunctionTypes) (A : List ℕ) (s : S
       )))
       (has-empty types ft to exits)))
 
+  -- receiver and arguments are those of a function or method of the file
+  abbrev pub file-taken : {n : ℕ} {receiver args : Piece} (k : ℕ) (below : List ValueType)
+      (c : Callee types t s.file k below)
+      → ((ts : List ValueType) (ops : List ValueType) → pushed (below ++ ts) ops ≡ pushed ts (below ++ ops))
+      → n ≡ length (below ++ known_types c.0.parameters) → Passes args (known_types c.0.parameters)
+      → Tu receiver [] below → Taken (k + 1) n receiver args
+  file-taken k below c stand count pass hr = record {
+    callee = c.1;
+    below = below;
+    above = known_types c.0.parameters;
+    there = c.3;
+    count = count ∙ ap length (sym c.4);
+    stand = λ ops. ap (λ ps. pushed ps ops) c.4 ∙ stand (known_types c.0.parameters) ops;
+    receiver_turns = hr;
+    arguments_pass = pass;
+  }
+
   of-signature : (l k : ℕ) (below : List ValueType) (c : Callee types t s.file k below) (vs : List Given)
       → call_faults l s.file (operand.Function k) vs ≡ [] → parameter_faults l c.0.parameters vs ≡ []
   of-signature l k below c vs none = subst (λ o. signature_faults l o vs ≡ []) c.2 none
@@ -152,16 +169,8 @@ module _ (types : Types) (t : Tables) (ft : FunctionTypes) (A : List ℕ) (s : S
   file-call l k n below c receiver xs stand count pass hr =
       subst (λ o. Sh (signature_result o) (only
       (all (receiver ∷ pushes (arguments xs) ∷ op l (Instr.Call (k + 1) n) ∷ [])))) (sym c.2)
-      (gives-result c.0.result _ (call-turns l k n c.0.result receiver (pushes (arguments xs)) (record {
-        callee = c.1;
-        below = below;
-        above = known_types c.0.parameters;
-        there = c.3;
-        count = count ∙ ap length (sym c.4);
-        stand = λ ops. ap (λ ps. pushed ps ops) c.4 ∙ stand (known_types c.0.parameters) ops;
-        receiver_turns = hr;
-        arguments_pass = pass;
-      }) c.5))
+      (gives-result c.0.result _ (call-turns l k n c.0.result receiver (pushes (arguments xs))
+      (file-taken k below c stand count pass hr) c.5))
 
   -- the plain faults of a call
   pub parts : (l : ℕ) (m : Operand) (xs : Args) → (plain_call l s m (js xs)).faults ≡ []
@@ -232,11 +241,11 @@ module _ (types : Types) (t : Tables) (ft : FunctionTypes) (A : List ℕ) (s : S
       (has-empty types ft (shape (e ∷ ops) A) exits)
 
   -- an operation of package sync on its receiver alone
-  on-receiver : (l : ℕ) (b : BuiltIn) (c : Base) (r receiver : Piece) (xs : Args)
-      → parameter_faults l [] (map given_by (js xs)) ≡ [] → Pu receiver (base_type c) → Tu r (base_type c ∷ []) []
+  on-receiver : (l : ℕ) (u : ValueType) (r receiver : Piece) (xs : Args)
+      → parameter_faults l [] (map given_by (js xs)) ≡ [] → Pu receiver u → Tu r (u ∷ []) []
       → Tu (all (receiver ∷ pushes (arguments xs) ∷ r ∷ [])) [] []
-  on-receiver l b c r receiver xs none h hr =
-      operates receiver (pushes (arguments xs)) r (base_type c ∷ []) [] [] h
+  on-receiver l u r receiver xs none h hr =
+      operates receiver (pushes (arguments xs)) r (u ∷ []) [] [] h
       (none-passed l xs (kept l 11 _ (none-right (argument_faults l [] (map given_by (js xs))) _ none))) hr
 
   -- rules 21 and 22 stand after the call
@@ -342,11 +351,6 @@ module _ (types : Types) (t : Tables) (ft : FunctionTypes) (A : List ℕ) (s : S
       (passes l xs ps known f.0 (none-left (argument_faults l ps (map given_by (js xs))) _ f.1)
       (kept l 11 _ (none-right (argument_faults l ps (map given_by (js xs))) _ f.1))).1 hr
 
-  takes-one : (l : ℕ) (i : Instr) (e : ValueType)
-      → ((full : List Shape) (k : ℕ) (ops : List ValueType) → To (filled ft full) (shape ops A) (k + 1)
-      → InstructionFits types (filled ft full) k i (shape (e ∷ ops) A)) → Tu (op l i) (e ∷ []) []
-  takes-one l i e r = turn-op types ft A i l (e ∷ []) [] r
-
   -- what a call of a built-in makes
   on-built-in : (l : ℕ) (b : BuiltIn) (receiver : Piece) (xs : Args) → sets_finaliser (operand.BuiltIn b) ≡ false
       → (plain_call l s (operand.BuiltIn b) (js xs)).faults ≡ [] → Receives types ft A (receiver_base b) receiver
@@ -379,49 +383,15 @@ module _ (types : Types) (t : Tables) (ft : FunctionTypes) (A : List ℕ) (s : S
       (ValueType.Int ∷ ValueType.Group ∷ []) [] (λ full k ops g. (ops, refl, g)))
   on-built-in l built_in.Done receiver xs e none h =
       let f = parts l (operand.BuiltIn built_in.Done) xs none in
-      on-receiver l built_in.Done base.Group _ receiver xs f.1 h
+      on-receiver l ValueType.Group _ receiver xs f.1 h
       (one-turn types ft A (op l (Instr.Int (negsuc 0))) (op l Instr.GroupAdd) (ValueType.Group ∷ [])
       (ValueType.Int ∷ ValueType.Group ∷ []) []
       (turn-op types ft A (Instr.Int (negsuc 0)) l (ValueType.Group ∷ []) (ValueType.Int ∷ ValueType.Group ∷ [])
       (λ full k ops g. (ValueType.Group ∷ ops, refl, g)))
       (turn-op types ft A Instr.GroupAdd l (ValueType.Int ∷ ValueType.Group ∷ []) [] (λ full k ops g. (ops, refl, g))))
-  on-built-in l built_in.Lock receiver xs e none h =
-      on-receiver l built_in.Lock base.Mutex _ receiver xs (parts l (operand.BuiltIn built_in.Lock) xs none).1 h
-      (takes-one l Instr.Lock (base_type base.Mutex) (λ full k ops g. (ops, refl, g)))
-  on-built-in l built_in.Unlock receiver xs e none h =
-      on-receiver l built_in.Unlock base.Mutex _ receiver xs (parts l (operand.BuiltIn built_in.Unlock) xs none).1 h
-      (takes-one l Instr.Unlock (base_type base.Mutex) (λ full k ops g. (ops, refl, g)))
-  on-built-in l built_in.WaitGroup receiver xs e none h =
-      on-receiver l built_in.WaitGroup base.Group _ receiver xs
-      (parts l (operand.BuiltIn built_in.WaitGroup) xs none).1 h
-      (takes-one l Instr.GroupWait (base_type base.Group) (λ full k ops g. (ops, refl, g)))
-  on-built-in l built_in.WriteLock receiver xs e none h =
-      on-receiver l built_in.WriteLock base.ReadWriteMutex _ receiver xs
-      (parts l (operand.BuiltIn built_in.WriteLock) xs none).1 h
-      (takes-one l Instr.RwLock (base_type base.ReadWriteMutex) (λ full k ops g. (ops, refl, g)))
-  on-built-in l built_in.WriteUnlock receiver xs e none h =
-      on-receiver l built_in.WriteUnlock base.ReadWriteMutex _ receiver xs
-      (parts l (operand.BuiltIn built_in.WriteUnlock) xs none).1 h
-      (takes-one l Instr.RwUnlock (base_type base.ReadWriteMutex) (λ full k ops g. (ops, refl, g)))
-  on-built-in l built_in.ReadLock receiver xs e none h =
-      on-receiver l built_in.ReadLock base.ReadWriteMutex _ receiver xs
-      (parts l (operand.BuiltIn built_in.ReadLock) xs none).1 h
-      (takes-one l Instr.ReadLock (base_type base.ReadWriteMutex) (λ full k ops g. (ops, refl, g)))
-  on-built-in l built_in.ReadUnlock receiver xs e none h =
-      on-receiver l built_in.ReadUnlock base.ReadWriteMutex _ receiver xs
-      (parts l (operand.BuiltIn built_in.ReadUnlock) xs none).1 h
-      (takes-one l Instr.ReadUnlock (base_type base.ReadWriteMutex) (λ full k ops g. (ops, refl, g)))
-  on-built-in l built_in.WaitCondition receiver xs e none h =
-      on-receiver l built_in.WaitCondition base.Condition _ receiver xs
-      (parts l (operand.BuiltIn built_in.WaitCondition) xs none).1 h
-      (takes-one l Instr.CondWait (base_type base.Condition) (λ full k ops g. (ops, refl, g)))
-  on-built-in l built_in.Signal receiver xs e none h =
-      on-receiver l built_in.Signal base.Condition _ receiver xs (parts l (operand.BuiltIn built_in.Signal) xs none).1 h
-      (takes-one l Instr.CondSignal (base_type base.Condition) (λ full k ops g. (ops, refl, g)))
-  on-built-in l built_in.Broadcast receiver xs e none h =
-      on-receiver l built_in.Broadcast base.Condition _ receiver xs
-      (parts l (operand.BuiltIn built_in.Broadcast) xs none).1 h
-      (takes-one l Instr.CondBroadcast (base_type base.Condition) (λ full k ops g. (ops, refl, g)))
+  on-built-in l b receiver xs e none h =
+      on-receiver l _ _ receiver xs (parts l (operand.BuiltIn b) xs none).1 h
+      (turn-op types ft A _ l (_ ∷ []) [] (λ full k ops g. (ops, refl, g)))
 
   -- finalisers
 

@@ -35,13 +35,13 @@ use Rattle.golf_code_of.specs.Statements.{Part, Lay, laid, past, then_lay, in_or
 use Rattle.golf_code_of.specs.Selects.{ClausePart, case_clause, default_clause, breaking, case_to, cases_from}
 use Rattle.golf_code_of.specs.Selects.{default_or, default_from, choice, in_clause, clauses_lay, select_part}
 use Rattle.golf_code_shapes.specs.Types.{value_type, known_type}
-use Rattle.golf_code_shapes.specs.Sound.{LocalFits, ScopeFits, Pushes}
+use Rattle.golf_code_shapes.specs.Sound.{ScopeFits, Pushes}
 use Rattle.golf_code_shapes.specs.Flowing.{IsMaking, Slotted, MadeFit}
 use Rattle.golf_code_shapes.proofs.Typings.{none-left, none-right, kept, carried-on}
 use Rattle.golf_code_shapes.proofs.Names.{of-taking, of-giving, given-to}
 use Rattle.golf_code_shapes.proofs.Branches.{further}
-use Rattle.golf_code_shapes.proofs.Flows.{Right, then-in, locals-wider, slotted-left, slotted-right, made-left}
-use Rattle.golf_code_shapes.proofs.Flows.{made-right, quiet, scope-quiet}
+use Rattle.golf_code_shapes.proofs.Flows.{Right, then-in, scope-more, slotted-left, slotted-right}
+use Rattle.golf_code_shapes.proofs.Flows.{made-left, made-right, quiet, scope-quiet}
 use Rattle.golf_code_shapes.proofs.Simples.{value-of}
 use Rattle.golf_code_shapes.proofs.Receives.{pair-taken, stores-assigned}
 use Rattle.golf_check_types.proofs.NamesAlone.{judged-by-names}
@@ -267,13 +267,7 @@ module _ (types : Types) (t : Tables) (ft : FunctionTypes) where
           body = receive-clause w (λ q. op k (Instr.Store q.next)) (in_order xs) right s A c.0 (λ exits. record {
             assigned = B;
             more = wide;
-            fits = record {
-              file = ok.file;
-              locals = Every-append (LocalFits types t ft B) s.locals (w s0).declares
-                  (locals-wider types t ft A B wide s.locals ok.locals) ((c.0, c.1, inl refl, typed), tt);
-              result =
-                  ok.result;
-            };
+            fits = scope-more types t ft A B s0 (w s0) wide (fits-begun A s ok) ((c.0, c.1, inl refl, typed), tt);
             has = has-op types ft (Instr.Store s.next) k (shape (value_type c.0 ∷ []) A) (shape [] B) exits
                 (λ full at g. (value_type c.0, [], typed, refl, g));
           }) slots none;

@@ -9,8 +9,7 @@ use Rattle.golf_data.specs.declared.code.Instr.{Instr}
 use Rattle.golf_check_types.specs.declared.types.GoType.{GoType}
 use Rattle.golf_check_types.specs.declared.locals.Local.{Local}
 use Rattle.golf_check_types.specs.declared.scopes.Scope.{Scope}
-use Rattle.golf_check_types.specs.Scopes.{begun}
-use Rattle.golf_check_types.specs.Scopes.{variable as variable_of}
+use Rattle.golf_check_types.specs.Scopes.{begun, variable as variable_of}
 use Rattle.golf_check_types.specs.Statements as W
 use Rattle.golf_check_types.specs.Statements.{Walk, Walked, both, behind}
 use Rattle.golf_model_typing.specs.Types.{Shape, FunctionTypes, Types}
@@ -51,6 +50,15 @@ module _ (types : Types) (t : Tables) (ft : FunctionTypes) where
 
   pub scope-wider : (A B : List ℕ) (s : Scope) → Every (λ i. In i B) A → Fits A s → Fits B s
   scope-wider A B s h ok = record { file = ok.file; locals = locals-wider A B h s.locals ok.locals; result = ok.result }
+
+  -- a scope with more locals, of which more slots are assigned
+  pub scope-more : (A B : List ℕ) (s : Scope) (w : Walked) → Every (λ i. In i B) A → Fits A s
+      → Every (LocalFits types t ft B) w.declares → Fits B (behind s w)
+  scope-more A B s w h ok more = record {
+    file = ok.file;
+    locals = Every-append (LocalFits types t ft B) s.locals w.declares (locals-wider A B h s.locals ok.locals) more;
+    result = ok.result;
+  }
 
   pub slotted-left : (n : ℕ) (xs ys : List (Option GoType)) → Slotted ft n (xs ++ ys) → Slotted ft n xs
   slotted-left n [] ys h = tt

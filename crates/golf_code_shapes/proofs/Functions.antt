@@ -8,7 +8,7 @@ use Rattle.std.proofs.lemmas.List.{length-map}
 use Rattle.std.proofs.lemmas.Bool.{and_parts}
 use Rattle.std.specs.Option.{option_map}
 use Rattle.golf_theory.specs.Membership.{In, Every}
-use Rattle.golf_theory.proofs.Lists.{Every-from, Every-append}
+use Rattle.golf_theory.proofs.Lists.{Every-from}
 use Rattle.golf_data.specs.declared.code.Instr.{Instr}
 use Rattle.golf_syntax_trees.specs.declared.statements.Stmt.{Stmt}
 use Rattle.golf_syntax_trees.specs.declared.declarations.Receiver.{Receiver}
@@ -42,7 +42,7 @@ use Rattle.golf_code_shapes.specs.FunctionLaws.{MadeFunctionsFit}
 use Rattle.golf_code_shapes.proofs.Typings.{none-left, none-right}
 use Rattle.golf_code_shapes.proofs.Names.{push-fits}
 use Rattle.golf_code_shapes.proofs.Literals.{zero-fits}
-use Rattle.golf_code_shapes.proofs.Flows.{EachRight, right-order, locals-wider, slotted-left, slotted-right}
+use Rattle.golf_code_shapes.proofs.Flows.{EachRight, right-order, scope-more, scope-quiet, slotted-left, slotted-right}
 use Rattle.golf_code_shapes.proofs.Stmts.{right-stmt}
 
 known-append : (xs ys : List (Option GoType)) → known_types (xs ++ ys) ≡ known_types xs ++ known_types ys
@@ -81,33 +81,22 @@ module _ (types : Types) (t : Tables) (ft : FunctionTypes) where
       → slice_get (slot_types ft) s.next ≡ Some (known_type o) → Entered n (behind s (parameter_walk l (x, o) s))
   one-parameter n l x o s h k less typed =
       let B : List ℕ = s.next ∷ h.slots in
-      let wide = Every-from (λ j. In j B) h.slots (λ j m. inr m) in
-      let ok = h.fits in
       record {
         slots = B;
         below = (less, h.below);
-        fits = record {
-          file = ok.file;
-          locals = Every-append (LocalFits types t ft B) s.locals _
-              (locals-wider types t ft h.slots B wide s.locals ok.locals)
-              ((k.0, k.1, inl refl, typed ∙ ap (λ z. Some (known_type z)) k.1), tt);
-          result = ok.result;
-        };
+        fits = scope-more types t ft h.slots B s (parameter_walk l (x, o) s)
+            (Every-from (λ j. In j B) h.slots (λ j m. inr m)) h.fits
+            ((k.0, k.1, inl refl, typed ∙ ap (λ z. Some (known_type z)) k.1), tt);
       }
 
   parameters : (n : ℕ) (l : ℕ) (ps : List (List ℕ × Option GoType)) (s : Scope) → Entered n s
       → Every (λ (p : List ℕ × Option GoType). IsKnown p.1) ps → s.next + length ps ≤ n
       → Slotted ft s.next (W.in_order (map (parameter_walk l) ps) s).slots
       → Entered n (behind s (W.in_order (map (parameter_walk l) ps) s))
-  parameters n l [] s h known less slots = let ok = h.fits in record {
+  parameters n l [] s h known less slots = record {
     slots = h.slots;
     below = h.below;
-    fits = record {
-      file = ok.file;
-      locals = subst (Every (LocalFits types t ft h.slots))
-          (sym (append-nil s.locals)) ok.locals;
-      result = ok.result;
-    };
+    fits = scope-quiet types t ft h.slots s (W.in_order [] s) refl h.fits;
   }
   parameters n l (p ∷ ps) s h known less slots =
       let w = parameter_walk l p s in
@@ -131,15 +120,10 @@ module _ (types : Types) (t : Tables) (ft : FunctionTypes) where
       → ((r : Receiver) → o ≡ Some r → IsKnown (receiver_type file r.type_name))
       → s.next + length (receiver_walk l file o s).slots ≤ n → Slotted ft s.next (receiver_walk l file o s).slots
       → Entered n (behind s (receiver_walk l file o s))
-  receiver n l file None s h known less slots = let ok = h.fits in record {
+  receiver n l file None s h known less slots = record {
     slots = h.slots;
     below = h.below;
-    fits = record {
-      file = ok.file;
-      locals = subst (Every (LocalFits types t ft h.slots))
-          (sym (append-nil s.locals)) ok.locals;
-      result = ok.result;
-    };
+    fits = scope-quiet types t ft h.slots s (receiver_walk l file None s) refl h.fits;
   }
   receiver n l file (Some r) s h known less slots =
       one-parameter n l r.name (receiver_type file r.type_name) s h (known r refl) (omega (arith, less)) slots.0
@@ -268,20 +252,19 @@ module _ (types : Types) (ft : FunctionTypes) (A : List ℕ) where
       (loads-has l (i + 1) (pre ++ v ∷ []) xs (omega (arith, e, one))
       (is ∙ sym (append_assoc pre (v ∷ []) (known_types xs))) inside (v ∷ ops) exits)
 
-  takes : (l : ℕ) (i : Instr) (ts : List ValueType)
+  -- the instruction takes what is on top
+  takes : (l : ℕ) (i : Instr) {ts : List ValueType} (us : List ValueType) → ts ≡ us
       → ((full : List Shape) (k : ℕ) → To (filled ft full) (shape [] A) (k + 1)
-      → InstructionFits types (filled ft full) k i (shape ts A)) → Has types ft (op l i) (shape ts A) (shape [] A) []
-  takes l i ts r = has-op types ft i l (shape ts A) (shape [] A) [] r
+      → InstructionFits types (filled ft full) k i (shape (pushed us []) A))
+      → Has types ft (op l i) (shape (pushed ts []) A) (shape [] A) []
+  takes l i us same r = subst (λ vs. Has types ft (op l i) (shape (pushed vs []) A) (shape [] A) []) (sym same)
+      (has-op types ft i l (shape (pushed us []) A) (shape [] A) [] r)
 
   -- the operation takes what its function is given
   operation-has : (l n : ℕ) (b : BuiltIn) (ts : List ValueType) → BeginsWith b ts
       → Has types ft (operation l b n) (shape (pushed ts []) A) (shape [] A) []
-  operation-has l n built_in.Close ts h =
-      subst (λ us. Has types ft (op l Instr.Close) (shape (pushed us []) A) (shape [] A) []) (sym h.1)
-      (takes l Instr.Close (ValueType.Chan h.0 ∷ []) (λ full k g. (h.0, ([], refl, g))))
-  operation-has l n built_in.Add ts h = subst
-      (λ us. Has types ft (op l Instr.GroupAdd) (shape (pushed us []) A) (shape [] A) []) (sym h)
-      (takes l Instr.GroupAdd (ValueType.Int ∷ ValueType.Group ∷ []) (λ full k g. ([], refl, g)))
+  operation-has l n built_in.Close ts h = takes l Instr.Close _ h.1 (λ full k g. (h.0, ([], refl, g)))
+  operation-has l n built_in.Add ts h = takes l Instr.GroupAdd _ h (λ full k g. ([], refl, g))
   operation-has l n built_in.Done ts h = subst
       (λ us. Has types ft (operation l built_in.Done n) (shape (pushed us []) A) (shape [] A) []) (sym h)
       (has-then types ft (op l (Instr.Int (negsuc 0))) _ (shape (ValueType.Group ∷ []) A)
@@ -290,39 +273,15 @@ module _ (types : Types) (ft : FunctionTypes) (A : List ℕ) where
       (shape (ValueType.Int ∷ ValueType.Group ∷ []) A) [] (λ full k g. (ValueType.Group ∷ [], refl, g)))
       (has-then types ft (op l Instr.GroupAdd) Piece.Empty (shape (ValueType.Int ∷ ValueType.Group ∷ []) A) (shape [] A)
       (shape [] A) []
-      (takes l Instr.GroupAdd (ValueType.Int ∷ ValueType.Group ∷ []) (λ full k g. ([], refl, g)))
+      (takes l Instr.GroupAdd (ValueType.Group ∷ ValueType.Int ∷ []) refl (λ full k g. ([], refl, g)))
       (has-empty types ft (shape [] A) [])))
-  operation-has l n built_in.Lock ts h = subst
-      (λ us. Has types ft (op l Instr.Lock) (shape (pushed us []) A) (shape [] A) []) (sym h)
-      (takes l Instr.Lock (ValueType.Mutex ∷ []) (λ full k g. ([], refl, g)))
-  operation-has l n built_in.Unlock ts h =
-      subst (λ us. Has types ft (op l Instr.Unlock) (shape (pushed us []) A) (shape [] A) []) (sym h)
-      (takes l Instr.Unlock (ValueType.Mutex ∷ []) (λ full k g. ([], refl, g)))
-  operation-has l n built_in.WaitGroup ts h =
-      subst (λ us. Has types ft (op l Instr.GroupWait) (shape (pushed us []) A) (shape [] A) []) (sym h)
-      (takes l Instr.GroupWait (ValueType.Group ∷ []) (λ full k g. ([], refl, g)))
-  operation-has l n built_in.WriteLock ts h =
-      subst (λ us. Has types ft (op l Instr.RwLock) (shape (pushed us []) A) (shape [] A) []) (sym h)
-      (takes l Instr.RwLock (ValueType.Rw ∷ []) (λ full k g. ([], refl, g)))
-  operation-has l n built_in.WriteUnlock ts h =
-      subst (λ us. Has types ft (op l Instr.RwUnlock) (shape (pushed us []) A) (shape [] A) []) (sym h)
-      (takes l Instr.RwUnlock (ValueType.Rw ∷ []) (λ full k g. ([], refl, g)))
-  operation-has l n built_in.ReadLock ts h =
-      subst (λ us. Has types ft (op l Instr.ReadLock) (shape (pushed us []) A) (shape [] A) []) (sym h)
-      (takes l Instr.ReadLock (ValueType.Rw ∷ []) (λ full k g. ([], refl, g)))
-  operation-has l n built_in.ReadUnlock ts h =
-      subst (λ us. Has types ft (op l Instr.ReadUnlock) (shape (pushed us []) A) (shape [] A) []) (sym h)
-      (takes l Instr.ReadUnlock (ValueType.Rw ∷ []) (λ full k g. ([], refl, g)))
-  operation-has l n built_in.WaitCondition ts h =
-      subst (λ us. Has types ft (op l Instr.CondWait) (shape (pushed us []) A) (shape [] A) []) (sym h)
-      (takes l Instr.CondWait (ValueType.Cond ∷ []) (λ full k g. ([], refl, g)))
-  operation-has l n built_in.Signal ts h =
-      subst (λ us. Has types ft (op l Instr.CondSignal) (shape (pushed us []) A) (shape [] A) []) (sym h)
-      (takes l Instr.CondSignal (ValueType.Cond ∷ []) (λ full k g. ([], refl, g)))
-  operation-has l n built_in.Broadcast ts h =
-      subst (λ us. Has types ft (op l Instr.CondBroadcast) (shape (pushed us []) A) (shape [] A) []) (sym h)
-      (takes l Instr.CondBroadcast (ValueType.Cond ∷ []) (λ full k g. ([], refl, g)))
-  operation-has l n _ ts h = absurd h
+  operation-has l n built_in.Length ts h = absurd h
+  operation-has l n built_in.Panic ts h = absurd h
+  operation-has l n built_in.Print ts h = absurd h
+  operation-has l n built_in.Collect ts h = absurd h
+  operation-has l n built_in.SetFinalizer ts h = absurd h
+  operation-has l n built_in.NewCondition ts h = absurd h
+  operation-has l n b ts h = takes l _ _ h (λ full k g. ([], refl, g))
 
 pub made-functions-fit : MadeFunctionsFit
 made-functions-fit types gives m h =

@@ -1,7 +1,7 @@
 -- The code of literals, `make` and `new` has shapes.
 -- For: `expressions_fit`, src/lib.rt; `Shown`, specs/Sound.antt
 -- By: induction over the tree of a written type, and over the list of elements
-use Rattle.std.proofs.Common.{◌≡◌, ℕ, ◌+◌, ◌<◌, Bool, true, false, cond, ◌&&◌, not, List, [], ◌∷◌, ◌++◌, map, length}
+use Rattle.std.proofs.Common.{◌≡◌, ℕ, ◌+◌, ◌<◌, true, ◌&&◌, not, List, [], ◌∷◌, ◌++◌, map, length}
 use Rattle.std.proofs.Common.{Option, Some, None, refl, sym, subst, slice_get, pos}
 use Rattle.std.proofs.lemmas.Bool.{and_parts}
 use Rattle.std.specs.Prelude.{flat_map, is_some}
@@ -43,6 +43,7 @@ use Rattle.golf_code_shapes.specs.Types.{layers_type, value_type}
 use Rattle.golf_code_shapes.specs.Sound.{IsKnown, type_of_field, FileFits, ScopeFits, MemberFits, Turns, Pushes}
 use Rattle.golf_code_shapes.proofs.Typings.{none-left, none-right, kept}
 use Rattle.golf_code_shapes.proofs.Turning.{turn-op, turn-none, turn-then, turn-last, one-turn, over}
+use Rattle.golf_code_shapes.proofs.Chosen.{IsMade, is-made}
 use Rattle.golf_code_shapes.proofs.Names.{Shows, GivesBy, of-used, based, given-to, name-means}
 
 -- Written types that break no rule are known.
@@ -98,27 +99,12 @@ module _ (types : Types) (t : Tables) (ft : FunctionTypes) (A : List ℕ) (s : S
   zero-fits few [] base.Bool = refl
   zero-fits few [] base.Text = (refl, few)
   zero-fits few [] base.Unit = refl
-  zero-fits few [] (base.Pointer k) = tt
-  zero-fits few [] base.Mutex = tt
-  zero-fits few [] base.Group = tt
-  zero-fits few [] base.ReadWriteMutex = tt
-  zero-fits few [] base.Condition = tt
   zero-fits few (layer.Slice ∷ xs) b = tt
-  zero-fits few (layer.Chan ∷ xs) b = tt
-  zero-fits few (layer.SendChan ∷ xs) b = tt
-  zero-fits few (layer.ReceiveChan ∷ xs) b = tt
+  zero-fits few _ b = tt
 
   pub zero-same : (xs : List Layer) (b : Base) → zero_of (type_zero xs b) ≡ type_zero xs b
   zero-same [] base.Int = refl
-  zero-same [] base.Bool = refl
-  zero-same [] base.Text = refl
-  zero-same [] base.Unit = refl
-  zero-same [] (base.Pointer k) = refl
-  zero-same [] base.Mutex = refl
-  zero-same [] base.Group = refl
-  zero-same [] base.ReadWriteMutex = refl
-  zero-same [] base.Condition = refl
-  zero-same (x ∷ xs) b = refl
+  zero-same _ b = refl
 
   made-zero : 0 < types.texts → (xs : List Layer) (b : Base)
       → ValueFits types [] (zero_of (type_zero xs b)) (layers_type xs b)
@@ -172,22 +158,6 @@ module _ (types : Types) (t : Tables) (ft : FunctionTypes) (A : List ℕ) (s : S
       (new-any l few k.0.layers k.0.base fits))
 
   -- `new` and literals of package sync
-
-  -- what `new` and a literal of package sync make
-  abbrev IsMade : Base → Type 0
-  IsMade base.Mutex = Unit {0}
-  IsMade base.Group = Unit {0}
-  IsMade base.ReadWriteMutex = Unit {0}
-  IsMade _ = ⊥
-
-  tried : (test : Bool) (b : Base) (rest : Option Base) → IsMade b → ((c : Base) → rest ≡ Some c → IsMade c)
-      → (c : Base) → cond test (Some b) rest ≡ Some c → IsMade c
-  tried true b rest h k c e = let same : b ≡ c = cc in subst IsMade same h
-  tried false b rest h k c e = k c e
-
-  is-made : (n : List ℕ) (c : Base) → made_base n ≡ Some c → IsMade c
-  unfolding made_base
-  is-made n = tried _ base.Mutex _ tt (tried _ base.Group _ tt (tried _ base.ReadWriteMutex None tt (λ c e. cc)))
 
   makes-sync : (l : ℕ) (b : Option Base) → ((c : Base) → b ≡ Some c → IsMade c) → is_some b ≡ true
       → Sh (operand.Value (option_map plain b)) (new_sync l b)

@@ -3,7 +3,6 @@
 -- By: induction over the list of local names; cases of what a name means
 use Rattle.std.proofs.Common.{◌≡◌, ◌⊎◌, inr, ℕ, ◌+◌, Bool, true, false, cond, List, [], ◌∷◌, Option, Some, None, refl}
 use Rattle.std.proofs.Common.{sym, subst, slice_get}
-use Rattle.std.specs.Prelude.{codes}
 use Rattle.std.specs.Option.{option_map}
 use Rattle.std.specs.Str.{bytes_eq}
 use Rattle.golf_theory.specs.Membership.{In, Every}
@@ -12,8 +11,6 @@ use Rattle.golf_data.specs.declared.code.Instr.{Instr}
 use Rattle.golf_check_types.specs.declared.types.Base.{Base}
 use Rattle.golf_check_types.specs.declared.types.GoType.{GoType}
 use Rattle.golf_check_types.specs.declared.operands.Where.TheVariants as place
-use Rattle.golf_check_types.specs.declared.operands.BuiltIn.TheVariants as built_in
-use Rattle.golf_check_types.specs.declared.operands.Package.TheVariants as packages
 use Rattle.golf_check_types.specs.declared.operands.Operand.{Operand}
 use Rattle.golf_check_types.specs.declared.operands.Operand.TheVariants as operand
 use Rattle.golf_check_types.specs.declared.operands.Given.{Given}
@@ -24,7 +21,7 @@ use Rattle.golf_check_types.specs.declared.scopes.Scope.{Scope}
 use Rattle.golf_check_types.specs.Types.{given, has_base, has_layer, is_slice, is_any, gives, takes, element}
 use Rattle.golf_check_types.specs.Types.{assignable, type_of}
 use Rattle.golf_check_types.specs.Names.{look_from, look, is_blank}
-use Rattle.golf_check_types.specs.Scopes.{or_else, type_name, value_name, call_name, package_name, predeclared}
+use Rattle.golf_check_types.specs.Scopes.{predeclared}
 use Rattle.golf_check_types.specs.Scopes.{local_operand, file_operand, meaning}
 use Rattle.golf_check_types.specs.Expressions.{Judged, value_faults, used, given_by, leaf, known_name, named}
 use Rattle.golf_check_types.specs.Statements.{is_place}
@@ -35,7 +32,7 @@ use Rattle.golf_code_shapes.specs.Has.{shape, filled, To}
 use Rattle.golf_code_shapes.proofs.Pieces.{has-empty}
 use Rattle.golf_code_of.specs.declared.tables.Tables.{Tables}
 use Rattle.golf_code_of.specs.Values.{push, constant}
-use Rattle.golf_code_of.specs.Expressions.{Made, variable, name}
+use Rattle.golf_code_of.specs.Expressions.{Made, in_place, variable, name}
 use Rattle.golf_code_of.specs.Calls.{receiver_base}
 use Rattle.golf_code_shapes.specs.Types.{base_type, value_type}
 use Rattle.golf_code_shapes.specs.Sound.{NameFits, LocalFits, ScopeFits, Callee, Turns, Pushes, PlaceOf, Receives}
@@ -43,6 +40,7 @@ use Rattle.golf_code_shapes.specs.Sound.{Shown, Gives}
 use Rattle.golf_code_shapes.proofs.Typings.{none-right, same-value, assigned-value, nilable, carried-by, sent-on}
 use Rattle.golf_code_shapes.proofs.Typings.{slice-of, measured}
 use Rattle.golf_code_shapes.proofs.Turning.{turn-op, turn-none, one-turn}
+use Rattle.golf_code_shapes.proofs.Chosen.{either, of-predeclared}
 
 module _ (types : Types) (t : Tables) (ft : FunctionTypes) (A : List ℕ) (s : Scope) where
   abbrev pub Shows : Operand → Made → Type 0
@@ -173,46 +171,16 @@ module _ (types : Types) (t : Tables) (ft : FunctionTypes) (A : List ℕ) (s : S
       → LocalFits types t ft A d
   looked-up ds n h d e = looked ds n None (λ x q. cc) h d e
 
-  either-name : (a b : Option Operand) → ((m : Operand) → a ≡ Some m → Named m) → ((m : Operand) → b ≡ Some m → Named m)
-      → (m : Operand) → or_else a b ≡ Some m → Named m
-  either-name None b h k m e = k m e
-  either-name (Some x) b h k m e = h m e
-
-  tried : (test : Bool) (x : Operand) (rest : Option Operand) → Named x → ((m : Operand) → rest ≡ Some m → Named m)
-      → (m : Operand) → cond test (Some x) rest ≡ Some m → Named m
-  tried true x rest h k m e = let same : x ≡ m = cc in subst Named same h
-  tried false x rest h k m e = k m e
-
-  no-name : (m : Operand) → None ≡ Some m → Named m
-  no-name m e = cc
-
-  is-type : (n : List ℕ) (m : Operand) → type_name n ≡ Some m → Named m
-  unfolding type_name
-  is-type n = tried (bytes_eq n (codes "int")) operand.TypeName _ tt
-      (tried (bytes_eq n (codes "bool")) operand.TypeName _ tt
-      (tried (bytes_eq n (codes "string")) operand.TypeName None tt no-name))
-
-  is-value : (n : List ℕ) (m : Operand) → value_name n ≡ Some m → Named m
-  unfolding value_name
-  is-value n = tried _ (operand.Truth true) _ tt
-      (tried _ (operand.Truth false) _ tt (tried _ operand.Nil None tt no-name))
-
-  is-call : (n : List ℕ) (m : Operand) → call_name n ≡ Some m → Named m
-  unfolding call_name
-  is-call n = tried _ (operand.BuiltIn built_in.Length) _ refl
-      (tried _ (operand.BuiltIn built_in.Close) _ refl
-      (tried _ (operand.BuiltIn built_in.Panic) _ refl
-      (tried _ operand.TypeName _ tt (tried _ operand.TypeName None tt no-name))))
-
-  is-package : (i : Imports) (n : List ℕ) (m : Operand) → package_name i n ≡ Some m → Named m
-  unfolding package_name
-  is-package i n = tried _ (operand.Package packages.Fmt) _ tt
-      (tried _ (operand.Package packages.Runtime) _ tt (tried _ (operand.Package packages.Sync) None tt no-name))
-
   is-predeclared : (i : Imports) (n : List ℕ) (m : Operand) → predeclared i n ≡ Some m → Named m
-  is-predeclared i n = either-name (type_name n) _ (is-type n)
-      (either-name (value_name n) _ (is-value n)
-      (either-name (call_name n) (package_name i n) (is-call n) (is-package i n)))
+  is-predeclared = of-predeclared Named (record {
+    a_type = tt;
+    truth = λ b. tt;
+    nil = tt;
+    length = refl;
+    close = refl;
+    panic = refl;
+    of_package = λ q. tt;
+  })
 
   local-name : (o : Option Local) → ((d : Local) → o ≡ Some d → LocalFits types t ft A d) → (m : Operand)
       → option_map local_operand o ≡ Some m → Named m
@@ -222,9 +190,9 @@ module _ (types : Types) (t : Tables) (ft : FunctionTypes) (A : List ℕ) (s : S
   -- what a name means
   pub name-means : (n : List ℕ) → ScopeFits types t ft A s → (m : Operand) → meaning s n ≡ Some m → Named m
   unfolding meaning
-  name-means n ok = either-name (option_map local_operand (look s.locals n)) _
+  name-means n ok = either Named (option_map local_operand (look s.locals n)) _
       (local-name (look s.locals n) (looked s.locals n None (λ d e. cc) ok.locals))
-      (either-name (file_operand s.file n) (predeclared s.file.imports n) (λ m e. from-file m (ok.file.names n m e))
+      (either Named (file_operand s.file n) (predeclared s.file.imports n) (λ m e. from-file m (ok.file.names n m e))
       (is-predeclared s.file.imports n))
 
   wider : (i : ℕ) (B : List ℕ) → Every (λ j. In j A) B → Every (λ j. In j (i ∷ A)) B
@@ -242,35 +210,31 @@ module _ (types : Types) (t : Tables) (ft : FunctionTypes) (A : List ℕ) (s : S
   global-store l g e typed = turn-op types ft A (Instr.StoreGlobal g) l (e ∷ []) []
       (λ full k ops m. (e, typed, (ops, refl, m)))
 
+  -- a place that one instruction loads and one stores
+  at-once : (e : ValueType) (load store : Piece) → Turns types ft A load [] (e ∷ [])
+      → Turns types ft A store (e ∷ []) [] → PlaceOf types ft A (in_place Piece.Empty Piece.Empty load store) e
+  at-once e load store loads stores = (
+    one-turn types ft A Piece.Empty _ [] [] (e ∷ []) (turn-none types ft A []) loads,
+    record {
+      told = [];
+      parts = turn-none types ft A [];
+      twice = λ ops exits. has-empty types ft (shape ops A) exits;
+      read = loads;
+      store = stores;
+    },
+  )
+
   slot-place : (l i : ℕ) (e : ValueType) → In i A → slice_get (slot_types ft) i ≡ Some e
       → PlaceOf types ft A (variable l (place.Slot i)) e
-  slot-place l i e inside typed =
-      let load = turn-op types ft A (Instr.Load i) l [] (e ∷ [])
-      (λ full k ops g. (e, inside, typed, (ops, refl, g))) in (
-        one-turn types ft A Piece.Empty _ [] [] (e ∷ []) (turn-none types ft A []) load,
-        record {
-          told = [];
-          parts = turn-none types ft A [];
-          twice = λ ops exits. has-empty types ft (shape ops A) exits;
-          read = load;
-          store = slot-store l i e typed;
-        },
-      )
+  slot-place l i e inside typed = at-once e _ _
+      (turn-op types ft A (Instr.Load i) l [] (e ∷ []) (λ full k ops g. (e, inside, typed, (ops, refl, g))))
+      (slot-store l i e typed)
 
   global-place : (l g : ℕ) (e : ValueType) → slice_get types.globals g ≡ Some e
       → PlaceOf types ft A (variable l (place.Global g)) e
-  global-place l g e typed =
-      let load = turn-op types ft A (Instr.LoadGlobal g) l [] (e ∷ []) (λ full k ops m. (e, typed, (ops, refl, m))) in (
-        one-turn types ft A Piece.Empty _ [] [] (e ∷ []) (turn-none types ft A []) load,
-        record {
-          told = [];
-          parts = turn-none types ft A [];
-          twice = λ ops exits. has-empty types ft (shape ops A) exits;
-          read = load;
-          store =
-              global-store l g e typed;
-        },
-      )
+  global-place l g e typed = at-once e _ _
+      (turn-op types ft A (Instr.LoadGlobal g) l [] (e ∷ []) (λ full k ops m. (e, typed, (ops, refl, m))))
+      (global-store l g e typed)
 
   -- a name that is assigned takes a value of its type
   pub name-stores : (l : ℕ) (m : Operand) (v : GoType) → Named m → is_place m ≡ true

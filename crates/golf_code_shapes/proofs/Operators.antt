@@ -52,16 +52,18 @@ module _ (types : Types) (t : Tables) (ft : FunctionTypes) (A : List ℕ) (s : S
   by-one i l a b p hp r = one-turn types ft A p (op l i) [] (a ∷ []) (b ∷ []) hp
       (turn-op types ft A i l (a ∷ []) (b ∷ []) r)
 
-  by-two : (i : Instr) (l : ℕ) (a b c : ValueType) (p q : Piece) → Pu p a → Pu q b
-      → ((full : List Shape) (k : ℕ) (ops : List ValueType) → To (filled ft full) (shape (c ∷ ops) A) (k + 1)
-      → InstructionFits types (filled ft full) k i (shape (b ∷ a ∷ ops) A)) → Pu (all (p ∷ q ∷ op l i ∷ [])) c
+  -- the instruction takes operands of these types and leaves one of that type
+  abbrev TakesTwo : Instr → ValueType → ValueType → ValueType → Type 0
+  TakesTwo i a b c = (full : List Shape) (k : ℕ) (ops : List ValueType)
+      → To (filled ft full) (shape (c ∷ ops) A) (k + 1)
+      → InstructionFits types (filled ft full) k i (shape (b ∷ a ∷ ops) A)
+
+  by-two : (i : Instr) (l : ℕ) (a b c : ValueType) (p q : Piece) → Pu p a → Pu q b → TakesTwo i a b c
+      → Pu (all (p ∷ q ∷ op l i ∷ [])) c
   by-two i l a b c p q hp hq r = two-turn types ft A p q (op l i) a b (c ∷ []) hp hq
       (turn-op types ft A i l (b ∷ a ∷ []) (c ∷ []) r)
 
-  and-not : (i : Instr) (l : ℕ) (a b : ValueType) (p q : Piece) → Pu p a → Pu q b
-      → ((full : List Shape) (k : ℕ) (ops : List ValueType)
-      → To (filled ft full) (shape (ValueType.Bool ∷ ops) A) (k + 1)
-      → InstructionFits types (filled ft full) k i (shape (b ∷ a ∷ ops) A))
+  and-not : (i : Instr) (l : ℕ) (a b : ValueType) (p q : Piece) → Pu p a → Pu q b → TakesTwo i a b ValueType.Bool
       → Pu (all (p ∷ q ∷ all (op l i ∷ op l Instr.Not ∷ []) ∷ [])) ValueType.Bool
   and-not i l a b p q hp hq r = two-turn types ft A p q _ a b (ValueType.Bool ∷ []) hp hq
       (not-behind types ft A l (op l i) (b ∷ a ∷ []) (turn-op types ft A i l (b ∷ a ∷ []) (ValueType.Bool ∷ []) r))
@@ -114,6 +116,20 @@ module _ (types : Types) (t : Tables) (ft : FunctionTypes) (A : List ℕ) (s : S
   compared given_as.Nil given_as.Unknown p q holds x y = absurd y
   compared given_as.Unknown h p q holds x y = absurd x
 
+  of-ints : (i : Instr) (l : ℕ) (c : ValueType) (g h : Given) (p q : Piece)
+      → (has_base base.Int g && has_base base.Int h) ≡ true → Gv g p → Gv h q → TakesTwo i ValueType.Int ValueType.Int c
+      → Pu (all (p ∷ q ∷ op l i ∷ [])) c
+  of-ints i l c g h p q holds x y takes =
+      let a = alike base.Int g h p q holds x y in
+      by-two i l ValueType.Int ValueType.Int c p q a.0 a.1 takes
+
+  not-of-ints : (i : Instr) (l : ℕ) (g h : Given) (p q : Piece) → (has_base base.Int g && has_base base.Int h) ≡ true
+      → Gv g p → Gv h q → TakesTwo i ValueType.Int ValueType.Int ValueType.Bool
+      → Pu (all (p ∷ q ∷ all (op l i ∷ op l Instr.Not ∷ []) ∷ [])) ValueType.Bool
+  not-of-ints i l g h p q holds x y takes =
+      let a = alike base.Int g h p q holds x y in
+      and-not i l ValueType.Int ValueType.Int p q a.0 a.1 takes
+
   combines : (l : ℕ) (o : BinaryOperator) (g h : Given) (p q : Piece) → binary_fits o g h ≡ true → Gv g p → Gv h q
       → Pu (binary_piece l o p q) (base_type (result_base o))
   combines l binary.Or g h p q holds x y =
@@ -129,33 +145,24 @@ module _ (types : Types) (t : Tables) (ft : FunctionTypes) (A : List ℕ) (s : S
       (λ full k ops m. (c.0, (ops, refl, m)))
   combines l binary.NotEqual g h p q holds x y = let c =
       compared g h p q holds x y in and-not Instr.Eq l c.0 c.0 p q c.1 c.2 (λ full k ops m. (c.0, (ops, refl, m)))
-  combines l binary.Less g h p q holds x y = let a =
-      alike base.Int g h p q holds x y in by-two Instr.Less l ValueType.Int ValueType.Int ValueType.Bool p q a.0 a.1
-      (λ full k ops m. (ops, refl, m))
-  combines l binary.AtMost g h p q holds x y = let a =
-      alike base.Int g h p q holds x y in by-two Instr.AtMost l ValueType.Int ValueType.Int ValueType.Bool p q a.0 a.1
-      (λ full k ops m. (ops, refl, m))
-  combines l binary.Greater g h p q holds x y = let a =
-      alike base.Int g h p q holds x y in and-not Instr.AtMost l ValueType.Int ValueType.Int p q a.0 a.1
-      (λ full k ops m. (ops, refl, m))
-  combines l binary.AtLeast g h p q holds x y = let a =
-      alike base.Int g h p q holds x y in and-not Instr.Less l ValueType.Int ValueType.Int p q a.0 a.1
-      (λ full k ops m. (ops, refl, m))
-  combines l binary.Add g h p q holds x y = let a =
-      alike base.Int g h p q holds x y in by-two Instr.Add l ValueType.Int ValueType.Int ValueType.Int p q a.0 a.1
-      (λ full k ops m. (ops, refl, m))
-  combines l binary.Subtract g h p q holds x y = let a =
-      alike base.Int g h p q holds x y in by-two Instr.Sub l ValueType.Int ValueType.Int ValueType.Int p q a.0 a.1
-      (λ full k ops m. (ops, refl, m))
-  combines l binary.Multiply g h p q holds x y = let a =
-      alike base.Int g h p q holds x y in by-two Instr.Mul l ValueType.Int ValueType.Int ValueType.Int p q a.0 a.1
-      (λ full k ops m. (ops, refl, m))
-  combines l binary.Divide g h p q holds x y = let a =
-      alike base.Int g h p q holds x y in by-two Instr.Div l ValueType.Int ValueType.Int ValueType.Int p q a.0 a.1
-      (λ full k ops m. (ops, refl, m))
-  combines l binary.Remainder g h p q holds x y = let a =
-      alike base.Int g h p q holds x y in by-two Instr.Rem l ValueType.Int ValueType.Int ValueType.Int p q a.0 a.1
-      (λ full k ops m. (ops, refl, m))
+  combines l binary.Less g h p q holds x y =
+      of-ints Instr.Less l ValueType.Bool g h p q holds x y (λ full k ops m. (ops, refl, m))
+  combines l binary.AtMost g h p q holds x y =
+      of-ints Instr.AtMost l ValueType.Bool g h p q holds x y (λ full k ops m. (ops, refl, m))
+  combines l binary.Greater g h p q holds x y =
+      not-of-ints Instr.AtMost l g h p q holds x y (λ full k ops m. (ops, refl, m))
+  combines l binary.AtLeast g h p q holds x y =
+      not-of-ints Instr.Less l g h p q holds x y (λ full k ops m. (ops, refl, m))
+  combines l binary.Add g h p q holds x y =
+      of-ints Instr.Add l ValueType.Int g h p q holds x y (λ full k ops m. (ops, refl, m))
+  combines l binary.Subtract g h p q holds x y =
+      of-ints Instr.Sub l ValueType.Int g h p q holds x y (λ full k ops m. (ops, refl, m))
+  combines l binary.Multiply g h p q holds x y =
+      of-ints Instr.Mul l ValueType.Int g h p q holds x y (λ full k ops m. (ops, refl, m))
+  combines l binary.Divide g h p q holds x y =
+      of-ints Instr.Div l ValueType.Int g h p q holds x y (λ full k ops m. (ops, refl, m))
+  combines l binary.Remainder g h p q holds x y =
+      of-ints Instr.Rem l ValueType.Int g h p q holds x y (λ full k ops m. (ops, refl, m))
 
   pub on-binary : (l : ℕ) (o : BinaryOperator) (j k : Judged) (x y : Made) → (binary_judged l o j k).faults ≡ []
       → Sh j.meaning x → Sh k.meaning y → Sh (binary_judged l o j k).meaning (binary_operator l o x.piece y.piece)

@@ -33,7 +33,7 @@ use Rattle.golf_code_shapes.specs.Types.{layers_type, value_type}
 use Rattle.golf_code_shapes.specs.Sound.{LocalFits, ScopeFits, Gives, Pushes}
 use Rattle.golf_code_shapes.specs.Flowing.{Slotted}
 use Rattle.golf_code_shapes.proofs.Typings.{none-left, none-right, kept}
-use Rattle.golf_code_shapes.proofs.Flows.{then-in, locals-wider, slotted-left, slotted-right}
+use Rattle.golf_code_shapes.proofs.Flows.{then-in, locals-wider, scope-more, slotted-left, slotted-right}
 
 module _ (types : Types) (t : Tables) (ft : FunctionTypes) where
   abbrev Fits : List ℕ → Scope → Type 0
@@ -161,14 +161,9 @@ module _ (types : Types) (t : Tables) (ft : FunctionTypes) where
       record {
         slots = y.slots;
         more = more;
-        fits = record {
-          file = ok.file;
-          locals = Every-append (LocalFits types t ft y.slots) s.locals (v.declares ++ w.declares)
-              (locals-wider types t ft A y.slots more s.locals ok.locals)
-              (Every-append (LocalFits types t ft y.slots) v.declares w.declares
-              (locals-wider types t ft x.slots y.slots y.more v.declares x.declares) y.declares);
-          result = ok.result;
-        };
+        fits = scope-more types t ft A y.slots s (W.range_names (range.Two n m) true (Some e) s) more ok
+            (Every-append (LocalFits types t ft y.slots) v.declares w.declares
+            (locals-wider types t ft x.slots y.slots y.more v.declares x.declares) y.declares);
         has = λ exits. has-then types ft _ _ (shape [] A) (shape [] x.slots) (shape [] y.slots) exits (x.has exits)
             (has-then types ft _ Piece.Empty (shape [] x.slots) (shape [] y.slots) (shape [] y.slots) exits
             (y.has exits) (has-empty types ft (shape [] y.slots) exits));
@@ -464,36 +459,8 @@ module _ (types : Types) (t : Tables) (ft : FunctionTypes) where
 
   over-receive-chan : (M : Type 0) (l : ℕ) (names : RangeNames) (ys : List Layer) (b : Base) → are_two names ≡ false
       → OverChannel M l names layer.ReceiveChan ys b
-  over-receive-chan M l names ys b two p s body A exits fit hp =
-      let ok = fit.scope_fits in
-      let slots = fit.slots in
-      let g = given_as.Typed (record { layers = layer.ReceiveChan ∷ ys; base = b }) in
-      let e : GoType = record { layers = ys; base = b } in
-      let A1 = s.next ∷ A in
-      let s1 = behind_hidden g s in
-      let known : Fits A1 s1 = record {
-        file = ok.file;
-        locals = subst (Every (LocalFits types t ft A1)) (sym (append-nil s.locals))
-            (locals-wider types t ft A A1 (wide s.next A) s.locals ok.locals);
-        result = ok.result;
-      } in
-      let n = channel-names l names e s1 A1 two known slots.1 in
-      channel-loop M l s.next A p (channel_name l names s1) body exits (record {
-        element = e;
-        named = n.0;
-        channel_typed = slots.0;
-        pushes = hp;
-        more = n.1;
-        names_have = n.3;
-        body_has = λ E r2 r0. fit.body_fits n.0 E
-            (record {
-              file = ok.file;
-              locals = subst
-                  (λ ls. Every (LocalFits types t ft n.0) (ls ++ (W.range_names names false (Some e) s1).declares))
-                  (append-nil s.locals) n.2.locals;
-              result = ok.result;
-            }) r2 r0;
-      })
+  over-receive-chan M l names ys b two p s body A exits fit hp = over-chan M l names ys b two p s body A exits
+      (record { scope_fits = fit.scope_fits; slots = fit.slots; body_fits = fit.body_fits }) hp
 
   one-name : (names : RangeNames) → not (are_two names && true) ≡ true → are_two names ≡ false
   one-name range.Neither e = refl

@@ -38,7 +38,43 @@ use Rattle.golf_code_shapes.specs.Sound.{LocalFits, ScopeFits, Turns}
 use Rattle.golf_code_shapes.specs.Flowing.{Slotted}
 use Rattle.golf_code_shapes.proofs.Typings.{none-left, none-right, kept}
 use Rattle.golf_code_shapes.proofs.Names.{Named, name-means, name-stores, blank-stores, looked-up}
-use Rattle.golf_code_shapes.proofs.Flows.{then-in, locals-wider, slotted-left, slotted-right, scope-wider}
+use Rattle.golf_code_shapes.proofs.Flows.{then-in, locals-wider, slotted-left, slotted-right, scope-wider, scope-more}
+
+-- one name that stands twice is not new
+same-known : (s : Scope) (n m : List ℕ) → pair_differs s n m ≡ true → bytes_eq n m ≡ true → is_new s n ≡ false
+unfolding pair_differs
+same-known s n m d e = by (is_reserved n) (is_reserved m) (bytes_eq n m) (is_new s n) d e
+  where
+    by : (a b c x : Bool) → (not a && (not b && not (c && x))) ≡ true → c ≡ true → x ≡ false
+    by true b c x d e = cc
+    by false true c x d e = cc
+    by false false true true d e = cc
+    by false false true false d e = refl
+    by false false false x d e = cc
+
+-- names that are there are assigned
+pub kept-known : (l : ℕ) (s : Scope) (n m : List ℕ) (v : GoType) → pair_faults l s n m (Some v) ≡ []
+    → kept_faults l s n (Some v) ++ kept_faults l s m bool_type ≡ []
+kept-known l s n m v none =
+    let rest = none-right (broken l 2 (pair_differs s n m)) _ none in
+    let both = none-left (kept_pair_faults l s n m (Some v)) _ rest in
+    let new = kept l 24 (is_new s n || is_new s m) (none-right (kept_pair_faults l s n m (Some v)) _ rest) in
+    let differs = kept l 2 (pair_differs s n m) (none-left (broken l 2 (pair_differs s n m)) _ none) in
+    by (bytes_eq n m) refl both new differs
+  where
+    neither : (a b : Bool) → a ≡ false → b ≡ false → (a || b) ≡ true → ⊥
+    neither true b p q r = cc
+    neither false true p q r = cc
+    neither false false p q r = cc
+
+    by : (b : Bool) → bytes_eq n m ≡ b → cond b [] (kept_faults l s n (Some v) ++ kept_faults l s m bool_type) ≡ []
+        → (is_new s n || is_new s m) ≡ true → pair_differs s n m ≡ true → kept_faults l s n (Some v)
+        ++ kept_faults l s m bool_type ≡ []
+    by false e h new differs = h
+    by true e h new differs =
+        let old = same-known s n m differs e in
+        absurd (neither (is_new s n) (is_new s m) old
+        (subst (λ k. is_new s k ≡ false) ((bytes_eq-Decides n m).0 e) old) new)
 
 module _ (types : Types) (t : Tables) (ft : FunctionTypes) where
   abbrev Fits : List ℕ → Scope → Type 0
@@ -62,50 +98,9 @@ module _ (types : Types) (t : Tables) (ft : FunctionTypes) where
       named : (m : Operand) → Named types t ft A s m → put_in_faults l (Some m) (Some v) ≡ []
           → takes_value (Some m) ≡ true → Turns types ft A (name l t m).store (value_type v ∷ []) []
       named operand.Blank n none takes = absurd n
-      named (operand.Value e) n none takes =
-          name-stores types t ft A s l (operand.Value e) v n takes
-          (kept l 9 (assignable (given_as.Typed v) (type_of (operand.Value e))) none)
-      named (operand.Outcome e) n none takes =
-          name-stores types t ft A s l (operand.Outcome e) v n takes
-          (kept l 9 (assignable (given_as.Typed v) (type_of (operand.Outcome e))) none)
-      named (operand.Constant k b) n none takes =
-          name-stores types t ft A s l (operand.Constant k b) v n takes
-          (kept l 9 (assignable (given_as.Typed v) (type_of (operand.Constant k b))) none)
-      named (operand.Truth b) n none takes =
-          name-stores types t ft A s l (operand.Truth b) v n takes
-          (kept l 9 (assignable (given_as.Typed v) (type_of (operand.Truth b))) none)
-      named (operand.Variable w e) n none takes =
-          name-stores types t ft A s l (operand.Variable w e) v n takes
-          (kept l 9 (assignable (given_as.Typed v) (type_of (operand.Variable w e))) none)
-      named (operand.Field i e) n none takes =
-          name-stores types t ft A s l (operand.Field i e) v n takes
-          (kept l 9 (assignable (given_as.Typed v) (type_of (operand.Field i e))) none)
-      named (operand.Element e) n none takes =
-          name-stores types t ft A s l (operand.Element e) v n takes
-          (kept l 9 (assignable (given_as.Typed v) (type_of (operand.Element e))) none)
-      named operand.Nil n none takes = name-stores types t ft A s l operand.Nil v n takes
-          (kept l 9 (assignable (given_as.Typed v) (type_of operand.Nil)) none)
-      named (operand.Nothing late) n none takes =
-          name-stores types t ft A s l (operand.Nothing late) v n takes
-          (kept l 9 (assignable (given_as.Typed v) (type_of (operand.Nothing late))) none)
-      named (operand.Function k) n none takes =
-          name-stores types t ft A s l (operand.Function k) v n takes
-          (kept l 9 (assignable (given_as.Typed v) (type_of (operand.Function k))) none)
-      named (operand.Method k) n none takes =
-          name-stores types t ft A s l (operand.Method k) v n takes
-          (kept l 9 (assignable (given_as.Typed v) (type_of (operand.Method k))) none)
-      named (operand.BuiltIn b) n none takes =
-          name-stores types t ft A s l (operand.BuiltIn b) v n takes
-          (kept l 9 (assignable (given_as.Typed v) (type_of (operand.BuiltIn b))) none)
-      named (operand.Package q) n none takes =
-          name-stores types t ft A s l (operand.Package q) v n takes
-          (kept l 9 (assignable (given_as.Typed v) (type_of (operand.Package q))) none)
-      named (operand.Struct k) n none takes =
-          name-stores types t ft A s l (operand.Struct k) v n takes
-          (kept l 9 (assignable (given_as.Typed v) (type_of (operand.Struct k))) none)
       named operand.Unknown n none takes = absurd n
-      named operand.TypeName n none takes = name-stores types t ft A s l operand.TypeName v n takes
-          (kept l 9 (assignable (given_as.Typed v) (type_of operand.TypeName)) none)
+      named m n none takes = name-stores types t ft A s l m v n takes
+          (kept l 9 (assignable (given_as.Typed v) (type_of m)) none)
 
   means-assigned : (s : Scope) (A : List ℕ) (n : List ℕ) → Fits A s → (m : Operand) → assigned_name s n ≡ Some m
       → (m ≡ operand.Blank) ⊎ Named types t ft A s m
@@ -219,42 +214,6 @@ module _ (types : Types) (t : Tables) (ft : FunctionTypes) where
         → Has types ft (stores_pair l t s n m (Some v)) (shape (ValueType.Bool ∷ value_type v ∷ ops) A)
         (shape ops slots) exits
 
-  -- one name that stands twice is not new
-  same-known : (s : Scope) (n m : List ℕ) → pair_differs s n m ≡ true → bytes_eq n m ≡ true → is_new s n ≡ false
-  unfolding pair_differs
-  same-known s n m d e = by (is_reserved n) (is_reserved m) (bytes_eq n m) (is_new s n) d e
-    where
-      by : (a b c x : Bool) → (not a && (not b && not (c && x))) ≡ true → c ≡ true → x ≡ false
-      by true b c x d e = cc
-      by false true c x d e = cc
-      by false false true true d e = cc
-      by false false true false d e = refl
-      by false false false x d e = cc
-
-  -- names that are there are assigned
-  kept-known : (l : ℕ) (s : Scope) (n m : List ℕ) (v : GoType) → pair_faults l s n m (Some v) ≡ []
-      → kept_faults l s n (Some v) ++ kept_faults l s m bool_type ≡ []
-  kept-known l s n m v none =
-      let rest = none-right (broken l 2 (pair_differs s n m)) _ none in
-      let both = none-left (kept_pair_faults l s n m (Some v)) _ rest in
-      let new = kept l 24 (is_new s n || is_new s m) (none-right (kept_pair_faults l s n m (Some v)) _ rest) in
-      let differs = kept l 2 (pair_differs s n m) (none-left (broken l 2 (pair_differs s n m)) _ none) in
-      by (bytes_eq n m) refl both new differs
-    where
-      neither : (a b : Bool) → a ≡ false → b ≡ false → (a || b) ≡ true → ⊥
-      neither true b p q r = cc
-      neither false true p q r = cc
-      neither false false p q r = cc
-
-      by : (b : Bool) → bytes_eq n m ≡ b → cond b [] (kept_faults l s n (Some v) ++ kept_faults l s m bool_type) ≡ []
-          → (is_new s n || is_new s m) ≡ true → pair_differs s n m ≡ true → kept_faults l s n (Some v)
-          ++ kept_faults l s m bool_type ≡ []
-      by false e h new differs = h
-      by true e h new differs =
-          let old = same-known s n m differs e in
-          absurd (neither (is_new s n) (is_new s m) old
-          (subst (λ k. is_new s k ≡ false) ((bytes_eq-Decides n m).0 e) old) new)
-
   pub pair-taken : (l : ℕ) (s : Scope) (n m : List ℕ) (v : GoType) (A : List ℕ) → Fits A s
       → pair_faults l s n m (Some v) ≡ [] → Slotted ft s.next (pair l n m (Some v) s).slots → PairTaken l s n m v A
   pair-taken l s n m v A ok none slots =
@@ -273,14 +232,9 @@ module _ (types : Types) (t : Tables) (ft : FunctionTypes) where
       record {
         slots = y.slots;
         more = more;
-        fits = record {
-          file = ok.file;
-          locals = Every-append (LocalFits types t ft y.slots) s.locals (one.declares ++ two.declares)
-              (locals-wider types t ft A y.slots more s.locals ok.locals)
-              (Every-append (LocalFits types t ft y.slots) one.declares two.declares y.declares
-              (locals-wider types t ft x.slots y.slots y.more two.declares x.declares));
-          result = ok.result;
-        };
+        fits = scope-more types t ft A y.slots s (pair l n m (Some v) s) more ok
+            (Every-append (LocalFits types t ft y.slots) one.declares two.declares y.declares
+            (locals-wider types t ft x.slots y.slots y.more two.declares x.declares));
         has = λ ops exits.
             has-then types ft _ _ (shape (ValueType.Bool ∷ value_type v ∷ ops) A) (shape (value_type v ∷ ops) x.slots)
             (shape ops y.slots) exits (x.has (value_type v ∷ ops) exits)

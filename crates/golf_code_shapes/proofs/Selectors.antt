@@ -8,9 +8,6 @@ use Rattle.golf_check_types.specs.declared.types.Layer.{Layer}
 use Rattle.golf_check_types.specs.declared.types.Base.{Base}
 use Rattle.golf_check_types.specs.declared.types.Base.TheVariants as base
 use Rattle.golf_check_types.specs.declared.operands.BuiltIn.{BuiltIn}
-use Rattle.golf_check_types.specs.declared.operands.BuiltIn.TheVariants as built_in
-use Rattle.golf_check_types.specs.declared.operands.Package.{Package}
-use Rattle.golf_check_types.specs.declared.operands.Package.TheVariants as packages
 use Rattle.golf_check_types.specs.declared.operands.Operand.{Operand}
 use Rattle.golf_check_types.specs.declared.operands.Operand.TheVariants as operand
 use Rattle.golf_check_types.specs.declared.operands.Given.{Given}
@@ -22,8 +19,8 @@ use Rattle.golf_check_types.specs.Types.{given}
 use Rattle.golf_check_types.specs.Scopes.{member}
 use Rattle.golf_check_types.specs.Expressions.{Judged, value_faults, value_member, type_member, base_member}
 use Rattle.golf_check_types.specs.Expressions.{struct_member, called_name, condition_member, condition_method}
-use Rattle.golf_check_types.specs.Expressions.{mutex_method, group_method, read_method, write_method, package_member}
-use Rattle.golf_check_types.specs.Expressions.{has_type, fmt_member, runtime_member, sync_member, selected_from, leaf}
+use Rattle.golf_check_types.specs.Expressions.{mutex_method, group_method, read_method, package_member}
+use Rattle.golf_check_types.specs.Expressions.{has_type, selected_from, leaf}
 use Rattle.golf_check_types.specs.Expressions.{value}
 use Rattle.golf_model_typing.specs.Types.{ValueType, FunctionTypes, Types}
 use Rattle.golf_code_layout.specs.Piece.{Piece, op}
@@ -35,6 +32,7 @@ use Rattle.golf_code_shapes.specs.Types.{base_type, value_type}
 use Rattle.golf_code_shapes.specs.Sound.{MemberFits, FileFits, Pushes, Silent, PlaceOf, Receives}
 use Rattle.golf_code_shapes.proofs.Typings.{none-left, none-right}
 use Rattle.golf_code_shapes.proofs.Turning.{turn-op, one-turn}
+use Rattle.golf_code_shapes.proofs.Chosen.{of-mutex, of-group, of-readers, of-condition, from-package}
 use Rattle.golf_code_shapes.proofs.Names.{Shows, GivesBy, valued}
 use Rattle.golf_code_shapes.proofs.Operators.{by-one}
 
@@ -82,35 +80,6 @@ module _ (types : Types) (t : Tables) (ft : FunctionTypes) (A : List ℕ) (s : S
   named-method l p b None fits none h = cc
   named-method l p b (Some m) fits none h = subst (λ o. Receives types ft A o p) (sym (fits m refl)) h
 
-  tried : (b : Option Base) (test : Bool) (x : BuiltIn) (rest : Option BuiltIn) → receiver_base x ≡ b
-      → ((m : BuiltIn) → rest ≡ Some m → receiver_base m ≡ b) → (m : BuiltIn) → cond test (Some x) rest ≡ Some m
-      → receiver_base m ≡ b
-  tried b true x rest h k m e = let same : x ≡ m = cc in subst (λ z. receiver_base z ≡ b) same h
-  tried b false x rest h k m e = k m e
-
-  no-more : (b : Option Base) (m : BuiltIn) → None ≡ Some m → receiver_base m ≡ b
-  no-more b m e = cc
-
-  of-mutex : (n : List ℕ) (m : BuiltIn) → mutex_method n ≡ Some m → receiver_base m ≡ Some base.Mutex
-  unfolding mutex_method
-  of-mutex n = tried _ _ built_in.Lock _ refl (tried _ _ built_in.Unlock None refl (no-more (Some base.Mutex)))
-
-  of-group : (n : List ℕ) (m : BuiltIn) → group_method n ≡ Some m → receiver_base m ≡ Some base.Group
-  unfolding group_method
-  of-group n = tried _ _ built_in.Add _ refl
-      (tried _ _ built_in.Done _ refl (tried _ _ built_in.WaitGroup None refl (no-more (Some base.Group))))
-
-  of-readers : (n : List ℕ) (m : BuiltIn) → read_method n ≡ Some m → receiver_base m ≡ Some base.ReadWriteMutex
-  unfolding read_method write_method
-  of-readers n = tried _ _ built_in.ReadLock _ refl
-      (tried _ _ built_in.ReadUnlock _ refl (tried _ _ built_in.WriteLock _ refl
-      (tried _ _ built_in.WriteUnlock None refl (no-more (Some base.ReadWriteMutex)))))
-
-  of-condition : (n : List ℕ) (m : BuiltIn) → condition_method n ≡ Some m → receiver_base m ≡ Some base.Condition
-  unfolding condition_method
-  of-condition n = tried _ _ built_in.WaitCondition _ refl
-      (tried _ _ built_in.Signal _ refl (tried _ _ built_in.Broadcast None refl (no-more (Some base.Condition))))
-
   -- a method of a condition, or its mutex
   condition-name : (l : ℕ) (p : Piece) (test : Bool) (j : Judged)
       → (j.faults ≡ [] → Sh j.meaning (selector l j.meaning p)) → (cond test (leaf (value base.Mutex) []) j).faults ≡ []
@@ -144,23 +113,6 @@ module _ (types : Types) (t : Tables) (ft : FunctionTypes) (A : List ℕ) (s : S
 
   -- a member of a package
 
-  from-fmt : (n : List ℕ) (m : BuiltIn) → fmt_member n ≡ Some m → receiver_base m ≡ None
-  unfolding fmt_member
-  from-fmt n = tried _ _ built_in.Print None refl (no-more None)
-
-  from-runtime : (n : List ℕ) (m : BuiltIn) → runtime_member n ≡ Some m → receiver_base m ≡ None
-  unfolding runtime_member
-  from-runtime n = tried _ _ built_in.Collect _ refl (tried _ _ built_in.SetFinalizer None refl (no-more None))
-
-  from-sync : (n : List ℕ) (m : BuiltIn) → sync_member n ≡ Some m → receiver_base m ≡ None
-  unfolding sync_member
-  from-sync n = tried _ _ built_in.NewCondition None refl (no-more None)
-
-  from-package : (q : Package) (n : List ℕ) (m : BuiltIn) → package_member q n ≡ Some m → receiver_base m ≡ None
-  from-package packages.Fmt n = from-fmt n
-  from-package packages.Runtime n = from-runtime n
-  from-package packages.Sync n = from-sync n
-
   of-package : (l : ℕ) (p : Piece) (o : Option BuiltIn) → ((m : BuiltIn) → o ≡ Some m → receiver_base m ≡ None)
       → (called_name l o).faults ≡ [] → Silent types ft A p
       → Sh (called_name l o).meaning (selector l (called_name l o).meaning p)
@@ -188,49 +140,7 @@ module _ (types : Types) (t : Tables) (ft : FunctionTypes) (A : List ℕ) (s : S
   on-selector l n (operand.Package q) x none h =
       package-name l x.piece (has_type q n) (called_name l (package_member q n))
       (λ e. of-package l x.piece (package_member q n) (from-package q n) e h) none
-  on-selector l n (operand.Value e) x none h =
-      of-given l n (given (operand.Value e)) x.piece (none-right (value_faults l (operand.Value e)) _ none)
-      (valued types t ft A s l (operand.Value e) x (none-left (value_faults l (operand.Value e)) _ none) h)
-  on-selector l n (operand.Outcome e) x none h =
-      of-given l n (given (operand.Outcome e)) x.piece (none-right (value_faults l (operand.Outcome e)) _ none)
-      (valued types t ft A s l (operand.Outcome e) x (none-left (value_faults l (operand.Outcome e)) _ none) h)
-  on-selector l n (operand.Constant k b) x none h =
-      of-given l n (given (operand.Constant k b)) x.piece (none-right (value_faults l (operand.Constant k b)) _ none)
-      (valued types t ft A s l (operand.Constant k b) x (none-left (value_faults l (operand.Constant k b)) _ none) h)
-  on-selector l n (operand.Truth b) x none h =
-      of-given l n (given (operand.Truth b)) x.piece (none-right (value_faults l (operand.Truth b)) _ none)
-      (valued types t ft A s l (operand.Truth b) x (none-left (value_faults l (operand.Truth b)) _ none) h)
-  on-selector l n (operand.Variable w e) x none h =
-      of-given l n (given (operand.Variable w e)) x.piece (none-right (value_faults l (operand.Variable w e)) _ none)
-      (valued types t ft A s l (operand.Variable w e) x (none-left (value_faults l (operand.Variable w e)) _ none) h)
-  on-selector l n (operand.Field i e) x none h =
-      of-given l n (given (operand.Field i e)) x.piece (none-right (value_faults l (operand.Field i e)) _ none)
-      (valued types t ft A s l (operand.Field i e) x (none-left (value_faults l (operand.Field i e)) _ none) h)
-  on-selector l n (operand.Element e) x none h =
-      of-given l n (given (operand.Element e)) x.piece (none-right (value_faults l (operand.Element e)) _ none)
-      (valued types t ft A s l (operand.Element e) x (none-left (value_faults l (operand.Element e)) _ none) h)
-  on-selector l n operand.Nil x none h = of-given l n (given operand.Nil) x.piece
-      (none-right (value_faults l operand.Nil) _ none)
-      (valued types t ft A s l operand.Nil x (none-left (value_faults l operand.Nil) _ none) h)
-  on-selector l n operand.Blank x none h =
-      of-given l n (given operand.Blank) x.piece (none-right (value_faults l operand.Blank) _ none)
-      (valued types t ft A s l operand.Blank x (none-left (value_faults l operand.Blank) _ none) h)
-  on-selector l n (operand.Nothing late) x none h =
-      of-given l n (given (operand.Nothing late)) x.piece (none-right (value_faults l (operand.Nothing late)) _ none)
-      (valued types t ft A s l (operand.Nothing late) x (none-left (value_faults l (operand.Nothing late)) _ none) h)
-  on-selector l n (operand.Function k) x none h =
-      of-given l n (given (operand.Function k)) x.piece (none-right (value_faults l (operand.Function k)) _ none)
-      (valued types t ft A s l (operand.Function k) x (none-left (value_faults l (operand.Function k)) _ none) h)
-  on-selector l n (operand.Method k) x none h =
-      of-given l n (given (operand.Method k)) x.piece (none-right (value_faults l (operand.Method k)) _ none)
-      (valued types t ft A s l (operand.Method k) x (none-left (value_faults l (operand.Method k)) _ none) h)
-  on-selector l n (operand.BuiltIn b) x none h =
-      of-given l n (given (operand.BuiltIn b)) x.piece (none-right (value_faults l (operand.BuiltIn b)) _ none)
-      (valued types t ft A s l (operand.BuiltIn b) x (none-left (value_faults l (operand.BuiltIn b)) _ none) h)
-  on-selector l n (operand.Struct k) x none h =
-      of-given l n (given (operand.Struct k)) x.piece (none-right (value_faults l (operand.Struct k)) _ none)
-      (valued types t ft A s l (operand.Struct k) x (none-left (value_faults l (operand.Struct k)) _ none) h)
-  on-selector l n operand.TypeName x none h =
-      of-given l n (given operand.TypeName) x.piece (none-right (value_faults l operand.TypeName) _ none)
-      (valued types t ft A s l operand.TypeName x (none-left (value_faults l operand.TypeName) _ none) h)
   on-selector l n operand.Unknown x none h = absurd h
+  on-selector l n m x none h =
+      of-given l n (given m) x.piece (none-right (value_faults l m) _ none)
+      (valued types t ft A s l m x (none-left (value_faults l m) _ none) h)

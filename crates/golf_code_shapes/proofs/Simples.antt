@@ -84,23 +84,8 @@ module _ (types : Types) (t : Tables) (ft : FunctionTypes) where
   forgets l A s (operand.Nothing None) x none h =
       one-turn types ft A x.piece Piece.Empty [] [] [] h (turn-none types ft A [])
   forgets l A s (operand.Nothing (Some rule)) x none h = cc
-  forgets l A s (operand.Value e) x none h = let e = none-right (value_faults l (operand.Value e)) _ none in cc
-  forgets l A s (operand.Constant k b) x none h = let e =
-      none-right (value_faults l (operand.Constant k b)) _ none in cc
-  forgets l A s (operand.Truth b) x none h = let e = none-right (value_faults l (operand.Truth b)) _ none in cc
-  forgets l A s (operand.Variable w e) x none h = let e =
-      none-right (value_faults l (operand.Variable w e)) _ none in cc
-  forgets l A s (operand.Field i e) x none h = let e = none-right (value_faults l (operand.Field i e)) _ none in cc
-  forgets l A s (operand.Element e) x none h = let e = none-right (value_faults l (operand.Element e)) _ none in cc
-  forgets l A s operand.Nil x none h = let e = none-right (value_faults l operand.Nil) _ none in cc
-  forgets l A s operand.Blank x none h = let e = none-right (value_faults l operand.Blank) _ none in cc
-  forgets l A s (operand.Function k) x none h = let e = none-right (value_faults l (operand.Function k)) _ none in cc
-  forgets l A s (operand.Method k) x none h = let e = none-right (value_faults l (operand.Method k)) _ none in cc
-  forgets l A s (operand.BuiltIn b) x none h = let e = none-right (value_faults l (operand.BuiltIn b)) _ none in cc
-  forgets l A s (operand.Package q) x none h = let e = none-right (value_faults l (operand.Package q)) _ none in cc
-  forgets l A s (operand.Struct k) x none h = let e = none-right (value_faults l (operand.Struct k)) _ none in cc
-  forgets l A s operand.TypeName x none h = let e = none-right (value_faults l operand.TypeName) _ none in cc
   forgets l A s operand.Unknown x none h = absurd h
+  forgets l A s m x none h = let e = none-right (value_faults l m) _ none in cc
 
   pub right-action : (l : ℕ) (e : Expr) → Is (W.action l e) (C.simple_piece t l (simple.Expression e))
   right-action l e = calmly (W.action l e) (C.simple_piece t l (simple.Expression e)) (λ s. refl)
@@ -183,30 +168,12 @@ module _ (types : Types) (t : Tables) (ft : FunctionTypes) where
   stored A l s (operand.Element (Some e)) x g p none left h k =
       stores-in A x (value_type e) p h.1 (given-to types t ft A s g e p
       (kept l 9 (assignable g (Some e)) (none-left (broken l 9 (assignable g (Some e))) _ none)) k)
-  stored A l s (operand.Value e) x g p none left h k = let e =
-      none-right (broken l 9 (assignable g (type_of (operand.Value e)))) _ none in cc
-  stored A l s (operand.Outcome e) x g p none left h k = let e =
-      none-right (broken l 9 (assignable g (type_of (operand.Outcome e)))) _ none in cc
-  stored A l s (operand.Constant k b) x g p none left h v = let e =
-      none-right (broken l 9 (assignable g (type_of (operand.Constant k b)))) _ none in cc
-  stored A l s (operand.Truth b) x g p none left h k = let e =
-      none-right (broken l 9 (assignable g (type_of (operand.Truth b)))) _ none in cc
-  stored A l s operand.Nil x g p none left h k = let e =
-      none-right (broken l 9 (assignable g (type_of operand.Nil))) _ none in cc
-  stored A l s (operand.Function k) x g p none left h v = let e =
-      none-right (broken l 9 (assignable g (type_of (operand.Function k)))) _ none in cc
-  stored A l s (operand.Method k) x g p none left h v = let e =
-      none-right (broken l 9 (assignable g (type_of (operand.Method k)))) _ none in cc
-  stored A l s (operand.BuiltIn b) x g p none left h k = let e =
-      none-right (broken l 9 (assignable g (type_of (operand.BuiltIn b)))) _ none in cc
-  stored A l s (operand.Package q) x g p none left h k = let e =
-      none-right (broken l 9 (assignable g (type_of (operand.Package q)))) _ none in cc
-  stored A l s (operand.Struct k) x g p none left h v = let e =
-      none-right (broken l 9 (assignable g (type_of (operand.Struct k)))) _ none in cc
-  stored A l s operand.TypeName x g p none left h k = let e =
-      none-right (broken l 9 (assignable g (type_of operand.TypeName))) _ none in cc
+  stored A l s (operand.Variable w None) x g p none left h k = absurd h
+  stored A l s (operand.Field i None) x g p none left h k = absurd h
+  stored A l s (operand.Element None) x g p none left h k = absurd h
+  stored A l s operand.Unknown x g p none left h k = absurd h
   stored A l s (operand.Nothing late) x g p none left h k = cc
-  stored A l s _ x g p none left h k = absurd h
+  stored A l s m x g p none left h k = let e = none-right (broken l 9 (assignable g (type_of m))) _ none in cc
 
   pub right-assign : (l : ℕ) (p e : Expr) → Is (W.assignment l p e) (C.simple_piece t l (simple.Assign p e))
   right-assign l p e = calmly (W.assignment l p e) (C.simple_piece t l (simple.Assign p e)) (λ s. refl)

@@ -24,6 +24,8 @@ use Rattle.golf_check_types.specs.Calls.{sets_finaliser}
 use Rattle.golf_model_typing.specs.Types.{Types, ValueType}
 use Rattle.golf_code_of.specs.declared.tables.Tables.{Tables}
 use Rattle.golf_code_of.specs.Calls.{receiver_base}
+use Rattle.golf_code_layout.specs.Piece.{Piece}
+use Rattle.golf_code_of.specs.Calls as C
 use Rattle.golf_code_shapes.specs.Types.{value_type}
 use Rattle.golf_code_shapes.specs.Sound.{Callee}
 use Rattle.golf_code_shapes.proofs.Typings.{none-left, none-right, kept}
@@ -67,6 +69,11 @@ counted l ps xs none =
     (kept l 11 (same_number ps (map given_by (judgeds xs)))
     (none-right (argument_faults l ps (map given_by (judgeds xs))) _ none)) in
     sym (length-given xs) ∙ sym e
+
+-- the instruction of a piece that has one
+abbrev only_instr : Piece → Instr
+only_instr (Piece.Op i l) = i
+only_instr _ = Instr.Nil
 
 module _ (taking : Taking) where
   -- one of them gives a value if it stands as one
@@ -154,6 +161,14 @@ module _ (taking : Taking) where
         operates k receiver xs (visible taking i []) (λ vs. length vs ≡ 0) hr ha
         (λ vs len. none-left-over taking i vs (len ∙ count) many)
 
+    -- a method of package sync without an argument
+    alone : (l : ℕ) (receiver : Gives) (xs : List Arg) (i : Instr) → Stands l xs
+        → (flat_map (used l) (judgeds xs) ≡ []) × (parameter_faults l [] (map given_by (judgeds xs)) ≡ [])
+        → Many taking 1 receiver → 1 ≡ taken i → Leaves taking i 0
+        → Many taking 0 (then_do (both receiver (values_of (arguments xs))) (visible taking i []))
+    alone l receiver xs i hs f h takes many = silent 1 receiver xs i h (many-values l xs hs f.0)
+        (omega (arith, counted l [] xs f.1, takes)) many
+
     single : (k : ℕ) (receiver : Gives) (xs : List Arg) (i : Instr) (e : GoType) → Many taking k receiver
         → Many taking (length (arguments xs)) (values_of (arguments xs)) → k + length (arguments xs) ≡ taken i
         → Leaves taking i 1 → Yields taking (value_type e)
@@ -215,57 +230,14 @@ module _ (taking : Taking) where
         (λ vs. length vs ≡ 0) h (many-values l xs hs f.0)
         (λ vs len. none-left-over taking Instr.GroupAdd (vs ++ Value.Int (negsuc 0) ∷ [])
         (omega (arith, length-append vs (Value.Int (negsuc 0) ∷ []), len, counted l [] xs f.1)) (λ n. refl))
-    on-built-in l built_in.Lock receiver xs e hs none h = let f =
-        parts l (operand.BuiltIn built_in.Lock) xs none in silent 1 receiver xs Instr.Lock h (many-values l xs hs f.0)
-        (omega (arith, counted l [] xs f.1)) (λ n. refl)
-    on-built-in l built_in.Unlock receiver xs e hs none h = let f =
-        parts l (operand.BuiltIn built_in.Unlock) xs none in silent 1 receiver xs Instr.Unlock h
-        (many-values l xs hs f.0) (omega (arith, counted l [] xs f.1)) (λ n. refl)
-    on-built-in l built_in.WaitGroup receiver xs e hs none h = let f =
-        parts l (operand.BuiltIn built_in.WaitGroup) xs none in silent 1 receiver xs Instr.GroupWait h
-        (many-values l xs hs f.0) (omega (arith, counted l [] xs f.1)) (λ n. refl)
-    on-built-in l built_in.WriteLock receiver xs e hs none h = let f =
-        parts l (operand.BuiltIn built_in.WriteLock) xs none in silent 1 receiver xs Instr.RwLock h
-        (many-values l xs hs f.0) (omega (arith, counted l [] xs f.1)) (λ n. refl)
-    on-built-in l built_in.WriteUnlock receiver xs e hs none h = let f =
-        parts l (operand.BuiltIn built_in.WriteUnlock) xs none in silent 1 receiver xs Instr.RwUnlock h
-        (many-values l xs hs f.0) (omega (arith, counted l [] xs f.1)) (λ n. refl)
-    on-built-in l built_in.ReadLock receiver xs e hs none h = let f =
-        parts l (operand.BuiltIn built_in.ReadLock) xs none in silent 1 receiver xs Instr.ReadLock h
-        (many-values l xs hs f.0) (omega (arith, counted l [] xs f.1)) (λ n. refl)
-    on-built-in l built_in.ReadUnlock receiver xs e hs none h = let f =
-        parts l (operand.BuiltIn built_in.ReadUnlock) xs none in silent 1 receiver xs Instr.ReadUnlock h
-        (many-values l xs hs f.0) (omega (arith, counted l [] xs f.1)) (λ n. refl)
-    on-built-in l built_in.WaitCondition receiver xs e hs none h = let f =
-        parts l (operand.BuiltIn built_in.WaitCondition) xs none in silent 1 receiver xs Instr.CondWait h
-        (many-values l xs hs f.0) (omega (arith, counted l [] xs f.1)) (λ n. refl)
-    on-built-in l built_in.Signal receiver xs e hs none h = let f =
-        parts l (operand.BuiltIn built_in.Signal) xs none in silent 1 receiver xs Instr.CondSignal h
-        (many-values l xs hs f.0) (omega (arith, counted l [] xs f.1)) (λ n. refl)
-    on-built-in l built_in.Broadcast receiver xs e hs none h = let f =
-        parts l (operand.BuiltIn built_in.Broadcast) xs none in silent 1 receiver xs Instr.CondBroadcast h
-        (many-values l xs hs f.0) (omega (arith, counted l [] xs f.1)) (λ n. refl)
+    on-built-in l b receiver xs e hs none h =
+        alone l receiver xs (only_instr (C.operation l b 0)) hs (parts l (operand.BuiltIn b) xs none) h refl (λ n. refl)
 
     -- finalisers
 
     sets : (m : Operand) (vs : List Value) → length vs ≡ 1 → Many taking 0 (finaliser taking m vs)
     sets (operand.Function k) vs len = none-left-over taking (Instr.SetFinalizer (k + 1)) vs len (λ n. refl)
-    sets (operand.Value e) vs len = none-left-over taking Instr.ClearFinalizer vs len (λ n. refl)
-    sets (operand.Outcome e) vs len = none-left-over taking Instr.ClearFinalizer vs len (λ n. refl)
-    sets (operand.Constant k b) vs len = none-left-over taking Instr.ClearFinalizer vs len (λ n. refl)
-    sets (operand.Truth b) vs len = none-left-over taking Instr.ClearFinalizer vs len (λ n. refl)
-    sets (operand.Variable w e) vs len = none-left-over taking Instr.ClearFinalizer vs len (λ n. refl)
-    sets (operand.Field i e) vs len = none-left-over taking Instr.ClearFinalizer vs len (λ n. refl)
-    sets (operand.Element e) vs len = none-left-over taking Instr.ClearFinalizer vs len (λ n. refl)
-    sets operand.Nil vs len = none-left-over taking Instr.ClearFinalizer vs len (λ n. refl)
-    sets operand.Blank vs len = none-left-over taking Instr.ClearFinalizer vs len (λ n. refl)
-    sets (operand.Nothing late) vs len = none-left-over taking Instr.ClearFinalizer vs len (λ n. refl)
-    sets (operand.Method k) vs len = none-left-over taking Instr.ClearFinalizer vs len (λ n. refl)
-    sets (operand.BuiltIn b) vs len = none-left-over taking Instr.ClearFinalizer vs len (λ n. refl)
-    sets (operand.Package k) vs len = none-left-over taking Instr.ClearFinalizer vs len (λ n. refl)
-    sets (operand.Struct k) vs len = none-left-over taking Instr.ClearFinalizer vs len (λ n. refl)
-    sets operand.TypeName vs len = none-left-over taking Instr.ClearFinalizer vs len (λ n. refl)
-    sets operand.Unknown vs len = none-left-over taking Instr.ClearFinalizer vs len (λ n. refl)
+    sets _ vs len = none-left-over taking Instr.ClearFinalizer vs len (λ n. refl)
 
     on-finaliser : (l : ℕ) (f : Operand) (xs : List Arg) → Stands l xs → (finaliser_call l s f (judgeds xs)).faults ≡ []
         → Gi (finaliser_call l s f (judgeds xs)).meaning (finalising taking (arguments xs))
@@ -294,39 +266,6 @@ module _ (taking : Taking) where
           (ValueType.Struct h.0 ∷ []) h.2 receiver xs h.1 (many-values l xs hs f.0) (omega arith)
       on-call (operand.BuiltIn built_in.SetFinalizer) none h =
           on-finaliser l (operand.BuiltIn built_in.SetFinalizer) xs hs none
-      on-call (operand.BuiltIn built_in.Length) none h = on-built-in l built_in.Length receiver xs refl hs none h
-      on-call (operand.BuiltIn built_in.Close) none h = on-built-in l built_in.Close receiver xs refl hs none h
-      on-call (operand.BuiltIn built_in.Panic) none h = on-built-in l built_in.Panic receiver xs refl hs none h
-      on-call (operand.BuiltIn built_in.Print) none h = on-built-in l built_in.Print receiver xs refl hs none h
-      on-call (operand.BuiltIn built_in.Collect) none h = on-built-in l built_in.Collect receiver xs refl hs none h
-      on-call (operand.BuiltIn built_in.NewCondition) none h =
-          on-built-in l built_in.NewCondition receiver xs refl hs none h
-      on-call (operand.BuiltIn built_in.Lock) none h = on-built-in l built_in.Lock receiver xs refl hs none h
-      on-call (operand.BuiltIn built_in.Unlock) none h = on-built-in l built_in.Unlock receiver xs refl hs none h
-      on-call (operand.BuiltIn built_in.Add) none h = on-built-in l built_in.Add receiver xs refl hs none h
-      on-call (operand.BuiltIn built_in.Done) none h = on-built-in l built_in.Done receiver xs refl hs none h
-      on-call (operand.BuiltIn built_in.WaitGroup) none h = on-built-in l built_in.WaitGroup receiver xs refl hs none h
-      on-call (operand.BuiltIn built_in.WriteLock) none h = on-built-in l built_in.WriteLock receiver xs refl hs none h
-      on-call (operand.BuiltIn built_in.WriteUnlock) none h =
-          on-built-in l built_in.WriteUnlock receiver xs refl hs none h
-      on-call (operand.BuiltIn built_in.ReadLock) none h = on-built-in l built_in.ReadLock receiver xs refl hs none h
-      on-call (operand.BuiltIn built_in.ReadUnlock) none h =
-          on-built-in l built_in.ReadUnlock receiver xs refl hs none h
-      on-call (operand.BuiltIn built_in.WaitCondition) none h =
-          on-built-in l built_in.WaitCondition receiver xs refl hs none h
-      on-call (operand.BuiltIn built_in.Signal) none h = on-built-in l built_in.Signal receiver xs refl hs none h
-      on-call (operand.BuiltIn built_in.Broadcast) none h = on-built-in l built_in.Broadcast receiver xs refl hs none h
-      on-call (operand.Value e) none h = let e = (parts l (operand.Value e) xs none).1 in cc
-      on-call (operand.Outcome e) none h = let e = (parts l (operand.Outcome e) xs none).1 in cc
-      on-call (operand.Constant k b) none h = let e = (parts l (operand.Constant k b) xs none).1 in cc
-      on-call (operand.Truth b) none h = let e = (parts l (operand.Truth b) xs none).1 in cc
-      on-call (operand.Variable w e) none h = let e = (parts l (operand.Variable w e) xs none).1 in cc
-      on-call (operand.Field i e) none h = let e = (parts l (operand.Field i e) xs none).1 in cc
-      on-call (operand.Element e) none h = let e = (parts l (operand.Element e) xs none).1 in cc
-      on-call operand.Nil none h = let e = (parts l operand.Nil xs none).1 in cc
-      on-call operand.Blank none h = let e = (parts l operand.Blank xs none).1 in cc
-      on-call (operand.Nothing late) none h = let e = (parts l (operand.Nothing late) xs none).1 in cc
-      on-call (operand.Package k) none h = let e = (parts l (operand.Package k) xs none).1 in cc
-      on-call (operand.Struct k) none h = let e = (parts l (operand.Struct k) xs none).1 in cc
-      on-call operand.TypeName none h = let e = (parts l operand.TypeName xs none).1 in cc
+      on-call (operand.BuiltIn b) none h = on-built-in l b receiver xs refl hs none h
       on-call operand.Unknown none h = absurd h
+      on-call m none h = let e = (parts l m xs none).1 in cc

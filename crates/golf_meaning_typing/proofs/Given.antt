@@ -25,18 +25,8 @@ use Rattle.golf_meaning_typing.proofs.Calculus.{Two}
 -- the zero value of a type
 pub zero-fits : (xs : List Layer) (b : Base) → is_of (layers_type xs b) (zero_of (type_zero xs b)) ≡ true
 zero-fits [] base.Int = refl
-zero-fits [] base.Bool = refl
-zero-fits [] base.Text = refl
-zero-fits [] base.Unit = refl
-zero-fits [] (base.Pointer k) = refl
-zero-fits [] base.Mutex = refl
-zero-fits [] base.Group = refl
-zero-fits [] base.ReadWriteMutex = refl
-zero-fits [] base.Condition = refl
 zero-fits (layer.Slice ∷ xs) b = refl
-zero-fits (layer.Chan ∷ xs) b = refl
-zero-fits (layer.SendChan ∷ xs) b = refl
-zero-fits (layer.ReceiveChan ∷ xs) b = refl
+zero-fits _ b = refl
 
 module _ (taking : Taking) where
   -- what is assignable to a type gives a value of it

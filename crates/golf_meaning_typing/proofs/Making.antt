@@ -1,7 +1,7 @@
 -- What literals, `make` and `new` give.
 -- For: `expressions_fit`, src/lib.rt; `puts`, golf_meaning_source/specs/Exprs.antt
 -- By: induction over the list of fields or elements of a literal; cases of the type
-use Rattle.std.proofs.Common.{◌≡◌, ℕ, ◌+◌, Bool, true, false, cond, List, [], ◌∷◌, ◌++◌, length, Option, Some, None}
+use Rattle.std.proofs.Common.{◌≡◌, ℕ, ◌+◌, true, List, [], ◌∷◌, ◌++◌, length, Option, Some, None}
 use Rattle.std.proofs.Common.{refl, sym, subst, arith}
 use Rattle.std.specs.Prelude.{is_some}
 use Rattle.golf_data.specs.declared.value.Value.{Value}
@@ -21,6 +21,7 @@ use Rattle.golf_data.specs.Effects.{taken}
 use Rattle.golf_code_of.specs.Values.{type_zero}
 use Rattle.golf_check_types.specs.Expressions.{field_place}
 use Rattle.golf_code_shapes.specs.Types.{layers_type, value_type}
+use Rattle.golf_code_shapes.proofs.Chosen.{IsMade, is-made}
 use Rattle.golf_meaning_flat.specs.Worlds.{World, Part, bind}
 use Rattle.golf_meaning_source.specs.Operations.{Taking, Gives, gives, both, visible}
 use Rattle.golf_meaning_source.specs.Exprs as X
@@ -38,21 +39,6 @@ IsStruct b = (k : ℕ) × (b ≡ Some (base.Pointer k))
 is-struct : (o : Option Operand) → is_some (pointer_to o) ≡ true → IsStruct (pointer_to o)
 is-struct (Some (operand.Struct k)) e = (k, refl)
 is-struct _ e = cc
-
-abbrev IsMade : Base → Type 0
-IsMade base.Mutex = Unit {0}
-IsMade base.Group = Unit {0}
-IsMade base.ReadWriteMutex = Unit {0}
-IsMade _ = ⊥
-
-tried : (test : Bool) (b : Base) (rest : Option Base) → IsMade b → ((c : Base) → rest ≡ Some c → IsMade c) → (c : Base)
-    → cond test (Some b) rest ≡ Some c → IsMade c
-tried true b rest h k c e = let same : b ≡ c = cc in subst IsMade same h
-tried false b rest h k c e = k c e
-
-is-made : (n : List ℕ) (c : Base) → made_base n ≡ Some c → IsMade c
-unfolding made_base
-is-made n = tried _ base.Mutex _ tt (tried _ base.Group _ tt (tried _ base.ReadWriteMutex None tt (λ c e. cc)))
 
 is-any : (xs : List Layer) → starts_with is_channel xs ≡ true → starts_with is_any xs ≡ true
 is-any [] e = cc
@@ -137,12 +123,7 @@ module _ (taking : Taking) where
   makes-sync (Some base.Group) which e = one-left taking Instr.NewGroup (plain base.Group) [] refl (λ k. refl)
   makes-sync (Some base.ReadWriteMutex) which e =
       one-left taking Instr.NewRw (plain base.ReadWriteMutex) [] refl (λ k. refl)
-  makes-sync (Some base.Int) which e = absurd (which base.Int refl)
-  makes-sync (Some base.Bool) which e = absurd (which base.Bool refl)
-  makes-sync (Some base.Text) which e = absurd (which base.Text refl)
-  makes-sync (Some base.Unit) which e = absurd (which base.Unit refl)
-  makes-sync (Some (base.Pointer k)) which e = absurd (which (base.Pointer k) refl)
-  makes-sync (Some base.Condition) which e = absurd (which base.Condition refl)
+  makes-sync (Some b) which e = absurd (which b refl)
 
   pub sync-yields : (n : List ℕ) → is_some (made_base n) ≡ true → Pointed (made_base n) (new_sync taking (made_base n))
   sync-yields n e = makes-sync (made_base n) (is-made n) e
@@ -155,15 +136,8 @@ module _ (taking : Taking) where
   container-yields (layer.Slice ∷ xs) b vs e len =
       one-left taking (Instr.NewSlice (type_zero xs b)) (record { layers = layer.Slice ∷ xs; base = b }) vs len
       (λ k. refl)
-  container-yields (layer.Chan ∷ xs) b vs e len =
-      one-left taking (Instr.NewChan (type_zero xs b)) (record { layers = layer.Chan ∷ xs; base = b }) vs len
-      (λ k. refl)
-  container-yields (layer.SendChan ∷ xs) b vs e len =
-      one-left taking (Instr.NewChan (type_zero xs b)) (record { layers = layer.SendChan ∷ xs; base = b }) vs len
-      (λ k. refl)
-  container-yields (layer.ReceiveChan ∷ xs) b vs e len =
-      one-left taking (Instr.NewChan (type_zero xs b)) (record { layers = layer.ReceiveChan ∷ xs; base = b }) vs len
-      (λ k. refl)
+  container-yields (x ∷ xs) b vs e len =
+      one-left taking (Instr.NewChan (type_zero xs b)) (record { layers = x ∷ xs; base = b }) vs len (λ k. refl)
 
   pub made-yields : (e : GoType) (vs : List Value) → has_layer is_channel (given (operand.Value (Some e))) ≡ true
       → length vs ≡ 1 → Yields taking (value_type e) (X.made taking (Some e) vs)

@@ -2,7 +2,6 @@
 -- For: `names_give`, src/lib.rt
 -- By: induction over the list of locals; cases of what a name stands for
 use Rattle.std.proofs.Common.{◌≡◌, ℕ, Bool, true, false, cond, List, [], ◌∷◌, Option, Some, None, refl, sym, subst}
-use Rattle.std.specs.Prelude.{codes}
 use Rattle.std.specs.Option.{option_map}
 use Rattle.std.specs.Str.{bytes_eq}
 use Rattle.golf_data.specs.declared.value.Value.{Value}
@@ -12,15 +11,13 @@ use Rattle.golf_check_types.specs.declared.types.GoType.{GoType}
 use Rattle.golf_check_types.specs.declared.operands.Operand.{Operand}
 use Rattle.golf_check_types.specs.declared.operands.Operand.TheVariants as operand
 use Rattle.golf_check_types.specs.declared.operands.Where.TheVariants as place
-use Rattle.golf_check_types.specs.declared.operands.BuiltIn.TheVariants as built_in
-use Rattle.golf_check_types.specs.declared.operands.Package.TheVariants as packages
 use Rattle.golf_check_types.specs.declared.locals.Local.{Local}
 use Rattle.golf_check_types.specs.declared.scopes.Imports.{Imports}
 use Rattle.golf_check_types.specs.declared.scopes.FileScope.{FileScope}
 use Rattle.golf_check_types.specs.declared.scopes.Scope.{Scope}
 use Rattle.golf_check_types.specs.Names.{is_blank, look}
 use Rattle.golf_check_types.specs.Types.{given, given_type}
-use Rattle.golf_check_types.specs.Scopes.{or_else, type_name, value_name, call_name, package_name, predeclared}
+use Rattle.golf_check_types.specs.Scopes.{or_else, predeclared}
 use Rattle.golf_check_types.specs.Scopes.{file_operand, local_operand, meaning}
 use Rattle.golf_check_types.specs.Expressions.{leaf, used, given_by, value_faults, known_name}
 use Rattle.golf_code_of.specs.declared.tables.Tables.{Tables}
@@ -28,6 +25,7 @@ use Rattle.golf_code_of.specs.Values.{constant}
 use Rattle.golf_model_typing.specs.Types.{ValueType, IsNilable, Types, ValueFits}
 use Rattle.golf_code_shapes.specs.Types.{base_type}
 use Rattle.golf_code_shapes.specs.Sound.{NameFits}
+use Rattle.golf_code_shapes.proofs.Chosen.{either, of-predeclared}
 use Rattle.golf_meaning_source.specs.Names.{Env, find, first_some, here}
 use Rattle.golf_meaning_source.specs.Operations.{Taking, gives}
 use Rattle.golf_meaning_source.specs.Exprs.{outer_value, value_of_name}
@@ -96,52 +94,20 @@ module _ (taking : Taking) where
     from-file f (operand.Struct k) h none = cc
     from-file f _ h none = absurd h
 
-    either-name : (a b : Option Operand) → ((m : Operand) → a ≡ Some m → Outer m)
-        → ((m : Operand) → b ≡ Some m → Outer m) → (m : Operand) → or_else a b ≡ Some m → Outer m
-    either-name None b h k m e = k m e
-    either-name (Some x) b h k m e = h m e
-
-    tried : (test : Bool) (x : Operand) (rest : Option Operand) → Outer x → ((m : Operand) → rest ≡ Some m → Outer m)
-        → (m : Operand) → cond test (Some x) rest ≡ Some m → Outer m
-    tried true x rest h k m e = let same : x ≡ m = cc in subst Outer same h
-    tried false x rest h k m e = k m e
-
-    no-name : (m : Operand) → None ≡ Some m → Outer m
-    no-name m e = cc
-
-    is-type : (n : List ℕ) (m : Operand) → type_name n ≡ Some m → Outer m
-    unfolding type_name
-    is-type n = tried (bytes_eq n (codes "int")) operand.TypeName _ (λ none. cc)
-        (tried (bytes_eq n (codes "bool")) operand.TypeName _ (λ none. cc)
-        (tried (bytes_eq n (codes "string")) operand.TypeName None (λ none. cc) no-name))
-
-    is-value : (n : List ℕ) (m : Operand) → value_name n ≡ Some m → Outer m
-    unfolding value_name
-    is-value n = tried _ (operand.Truth true) _ (λ none w strict. refl)
-        (tried _ (operand.Truth false) _ (λ none w strict. refl)
-        (tried _ operand.Nil None (λ none u nil w strict. nil-is u nil) no-name))
-
-    is-call : (n : List ℕ) (m : Operand) → call_name n ≡ Some m → Outer m
-    unfolding call_name
-    is-call n = tried _ (operand.BuiltIn built_in.Length) _ (λ none. cc)
-        (tried _ (operand.BuiltIn built_in.Close) _ (λ none. cc)
-        (tried _ (operand.BuiltIn built_in.Panic) _ (λ none. cc)
-        (tried _ operand.TypeName _ (λ none. cc) (tried _ operand.TypeName None (λ none. cc) no-name))))
-
-    is-package : (i : Imports) (n : List ℕ) (m : Operand) → package_name i n ≡ Some m → Outer m
-    unfolding package_name
-    is-package i n = tried _ (operand.Package packages.Fmt) _ (λ none. cc)
-        (tried _ (operand.Package packages.Runtime) _ (λ none. cc)
-        (tried _ (operand.Package packages.Sync) None (λ none. cc) no-name))
-
     is-predeclared : (i : Imports) (n : List ℕ) (m : Operand) → predeclared i n ≡ Some m → Outer m
-    is-predeclared i n = either-name (type_name n) _ (is-type n)
-        (either-name (value_name n) _ (is-value n)
-        (either-name (call_name n) (package_name i n) (is-call n) (is-package i n)))
+    is-predeclared = of-predeclared Outer (record {
+      a_type = λ none. cc;
+      truth = λ b none w strict. refl;
+      nil = λ none u nil w strict. nil-is u nil;
+      length = λ none. cc;
+      close = λ none. cc;
+      panic = λ none. cc;
+      of_package = λ q none. cc;
+    })
 
     outer-gives : (s : Scope) (n : List ℕ) → FileTaken taking types t s.file → (m : Operand) → outer s n ≡ Some m
         → Outer m
-    outer-gives s n ok = either-name (file_operand s.file n) (predeclared s.file.imports n)
+    outer-gives s n ok = either Outer (file_operand s.file n) (predeclared s.file.imports n)
         (λ m e. from-file s.file m (ok.fits.names n m e)) (is-predeclared s.file.imports n)
 
     held-gives : (o : Option GoType) (v : Value) → Held taking o v → YieldsBy taking (given_type o) (gives (v ∷ []))

@@ -2,22 +2,18 @@
 -- For: `expressions_fit`, src/lib.rt; `value_faults`, golf_check_types/specs/Expressions.antt
 -- By: cases of what the name stands for; no induction
 use Rattle.std.proofs.Common.{◌≡◌, ℕ, Bool, true, false, cond, List, [], ◌∷◌, Option, Some, None, refl, sym, subst}
-use Rattle.std.specs.Prelude.{codes}
 use Rattle.std.specs.Option.{option_map}
-use Rattle.std.specs.Str.{bytes_eq}
 use Rattle.golf_data.specs.declared.value.Value.{Value}
 use Rattle.golf_data.specs.declared.code.Instr.{Instr}
 use Rattle.golf_check_types.specs.declared.operands.Operand.{Operand}
 use Rattle.golf_check_types.specs.declared.operands.Operand.TheVariants as operand
 use Rattle.golf_check_types.specs.declared.operands.Where.TheVariants as place
-use Rattle.golf_check_types.specs.declared.operands.BuiltIn.TheVariants as built_in
-use Rattle.golf_check_types.specs.declared.operands.Package.TheVariants as packages
 use Rattle.golf_check_types.specs.declared.locals.Local.{Local}
 use Rattle.golf_check_types.specs.declared.scopes.Imports.{Imports}
 use Rattle.golf_check_types.specs.declared.scopes.Scope.{Scope}
 use Rattle.golf_check_types.specs.Types.{given}
 use Rattle.golf_check_types.specs.Names.{is_blank, look}
-use Rattle.golf_check_types.specs.Scopes.{or_else, type_name, value_name, call_name, package_name, predeclared}
+use Rattle.golf_check_types.specs.Scopes.{or_else, predeclared}
 use Rattle.golf_check_types.specs.Scopes.{file_operand, local_operand, meaning}
 use Rattle.golf_check_types.specs.Expressions.{Judged, leaf, used, given_by, value_faults, known_name, named}
 use Rattle.golf_code_of.specs.declared.tables.Tables.{Tables}
@@ -26,6 +22,7 @@ use Rattle.golf_model_typing.specs.Types.{Types}
 use Rattle.golf_code_shapes.specs.Types.{base_type}
 use Rattle.golf_code_shapes.specs.Sound.{NameFits}
 use Rattle.golf_code_shapes.proofs.Typings.{none-left, none-right}
+use Rattle.golf_code_shapes.proofs.Chosen.{either, of-predeclared}
 use Rattle.golf_meaning_source.specs.Names.{Env, find}
 use Rattle.golf_meaning_source.specs.Operations.{Taking, Gives, gives}
 use Rattle.golf_meaning_source.specs.Exprs.{Location, outer_place, outer_value, place_of_name, value_of_name, name_does}
@@ -81,51 +78,19 @@ module _ (taking : Taking) where
       from-file n (operand.Struct k) h = tt
       from-file n _ h = absurd h
 
-      either-name : (n : List ℕ) (a b : Option Operand) → ((m : Operand) → a ≡ Some m → Outer n m)
-          → ((m : Operand) → b ≡ Some m → Outer n m) → (m : Operand) → or_else a b ≡ Some m → Outer n m
-      either-name n None b h k m e = k m e
-      either-name n (Some x) b h k m e = h m e
-
-      tried : (n : List ℕ) (test : Bool) (x : Operand) (rest : Option Operand) → Outer n x
-          → ((m : Operand) → rest ≡ Some m → Outer n m) → (m : Operand) → cond test (Some x) rest ≡ Some m → Outer n m
-      tried n true x rest h k m e = let same : x ≡ m = cc in subst (Outer n) same h
-      tried n false x rest h k m e = k m e
-
-      no-name : (n : List ℕ) (m : Operand) → None ≡ Some m → Outer n m
-      no-name n m e = cc
-
-      is-type : (n : List ℕ) (m : Operand) → type_name n ≡ Some m → Outer n m
-      unfolding type_name
-      is-type n = tried n (bytes_eq n (codes "int")) operand.TypeName _ tt
-          (tried n (bytes_eq n (codes "bool")) operand.TypeName _ tt
-          (tried n (bytes_eq n (codes "string")) operand.TypeName None tt (no-name n)))
-
-      is-value : (n : List ℕ) (m : Operand) → value_name n ≡ Some m → Outer n m
-      unfolding value_name
-      is-value n = tried n _ (operand.Truth true) _ (λ w strict. refl)
-          (tried n _ (operand.Truth false) _ (λ w strict. refl)
-          (tried n _ operand.Nil None (λ u nil w strict. nil-is u nil) (no-name n)))
-
-      is-call : (n : List ℕ) (m : Operand) → call_name n ≡ Some m → Outer n m
-      unfolding call_name
-      is-call n = tried n _ (operand.BuiltIn built_in.Length) _ (λ w. refl)
-          (tried n _ (operand.BuiltIn built_in.Close) _ (λ w. refl)
-          (tried n _ (operand.BuiltIn built_in.Panic) _ (λ w. refl)
-          (tried n _ operand.TypeName _ tt (tried n _ operand.TypeName None tt (no-name n)))))
-
-      is-package : (i : Imports) (n : List ℕ) (m : Operand) → package_name i n ≡ Some m → Outer n m
-      unfolding package_name
-      is-package i n = tried n _ (operand.Package packages.Fmt) _ (λ w. refl)
-          (tried n _ (operand.Package packages.Runtime) _ (λ w. refl)
-          (tried n _ (operand.Package packages.Sync) None (λ w. refl) (no-name n)))
-
       is-predeclared : (i : Imports) (n : List ℕ) (m : Operand) → predeclared i n ≡ Some m → Outer n m
-      is-predeclared i n = either-name n (type_name n) _ (is-type n)
-          (either-name n (value_name n) _ (is-value n)
-          (either-name n (call_name n) (package_name i n) (is-call n) (is-package i n)))
+      is-predeclared i n = of-predeclared (Outer n) (record {
+        a_type = tt;
+        truth = λ b w strict. refl;
+        nil = λ u nil w strict. nil-is u nil;
+        length = λ w. refl;
+        close = λ w. refl;
+        panic = λ w. refl;
+        of_package = λ q w. refl;
+      }) i n
 
       outer-meets : (n : List ℕ) → FileTaken taking types t s.file → (m : Operand) → outer s n ≡ Some m → Outer n m
-      outer-meets n ok = either-name n (file_operand s.file n) (predeclared s.file.imports n)
+      outer-meets n ok = either (Outer n) (file_operand s.file n) (predeclared s.file.imports n)
           (λ m e. from-file n m (ok.fits.names n m e)) (is-predeclared s.file.imports n)
 
       -- a local, or a name that is none

@@ -182,6 +182,15 @@ module _ (taking : Taking) where
           one (Some true) q = yk w
           one (Some false) q = yh w
 
+  of-ints : (o : BinaryOperator) (u : ValueType) (g h : Given) (f k : Gives)
+      → (has_base base.Int g && has_base base.Int h) ≡ true → YieldsBy taking g f → YieldsBy taking h k
+      → ((v z : Value) → IsOf taking ValueType.Int v → IsOf taking ValueType.Int z → (w : World)
+      → Sound taking (One taking u) (calculation o (v ∷ (z ∷ [])) w))
+      → Yields taking u (then_do (both f k) (calculation o))
+  of-ints o u g h f k holds x y calculates =
+      let a = alike base.Int g h f k holds x y in
+      two-then taking ValueType.Int ValueType.Int f k (calculation o) (One taking u) a.0 a.1 calculates
+
   binary-yields : (o : BinaryOperator) (g h : Given) (f k : Gives) → binary_fits o g h ≡ true → YieldsBy taking g f
       → YieldsBy taking h k → Yields taking (base_type (result_base o)) (binary_does o f k)
   binary-yields binary.Or g h f k holds x y = let a =
@@ -196,35 +205,24 @@ module _ (taking : Taking) where
   binary-yields binary.NotEqual g h f k holds x y = let c =
       comparing g h f k holds x y in two-then taking c.0 c.0 f k (calculation binary.NotEqual)
       (One taking ValueType.Bool) c.1 c.2 (λ v z p q. negating (on_two equated) (v ∷ (z ∷ [])) (equates c.0 v z p q))
-  binary-yields binary.Less g h f k holds x y = let a =
-      alike base.Int g h f k holds x y in two-then taking ValueType.Int ValueType.Int f k (calculation binary.Less)
-      (One taking ValueType.Bool) a.0 a.1 (compares int_lt)
-  binary-yields binary.AtMost g h f k holds x y = let a =
-      alike base.Int g h f k holds x y in two-then taking ValueType.Int ValueType.Int f k (calculation binary.AtMost)
-      (One taking ValueType.Bool) a.0 a.1 (compares int_le)
-  binary-yields binary.Greater g h f k holds x y = let a =
-      alike base.Int g h f k holds x y in two-then taking ValueType.Int ValueType.Int f k (calculation binary.Greater)
-      (One taking ValueType.Bool) a.0 a.1 (λ v z p q. negating (on_two (compared int_le)) (v ∷ (z ∷ []))
-      (compares int_le v z p q))
-  binary-yields binary.AtLeast g h f k holds x y = let a =
-      alike base.Int g h f k holds x y in two-then taking ValueType.Int ValueType.Int f k (calculation binary.AtLeast)
-      (One taking ValueType.Bool) a.0 a.1 (λ v z p q. negating (on_two (compared int_lt)) (v ∷ (z ∷ []))
-      (compares int_lt v z p q))
-  binary-yields binary.Add g h f k holds x y = let a =
-      alike base.Int g h f k holds x y in two-then taking ValueType.Int ValueType.Int f k (calculation binary.Add)
-      (One taking ValueType.Int) a.0 a.1 (computes sum)
-  binary-yields binary.Subtract g h f k holds x y = let a =
-      alike base.Int g h f k holds x y in two-then taking ValueType.Int ValueType.Int f k (calculation binary.Subtract)
-      (One taking ValueType.Int) a.0 a.1 (computes difference)
-  binary-yields binary.Multiply g h f k holds x y = let a =
-      alike base.Int g h f k holds x y in two-then taking ValueType.Int ValueType.Int f k (calculation binary.Multiply)
-      (One taking ValueType.Int) a.0 a.1 (computes product)
-  binary-yields binary.Divide g h f k holds x y = let a =
-      alike base.Int g h f k holds x y in two-then taking ValueType.Int ValueType.Int f k (calculation binary.Divide)
-      (One taking ValueType.Int) a.0 a.1 (divides quotient)
-  binary-yields binary.Remainder g h f k holds x y = let a =
-      alike base.Int g h f k holds x y in two-then taking ValueType.Int ValueType.Int f k (calculation binary.Remainder)
-      (One taking ValueType.Int) a.0 a.1 (divides remainder)
+  binary-yields binary.Less g h f k holds x y = of-ints binary.Less ValueType.Bool g h f k holds x y (compares int_lt)
+  binary-yields binary.AtMost g h f k holds x y =
+      of-ints binary.AtMost ValueType.Bool g h f k holds x y (compares int_le)
+  binary-yields binary.Greater g h f k holds x y =
+      of-ints binary.Greater ValueType.Bool g h f k holds x y
+      (λ v z p q. negating (on_two (compared int_le)) (v ∷ (z ∷ [])) (compares int_le v z p q))
+  binary-yields binary.AtLeast g h f k holds x y =
+      of-ints binary.AtLeast ValueType.Bool g h f k holds x y
+      (λ v z p q. negating (on_two (compared int_lt)) (v ∷ (z ∷ [])) (compares int_lt v z p q))
+  binary-yields binary.Add g h f k holds x y = of-ints binary.Add ValueType.Int g h f k holds x y (computes sum)
+  binary-yields binary.Subtract g h f k holds x y =
+      of-ints binary.Subtract ValueType.Int g h f k holds x y (computes difference)
+  binary-yields binary.Multiply g h f k holds x y =
+      of-ints binary.Multiply ValueType.Int g h f k holds x y (computes product)
+  binary-yields binary.Divide g h f k holds x y =
+      of-ints binary.Divide ValueType.Int g h f k holds x y (divides quotient)
+  binary-yields binary.Remainder g h f k holds x y =
+      of-ints binary.Remainder ValueType.Int g h f k holds x y (divides remainder)
 
   binary-fits : BinaryFits taking
   binary-fits l o j k f g hf hg none =

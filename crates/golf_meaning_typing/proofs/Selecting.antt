@@ -8,9 +8,6 @@ use Rattle.golf_check_types.specs.declared.types.Base.{Base}
 use Rattle.golf_check_types.specs.declared.types.Base.TheVariants as base
 use Rattle.golf_check_types.specs.declared.types.GoType.{GoType}
 use Rattle.golf_check_types.specs.declared.operands.BuiltIn.{BuiltIn}
-use Rattle.golf_check_types.specs.declared.operands.BuiltIn.TheVariants as built_in
-use Rattle.golf_check_types.specs.declared.operands.Package.{Package}
-use Rattle.golf_check_types.specs.declared.operands.Package.TheVariants as packages
 use Rattle.golf_check_types.specs.declared.operands.Operand.{Operand}
 use Rattle.golf_check_types.specs.declared.operands.Operand.TheVariants as operand
 use Rattle.golf_check_types.specs.declared.operands.Given.{Given}
@@ -22,8 +19,8 @@ use Rattle.golf_check_types.specs.Types.{plain, given}
 use Rattle.golf_check_types.specs.Scopes.{member}
 use Rattle.golf_check_types.specs.Expressions.{Judged, value_faults, value_member, type_member, base_member}
 use Rattle.golf_check_types.specs.Expressions.{struct_member, called_name, condition_member, condition_method}
-use Rattle.golf_check_types.specs.Expressions.{mutex_method, group_method, read_method, write_method, package_member}
-use Rattle.golf_check_types.specs.Expressions.{has_type, fmt_member, runtime_member, sync_member, selected_from, leaf}
+use Rattle.golf_check_types.specs.Expressions.{mutex_method, group_method, read_method, package_member}
+use Rattle.golf_check_types.specs.Expressions.{has_type, selected_from, leaf}
 use Rattle.golf_check_types.specs.Expressions.{value}
 use Rattle.golf_model_typing.specs.Types.{ValueType, Types}
 use Rattle.golf_code_of.specs.declared.tables.Tables.{Tables}
@@ -31,6 +28,7 @@ use Rattle.golf_code_of.specs.Calls.{receiver_base}
 use Rattle.golf_code_shapes.specs.Types.{value_type}
 use Rattle.golf_code_shapes.specs.Sound.{MemberFits}
 use Rattle.golf_code_shapes.proofs.Typings.{none-left, none-right}
+use Rattle.golf_code_shapes.proofs.Chosen.{of-mutex, of-group, of-readers, of-condition, from-package}
 use Rattle.golf_meaning_source.specs.Names.{Env}
 use Rattle.golf_meaning_source.specs.Operations.{Taking, Gives, visible}
 use Rattle.golf_meaning_source.specs.Exprs.{Location, selector}
@@ -68,36 +66,6 @@ module _ (taking : Taking) where
     named-method l f b None fits none h = cc
     named-method l f b (Some m) fits none h = subst (λ o. Receives taking o (f env)) (sym (fits m refl)) h
 
-    tried : (b : Option Base) (test : Bool) (x : BuiltIn) (rest : Option BuiltIn) → receiver_base x ≡ b
-        → ((m : BuiltIn) → rest ≡ Some m → receiver_base m ≡ b) → (m : BuiltIn) → cond test (Some x) rest ≡ Some m
-        → receiver_base m ≡ b
-    tried b true x rest h k m e = let same : x ≡ m = cc in subst (λ z. receiver_base z ≡ b) same h
-    tried b false x rest h k m e = k m e
-
-    no-more : (b : Option Base) (m : BuiltIn) → None ≡ Some m → receiver_base m ≡ b
-    no-more b m e = cc
-
-    of-mutex : (n : List ℕ) (m : BuiltIn) → mutex_method n ≡ Some m → receiver_base m ≡ Some base.Mutex
-    unfolding mutex_method
-    of-mutex n = tried _ _ built_in.Lock _ refl (tried _ _ built_in.Unlock None refl (no-more (Some base.Mutex)))
-
-    of-group : (n : List ℕ) (m : BuiltIn) → group_method n ≡ Some m → receiver_base m ≡ Some base.Group
-    unfolding group_method
-    of-group n = tried _ _ built_in.Add _ refl
-        (tried _ _ built_in.Done _ refl (tried _ _ built_in.WaitGroup None refl (no-more (Some base.Group))))
-
-    of-readers : (n : List ℕ) (m : BuiltIn) → read_method n ≡ Some m → receiver_base m ≡ Some base.ReadWriteMutex
-    unfolding read_method write_method
-    of-readers n = tried _ _ built_in.ReadLock _ refl
-        (tried _ _ built_in.ReadUnlock _ refl
-        (tried _ _ built_in.WriteLock _ refl (tried _ _ built_in.WriteUnlock None refl
-        (no-more (Some base.ReadWriteMutex)))))
-
-    of-condition : (n : List ℕ) (m : BuiltIn) → condition_method n ≡ Some m → receiver_base m ≡ Some base.Condition
-    unfolding condition_method
-    of-condition n = tried _ _ built_in.WaitCondition _ refl
-        (tried _ _ built_in.Signal _ refl (tried _ _ built_in.Broadcast None refl (no-more (Some base.Condition))))
-
     -- a method of a condition, or its mutex
     condition-name : (l : ℕ) (f : Env → Gives) (test : Bool) (j : Judged) → (j.faults ≡ [] → Selects j.meaning f)
         → (cond test (leaf (value base.Mutex) []) j).faults ≡ [] → Many taking 1 (f env)
@@ -132,23 +100,6 @@ module _ (taking : Taking) where
 
     -- a member of a package
 
-    from-fmt : (n : List ℕ) (m : BuiltIn) → fmt_member n ≡ Some m → receiver_base m ≡ None
-    unfolding fmt_member
-    from-fmt n = tried _ _ built_in.Print None refl (no-more None)
-
-    from-runtime : (n : List ℕ) (m : BuiltIn) → runtime_member n ≡ Some m → receiver_base m ≡ None
-    unfolding runtime_member
-    from-runtime n = tried _ _ built_in.Collect _ refl (tried _ _ built_in.SetFinalizer None refl (no-more None))
-
-    from-sync : (n : List ℕ) (m : BuiltIn) → sync_member n ≡ Some m → receiver_base m ≡ None
-    unfolding sync_member
-    from-sync n = tried _ _ built_in.NewCondition None refl (no-more None)
-
-    from-package : (q : Package) (n : List ℕ) (m : BuiltIn) → package_member q n ≡ Some m → receiver_base m ≡ None
-    from-package packages.Fmt n = from-fmt n
-    from-package packages.Runtime n = from-runtime n
-    from-package packages.Sync n = from-sync n
-
     of-package : (l : ℕ) (f : Env → Gives) (o : Option BuiltIn) → ((m : BuiltIn) → o ≡ Some m → receiver_base m ≡ None)
         → (called_name l o).faults ≡ [] → Many taking 0 (f env) → Selects (called_name l o).meaning f
     of-package l f None fits none h = cc
@@ -180,58 +131,6 @@ module _ (taking : Taking) where
       on-selector (operand.Package k) none h =
           package-name l f (has_type k n) (called_name l (package_member k n))
           (λ e. of-package l f (package_member k n) (from-package k n) e h) none
-      on-selector (operand.Value e) none h =
-          of-value (operand.Value e) (valued taking types t s env l (operand.Value e) (f env) p q)
-          (none-left (value_faults l (operand.Value e)) _ none) (none-right (value_faults l (operand.Value e)) _ none) h
-      on-selector (operand.Outcome e) none h =
-          of-value (operand.Outcome e) (valued taking types t s env l (operand.Outcome e) (f env) p q)
-          (none-left (value_faults l (operand.Outcome e)) _ none)
-          (none-right (value_faults l (operand.Outcome e)) _ none) h
-      on-selector (operand.Constant k b) none h =
-          of-value (operand.Constant k b) (valued taking types t s env l (operand.Constant k b) (f env) p q)
-          (none-left (value_faults l (operand.Constant k b)) _ none)
-          (none-right (value_faults l (operand.Constant k b)) _ none) h
-      on-selector (operand.Truth b) none h =
-          of-value (operand.Truth b) (valued taking types t s env l (operand.Truth b) (f env) p q)
-          (none-left (value_faults l (operand.Truth b)) _ none) (none-right (value_faults l (operand.Truth b)) _ none) h
-      on-selector (operand.Variable w e) none h =
-          of-value (operand.Variable w e) (valued taking types t s env l (operand.Variable w e) (f env) p q)
-          (none-left (value_faults l (operand.Variable w e)) _ none)
-          (none-right (value_faults l (operand.Variable w e)) _ none) h
-      on-selector (operand.Field i e) none h =
-          of-value (operand.Field i e) (valued taking types t s env l (operand.Field i e) (f env) p q)
-          (none-left (value_faults l (operand.Field i e)) _ none)
-          (none-right (value_faults l (operand.Field i e)) _ none) h
-      on-selector (operand.Element e) none h =
-          of-value (operand.Element e) (valued taking types t s env l (operand.Element e) (f env) p q)
-          (none-left (value_faults l (operand.Element e)) _ none)
-          (none-right (value_faults l (operand.Element e)) _ none) h
-      on-selector operand.Nil none h = of-value operand.Nil (valued taking types t s env l operand.Nil (f env) p q)
-          (none-left (value_faults l operand.Nil) _ none) (none-right (value_faults l operand.Nil) _ none) h
-      on-selector operand.Blank none h = of-value operand.Blank
-          (valued taking types t s env l operand.Blank (f env) p q) (none-left (value_faults l operand.Blank) _ none)
-          (none-right (value_faults l operand.Blank) _ none) h
-      on-selector (operand.Nothing late) none h =
-          of-value (operand.Nothing late) (valued taking types t s env l (operand.Nothing late) (f env) p q)
-          (none-left (value_faults l (operand.Nothing late)) _ none)
-          (none-right (value_faults l (operand.Nothing late)) _ none) h
-      on-selector (operand.Function k) none h =
-          of-value (operand.Function k) (valued taking types t s env l (operand.Function k) (f env) p q)
-          (none-left (value_faults l (operand.Function k)) _ none)
-          (none-right (value_faults l (operand.Function k)) _ none) h
-      on-selector (operand.Method k) none h =
-          of-value (operand.Method k) (valued taking types t s env l (operand.Method k) (f env) p q)
-          (none-left (value_faults l (operand.Method k)) _ none)
-          (none-right (value_faults l (operand.Method k)) _ none) h
-      on-selector (operand.BuiltIn b) none h =
-          of-value (operand.BuiltIn b) (valued taking types t s env l (operand.BuiltIn b) (f env) p q)
-          (none-left (value_faults l (operand.BuiltIn b)) _ none)
-          (none-right (value_faults l (operand.BuiltIn b)) _ none) h
-      on-selector (operand.Struct k) none h =
-          of-value (operand.Struct k) (valued taking types t s env l (operand.Struct k) (f env) p q)
-          (none-left (value_faults l (operand.Struct k)) _ none)
-          (none-right (value_faults l (operand.Struct k)) _ none) h
-      on-selector operand.TypeName none h = of-value operand.TypeName
-          (valued taking types t s env l operand.TypeName (f env) p q)
-          (none-left (value_faults l operand.TypeName) _ none) (none-right (value_faults l operand.TypeName) _ none) h
       on-selector operand.Unknown none h = absurd h
+      on-selector m none h = of-value m (valued taking types t s env l m (f env) p q)
+          (none-left (value_faults l m) _ none) (none-right (value_faults l m) _ none) h

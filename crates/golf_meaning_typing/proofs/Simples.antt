@@ -176,23 +176,8 @@ module _ (taking : Taking) where
     forgets (operand.Nothing late) v p q none h w =
         sound-bind taking (v w) (λ vs u. if_none vs u (Part.Gives env u)) (λ vs. length vs ≡ 0)
         (NamesFit taking s.locals) (h w) (nothing-left s.locals env fit)
-    forgets (operand.Value e) v p q none h w = let e = none-right (value_faults l (operand.Value e)) _ none in cc
-    forgets (operand.Constant k b) v p q none h w = let e =
-        none-right (value_faults l (operand.Constant k b)) _ none in cc
-    forgets (operand.Truth b) v p q none h w = let e = none-right (value_faults l (operand.Truth b)) _ none in cc
-    forgets (operand.Variable x e) v p q none h w = let e =
-        none-right (value_faults l (operand.Variable x e)) _ none in cc
-    forgets (operand.Field i e) v p q none h w = let e = none-right (value_faults l (operand.Field i e)) _ none in cc
-    forgets (operand.Element e) v p q none h w = let e = none-right (value_faults l (operand.Element e)) _ none in cc
-    forgets operand.Nil v p q none h w = let e = none-right (value_faults l operand.Nil) _ none in cc
-    forgets operand.Blank v p q none h w = let e = none-right (value_faults l operand.Blank) _ none in cc
-    forgets (operand.Function k) v p q none h w = let e = none-right (value_faults l (operand.Function k)) _ none in cc
-    forgets (operand.Method k) v p q none h w = let e = none-right (value_faults l (operand.Method k)) _ none in cc
-    forgets (operand.BuiltIn b) v p q none h w = let e = none-right (value_faults l (operand.BuiltIn b)) _ none in cc
-    forgets (operand.Package k) v p q none h w = let e = none-right (value_faults l (operand.Package k)) _ none in cc
-    forgets (operand.Struct k) v p q none h w = let e = none-right (value_faults l (operand.Struct k)) _ none in cc
-    forgets operand.TypeName v p q none h w = let e = none-right (value_faults l operand.TypeName) _ none in cc
     forgets operand.Unknown v p q none h w = absurd h
+    forgets m v p q none h w = let e = none-right (value_faults l m) _ none in cc
 
     -- `=`
 
@@ -221,30 +206,12 @@ module _ (taking : Taking) where
         assigning s.locals env p q (value_type o) e h.1
         (assigned-to taking g o e (kept l 9 (assignable g (Some o))
         (none-left (broken l 9 (assignable g (Some o))) _ none)) k) w
-    assigned-in (operand.Value o) v p q g e none left h k w = let e =
-        none-right (broken l 9 (assignable g (type_of (operand.Value o)))) _ none in cc
-    assigned-in (operand.Outcome o) v p q g e none left h k w = let e =
-        none-right (broken l 9 (assignable g (type_of (operand.Outcome o)))) _ none in cc
-    assigned-in (operand.Constant j b) v p q g e none left h k w = let e =
-        none-right (broken l 9 (assignable g (type_of (operand.Constant j b)))) _ none in cc
-    assigned-in (operand.Truth b) v p q g e none left h k w = let e =
-        none-right (broken l 9 (assignable g (type_of (operand.Truth b)))) _ none in cc
-    assigned-in operand.Nil v p q g e none left h k w = let e =
-        none-right (broken l 9 (assignable g (type_of operand.Nil))) _ none in cc
-    assigned-in (operand.Function j) v p q g e none left h k w = let e =
-        none-right (broken l 9 (assignable g (type_of (operand.Function j)))) _ none in cc
-    assigned-in (operand.Method j) v p q g e none left h k w = let e =
-        none-right (broken l 9 (assignable g (type_of (operand.Method j)))) _ none in cc
-    assigned-in (operand.BuiltIn b) v p q g e none left h k w = let e =
-        none-right (broken l 9 (assignable g (type_of (operand.BuiltIn b)))) _ none in cc
-    assigned-in (operand.Package j) v p q g e none left h k w = let e =
-        none-right (broken l 9 (assignable g (type_of (operand.Package j)))) _ none in cc
-    assigned-in (operand.Struct j) v p q g e none left h k w = let e =
-        none-right (broken l 9 (assignable g (type_of (operand.Struct j)))) _ none in cc
-    assigned-in operand.TypeName v p q g e none left h k w = let e =
-        none-right (broken l 9 (assignable g (type_of operand.TypeName))) _ none in cc
+    assigned-in (operand.Variable x None) v p q g e none left h k w = absurd h
+    assigned-in (operand.Field i None) v p q g e none left h k w = absurd h
+    assigned-in (operand.Element None) v p q g e none left h k w = absurd h
+    assigned-in operand.Unknown v p q g e none left h k w = absurd h
     assigned-in (operand.Nothing late) v p q g e none left h k w = cc
-    assigned-in _ v p q g e none left h k w = absurd h
+    assigned-in m v p q g e none left h k w = let e = none-right (broken l 9 (assignable g (type_of m))) _ none in cc
 
     -- `op=`, `++` and `--`
 

@@ -1,11 +1,9 @@
 -- The stores of what was received: names that are there, new names, and `_`.
 -- For: `pair_faults`, golf_check_types/specs/Statements.antt; `statements_fit`, src/lib.rt
 -- By: cases of what each name stands for; no induction
-use Rattle.std.proofs.Common.{◌≡◌, ℕ, ◌==◌, Bool, true, false, cond, not, ◌&&◌, ◌||◌, List, [], ◌∷◌, ◌++◌, Option, Some}
+use Rattle.std.proofs.Common.{◌≡◌, ℕ, ◌==◌, Bool, true, false, cond, not, ◌&&◌, List, [], ◌∷◌, ◌++◌, Option, Some}
 use Rattle.std.proofs.Common.{None, refl, sym, subst, append_assoc, append-nil}
 use Rattle.std.proofs.lemmas.Bool.{and_parts}
-use Rattle.std.proofs.lemmas.Slice.Eq.{bytes_eq-Decides}
-use Rattle.std.specs.Str.{bytes_eq}
 use Rattle.std.specs.Prelude.{is_some}
 use Rattle.golf_syntax_trees.specs.declared.expressions.Expr.{Expr}
 use Rattle.golf_data.specs.declared.value.Value.{Value}
@@ -20,16 +18,17 @@ use Rattle.golf_check_types.specs.declared.scopes.Scope.{Scope}
 use Rattle.golf_check_types.specs.Faults.{broken}
 use Rattle.golf_check_types.specs.Types.{plain, assignable}
 use Rattle.golf_check_types.specs.Names.{is_blank}
-use Rattle.golf_check_types.specs.Scopes.{meaning, is_reserved, is_here, is_at_depth}
+use Rattle.golf_check_types.specs.Scopes.{meaning, is_here, is_at_depth}
 use Rattle.golf_check_types.specs.Expressions.{leaf, known_name, used, given_by}
 use Rattle.golf_check_types.specs.Judging.{judge}
-use Rattle.golf_check_types.specs.Statements.{behind, is_new, kept_local, kept_faults, pair_differs, kept_pair_faults}
+use Rattle.golf_check_types.specs.Statements.{behind, is_new, kept_local, kept_faults}
 use Rattle.golf_check_types.specs.Statements.{pair_faults, one_new, pair, bool_type, assigned_name, put_in_faults}
 use Rattle.golf_check_types.specs.Statements.{takes_value, assigned_pair_faults, received, carried}
 use Rattle.golf_model_typing.specs.Types.{ValueType, Types}
 use Rattle.golf_code_of.specs.declared.tables.Tables.{Tables}
 use Rattle.golf_code_shapes.specs.Types.{value_type}
 use Rattle.golf_code_shapes.proofs.Typings.{none-left, none-right, kept, assigned-value}
+use Rattle.golf_code_shapes.proofs.Receives.{kept-known}
 use Rattle.golf_meaning_flat.specs.Worlds.{World, Part, bind}
 use Rattle.golf_meaning_source.specs.Names.{Env, find}
 use Rattle.golf_meaning_source.specs.Operations.{Taking, Gives, gives, visible}
@@ -48,42 +47,6 @@ use Rattle.golf_meaning_typing.proofs.Operators.{giving}
 use Rattle.golf_meaning_typing.proofs.NamesKept.{names-bound}
 use Rattle.golf_meaning_typing.proofs.Given.{at-one, at-two, two-fit}
 use Rattle.golf_meaning_typing.proofs.Simples.{value-of}
-
--- one name that stands twice is not new
-same-known : (s : Scope) (n m : List ℕ) → pair_differs s n m ≡ true → bytes_eq n m ≡ true → is_new s n ≡ false
-unfolding pair_differs
-same-known s n m d e = by (is_reserved n) (is_reserved m) (bytes_eq n m) (is_new s n) d e
-  where
-    by : (a b c x : Bool) → (not a && (not b && not (c && x))) ≡ true → c ≡ true → x ≡ false
-    by true b c x d e = cc
-    by false true c x d e = cc
-    by false false true true d e = cc
-    by false false true false d e = refl
-    by false false false x d e = cc
-
--- names that are there are assigned
-kept-known : (l : ℕ) (s : Scope) (n m : List ℕ) (v : GoType) → pair_faults l s n m (Some v) ≡ []
-    → kept_faults l s n (Some v) ++ kept_faults l s m bool_type ≡ []
-kept-known l s n m v none =
-    let rest = none-right (broken l 2 (pair_differs s n m)) _ none in
-    let both = none-left (kept_pair_faults l s n m (Some v)) _ rest in
-    let new = kept l 24 (is_new s n || is_new s m) (none-right (kept_pair_faults l s n m (Some v)) _ rest) in
-    let differs = kept l 2 (pair_differs s n m) (none-left (broken l 2 (pair_differs s n m)) _ none) in
-    by (bytes_eq n m) refl both new differs
-  where
-    neither : (a b : Bool) → a ≡ false → b ≡ false → (a || b) ≡ true → ⊥
-    neither true b p q r = cc
-    neither false true p q r = cc
-    neither false false p q r = cc
-
-    by : (b : Bool) → bytes_eq n m ≡ b → cond b [] (kept_faults l s n (Some v) ++ kept_faults l s m bool_type) ≡ []
-        → (is_new s n || is_new s m) ≡ true → pair_differs s n m ≡ true → kept_faults l s n (Some v)
-        ++ kept_faults l s m bool_type ≡ []
-    by false e h new differs = h
-    by true e h new differs =
-        let old = same-known s n m differs e in
-        absurd (neither (is_new s n) (is_new s m) old
-        (subst (λ k. is_new s k ≡ false) ((bytes_eq-Decides n m).0 e) old) new)
 
 module _ (taking : Taking) where
   -- a place of this type takes a value of another that is assignable to it
