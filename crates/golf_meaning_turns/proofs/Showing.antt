@@ -163,98 +163,50 @@ module _ (code : Code) (i : Instr) (a : Actor) (choice : ℕ) (s : State) (awake
 
     ref-or : {os : List Value} (rest : List Value) (nil : List Change) (act : ℕ → List Change) (v : Value)
         → C os rest nil → ((o : ℕ) → C os rest (act o)) → C os rest (at_reference_or nil act v)
-    ref-or rest nil act (Value.Int n) h k = NoRule refl
-    ref-or rest nil act (Value.Bool b) h k = NoRule refl
-    ref-or rest nil act (Value.Text t) h k = NoRule refl
-    ref-or rest nil act Value.Unit h k = NoRule refl
     ref-or rest nil act Value.Nil h k = h
     ref-or rest nil act (Value.Ref o) h k = k o.0
+    ref-or rest nil act _ h k = NoRule refl
 
     ref : {os : List Value} (rest : List Value) (act : ℕ → List Change) (v : Value) → ((o : ℕ) → C os rest (act o))
         → C os rest (at_reference a act v)
-    ref rest act (Value.Int n) k = NoRule refl
-    ref rest act (Value.Bool b) k = NoRule refl
-    ref rest act (Value.Text t) k = NoRule refl
-    ref rest act Value.Unit k = NoRule refl
     ref rest act Value.Nil k = Panics PanicKind.NilPointer refl
     ref rest act (Value.Ref o) k = k o.0
+    ref rest act _ k = NoRule refl
 
     struct : {os : List Value} (rest : List Value) (act : List Value → List Change) (m : Option Object)
         → ((xs : List Value) → C os rest (act xs)) → C os rest (at_struct act m)
-    struct rest act None h = NoRule refl
     struct rest act (Some (Object.Struct fields)) h = h fields
-    struct rest act (Some (Object.Slice elements)) h = NoRule refl
-    struct rest act (Some (Object.Chan c)) h = NoRule refl
-    struct rest act (Some (Object.Mutex locked)) h = NoRule refl
-    struct rest act (Some (Object.Group n)) h = NoRule refl
-    struct rest act (Some (Object.Rw n)) h = NoRule refl
-    struct rest act (Some (Object.Cond v)) h = NoRule refl
+    struct rest act _ h = NoRule refl
 
     slice : {os : List Value} (rest : List Value) (act : List Value → List Change) (m : Option Object)
         → ((xs : List Value) → C os rest (act xs)) → C os rest (at_slice act m)
-    slice rest act None h = NoRule refl
-    slice rest act (Some (Object.Struct fields)) h = NoRule refl
     slice rest act (Some (Object.Slice elements)) h = h elements
-    slice rest act (Some (Object.Chan c)) h = NoRule refl
-    slice rest act (Some (Object.Mutex locked)) h = NoRule refl
-    slice rest act (Some (Object.Group n)) h = NoRule refl
-    slice rest act (Some (Object.Rw n)) h = NoRule refl
-    slice rest act (Some (Object.Cond v)) h = NoRule refl
+    slice rest act _ h = NoRule refl
 
     channel : {os : List Value} (rest : List Value) (act : Channel → List Change) (m : Option Object)
         → ((c : Channel) → C os rest (act c)) → C os rest (at_channel act m)
-    channel rest act None h = NoRule refl
-    channel rest act (Some (Object.Struct fields)) h = NoRule refl
-    channel rest act (Some (Object.Slice elements)) h = NoRule refl
     channel rest act (Some (Object.Chan c)) h = h c
-    channel rest act (Some (Object.Mutex locked)) h = NoRule refl
-    channel rest act (Some (Object.Group n)) h = NoRule refl
-    channel rest act (Some (Object.Rw n)) h = NoRule refl
-    channel rest act (Some (Object.Cond v)) h = NoRule refl
+    channel rest act _ h = NoRule refl
 
     mutex : {os : List Value} (rest : List Value) (act : Bool → List Change) (m : Option Object)
         → ((b : Bool) → C os rest (act b)) → C os rest (at_mutex act m)
-    mutex rest act None h = NoRule refl
-    mutex rest act (Some (Object.Struct fields)) h = NoRule refl
-    mutex rest act (Some (Object.Slice elements)) h = NoRule refl
-    mutex rest act (Some (Object.Chan c)) h = NoRule refl
     mutex rest act (Some (Object.Mutex locked)) h = h locked
-    mutex rest act (Some (Object.Group n)) h = NoRule refl
-    mutex rest act (Some (Object.Rw n)) h = NoRule refl
-    mutex rest act (Some (Object.Cond v)) h = NoRule refl
+    mutex rest act _ h = NoRule refl
 
     group : {os : List Value} (rest : List Value) (act : ℤ → List Change) (m : Option Object)
         → ((n : ℤ) → C os rest (act n)) → C os rest (at_group act m)
-    group rest act None h = NoRule refl
-    group rest act (Some (Object.Struct fields)) h = NoRule refl
-    group rest act (Some (Object.Slice elements)) h = NoRule refl
-    group rest act (Some (Object.Chan c)) h = NoRule refl
-    group rest act (Some (Object.Mutex locked)) h = NoRule refl
     group rest act (Some (Object.Group n)) h = h n
-    group rest act (Some (Object.Rw n)) h = NoRule refl
-    group rest act (Some (Object.Cond v)) h = NoRule refl
+    group rest act _ h = NoRule refl
 
     rw_mutex : {os : List Value} (rest : List Value) (act : ℤ → List Change) (m : Option Object)
         → ((n : ℤ) → C os rest (act n)) → C os rest (at_rw act m)
-    rw_mutex rest act None h = NoRule refl
-    rw_mutex rest act (Some (Object.Struct fields)) h = NoRule refl
-    rw_mutex rest act (Some (Object.Slice elements)) h = NoRule refl
-    rw_mutex rest act (Some (Object.Chan c)) h = NoRule refl
-    rw_mutex rest act (Some (Object.Mutex locked)) h = NoRule refl
-    rw_mutex rest act (Some (Object.Group n)) h = NoRule refl
     rw_mutex rest act (Some (Object.Rw n)) h = h n
-    rw_mutex rest act (Some (Object.Cond v)) h = NoRule refl
+    rw_mutex rest act _ h = NoRule refl
 
     condition : {os : List Value} (rest : List Value) (act : Value → List Change) (m : Option Object)
         → ((v : Value) → C os rest (act v)) → C os rest (at_condition act m)
-    condition rest act None h = NoRule refl
-    condition rest act (Some (Object.Struct fields)) h = NoRule refl
-    condition rest act (Some (Object.Slice elements)) h = NoRule refl
-    condition rest act (Some (Object.Chan c)) h = NoRule refl
-    condition rest act (Some (Object.Mutex locked)) h = NoRule refl
-    condition rest act (Some (Object.Group n)) h = NoRule refl
-    condition rest act (Some (Object.Rw n)) h = NoRule refl
     condition rest act (Some (Object.Cond v)) h = h v
+    condition rest act _ h = NoRule refl
 
     -- it is answered with these values, after these changes and before those
     answered : {os : List Value} (rest values : List Value) (before later : List Change) → Others before → Others later

@@ -72,33 +72,9 @@ split-length (suc n) acc (v ∷ os) vs rest e = let ih = split-length n (v ∷ a
 pub shows-it : (gives : List Bool) (i : Instr) → is_inner i ≡ false
     → ((cases : List SelectCase) (otherwise : Option ℕ) → i ≡ Instr.Select cases otherwise → ⊥) → (i ≡ Instr.Panic → ⊥)
     → doing gives i ≡ Doing.Acts (D.shows gives i)
-shows-it gives (Instr.Int n) e ns np = cc
-shows-it gives (Instr.Bool b) e ns np = cc
-shows-it gives (Instr.Text k) e ns np = cc
-shows-it gives Instr.Unit e ns np = cc
-shows-it gives Instr.Nil e ns np = cc
-shows-it gives (Instr.Load i) e ns np = cc
-shows-it gives (Instr.Store i) e ns np = cc
-shows-it gives Instr.Drop e ns np = cc
-shows-it gives Instr.Dup e ns np = cc
-shows-it gives Instr.Dup2 e ns np = cc
-shows-it gives Instr.Neg e ns np = cc
-shows-it gives Instr.Not e ns np = cc
-shows-it gives Instr.Add e ns np = cc
-shows-it gives Instr.Sub e ns np = cc
-shows-it gives Instr.Mul e ns np = cc
-shows-it gives Instr.Div e ns np = cc
-shows-it gives Instr.Rem e ns np = cc
-shows-it gives Instr.Eq e ns np = cc
-shows-it gives Instr.Less e ns np = cc
-shows-it gives Instr.AtMost e ns np = cc
-shows-it gives (Instr.Jump t) e ns np = cc
-shows-it gives (Instr.JumpIfNot t) e ns np = cc
-shows-it gives Instr.Return e ns np = cc
-shows-it gives Instr.ReturnValue e ns np = cc
 shows-it gives (Instr.Select cases otherwise) e ns np = absurd (ns cases otherwise refl)
 shows-it gives Instr.Panic e ns np = absurd (np refl)
-shows-it gives i e ns np = refl
+shows-it gives i e ns np = cc
 
 eqb-same : (n : ℕ) → (n == n) ≡ true
 eqb-same n = elim (n == n) as (λ b. (n == n) ≡ b
