@@ -217,21 +217,26 @@ module _ (taking : Taking) where
         outside o = out_of (then_way (out_of o)
             (λ d x. then_way (run taking.gives n (op l Instr.Drop) 0 [] d x) (λ d x. Way.Through d x)))
 
+        -- after a body that goes on or continues
+        turn-done : (m : ℕ) (to : Frame → World → Way)
+            → ((env : Env) (now : List Value) (u : World) → CReady env now
+            → CG now (receives taking m el c (channel_step names cd) env u) (outside (to (frame now rest) u)))
+            → (now : List Value) (env : Env) (u : World) (o : Way) → length now ≡ count
+            → CHalf now (Flow.Goes Course.On env u) o
+            → CG now (receives taking m el c (channel_step names cd) env u) (outside (once_more o to))
+        turn-done m to rec now env u o q g =
+            let came : Came cds ch now g.0 = record { long = g.2.1 ∙ sym q; kept = g.3 } in
+            subst (λ z. CG now (receives taking m el c (channel_step names cd) env u) (outside (once_more z to)))
+            (sym g.1) (goes-trans rest a cds (receives taking m el c (channel_step names cd) env u)
+            (outside (to (frame g.0 rest) u)) came (rec env g.0 u g.2))
+
         chalf-goes : (m : ℕ) (to : Frame → World → Way)
             → ((env : Env) (now : List Value) (u : World) → CReady env now
             → CG now (receives taking m el c (channel_step names cd) env u) (outside (to (frame now rest) u)))
             → (now : List Value) (f : Flow) (o : Way) → length now ≡ count → CHalf now f o
             → CG now (turned f (receives taking m el c (channel_step names cd))) (outside (once_more o to))
-        chalf-goes m to rec now (Flow.Goes Course.On env u) o q g =
-            let came : Came cds ch now g.0 = record { long = g.2.1 ∙ sym q; kept = g.3 } in
-            subst (λ z. CG now (receives taking m el c (channel_step names cd) env u) (outside (once_more z to)))
-            (sym g.1) (goes-trans rest a cds (receives taking m el c (channel_step names cd) env u)
-            (outside (to (frame g.0 rest) u)) came (rec env g.0 u g.2))
-        chalf-goes m to rec now (Flow.Goes Course.Continues env u) o q g =
-            let came : Came cds ch now g.0 = record { long = g.2.1 ∙ sym q; kept = g.3 } in
-            subst (λ z. CG now (receives taking m el c (channel_step names cd) env u) (outside (once_more z to)))
-            (sym g.1) (goes-trans rest a cds (receives taking m el c (channel_step names cd) env u)
-            (outside (to (frame g.0 rest) u)) came (rec env g.0 u g.2))
+        chalf-goes m to rec now (Flow.Goes Course.On env u) o q g = turn-done m to rec now env u o q g
+        chalf-goes m to rec now (Flow.Goes Course.Continues env u) o q g = turn-done m to rec now env u o q g
         chalf-goes m to rec now (Flow.Goes Course.Breaks env u) o q g =
             (g.0, ap (λ z. outside (once_more z to)) g.1, g.2)
         chalf-goes m to rec now (Flow.Goes Course.Skips env u) o q g = absurd g

@@ -42,31 +42,18 @@ one-name-rises : (b : Bool) (n : List ℕ) (t : Option GoType) (s : Scope)
 one-name-rises true n t s = (omega arith, omega arith)
 one-name-rises false n t s = omega arith
 
-pub names-rise : (names : RangeNames) (el : Option GoType) (s : Scope)
-    → Rising s.next (behind s (range_names names true el s)).next (range_names names true el s).declares
-names-rise range.Neither el s = omega arith
-names-rise (range.One n) el s = one-name-rises (not (is_blank n)) n int_type s
-names-rise (range.Two n m) el s =
-    let v = W.range_name n int_type s in
+pub names-rise : (names : RangeNames) (slice : Bool) (el : Option GoType) (s : Scope)
+    → Rising s.next (behind s (range_names names slice el s)).next (range_names names slice el s).declares
+names-rise range.Neither slice el s = omega arith
+names-rise (range.One n) slice el s = one-name-rises (not (is_blank n)) n (W.first_type slice el) s
+names-rise (range.Two n m) slice el s =
+    let v = W.range_name n (W.first_type slice el) s in
     let s1 = behind s v in
     let w = W.range_name m el s1 in
     let z = length-append v.slots w.slots in
     subst (λ k. Rising s.next k (v.declares ++ w.declares)) (omega (arith, z))
     (rising-append v.declares w.declares s.next s1.next (s1.next + length w.slots)
-    (one-name-rises (not (is_blank n)) n int_type s) (one-name-rises (not (is_blank m)) m el s1))
-
-pub channel-rises : (names : RangeNames) (el : Option GoType) (s : Scope)
-    → Rising s.next (behind s (range_names names false el s)).next (range_names names false el s).declares
-channel-rises range.Neither el s = omega arith
-channel-rises (range.One n) el s = one-name-rises (not (is_blank n)) n el s
-channel-rises (range.Two n m) el s =
-    let v = W.range_name n el s in
-    let s1 = behind s v in
-    let w = W.range_name m el s1 in
-    let z = length-append v.slots w.slots in
-    subst (λ k. Rising s.next k (v.declares ++ w.declares)) (omega (arith, z))
-    (rising-append v.declares w.declares s.next s1.next (s1.next + length w.slots)
-    (one-name-rises (not (is_blank n)) n el s) (one-name-rises (not (is_blank m)) m el s1))
+    (one-name-rises (not (is_blank n)) n (W.first_type slice el) s) (one-name-rises (not (is_blank m)) m el s1))
 
 -- one name at most
 abbrev pub Single : RangeNames → Type 0

@@ -51,7 +51,7 @@ use Rattle.golf_meaning_statements.proofs.Flowing.{rising-append, apart-rising, 
 use Rattle.golf_meaning_statements.proofs.Flowing.{Exactly, GoesPrefix, exactly-prefix, exactly-goes, EachMeans}
 use Rattle.golf_meaning_statements.proofs.Simples.{value-turns, there-is}
 use Rattle.golf_meaning_statements.proofs.Loops.{goes-trans, B, inside, looped, body-exactly}
-use Rattle.golf_meaning_statements.proofs.RangeSteps.{Below, NamedNow, names-rise, channel-rises, Single, load-step}
+use Rattle.golf_meaning_statements.proofs.RangeSteps.{Below, NamedNow, names-rise, Single, load-step}
 use Rattle.golf_meaning_statements.proofs.RangeSteps.{store-step, tail-store}
 use Rattle.golf_meaning_statements.proofs.ChannelRanges.{receiving, receives-go}
 
@@ -412,6 +412,22 @@ module _ (taking : Taking) where
             (goes-trans rest a ds (ranges m long step k env v) (out_of (to (frame now4 rest) v)) came
             (rec k env now4 v ready4)))))
 
+        -- after a body that goes on or continues
+        turn-done : (m : ℕ) (to : Frame → World → Way) (at5 : ℕ)
+            → ((i : Value) (env : Env) (now : List Value) (u : World) → Ready env now i
+            → G now (ranges m long step i env u) (out_of (to (frame now rest) u)))
+            → (now : List Value) (i : Value) (env : Env) (u : World) (o : Way) → length now ≡ count
+            → Half now i (Flow.Goes Course.On env u) o
+            → G now (after (computed sum u i (int_value 1)) (λ k y. ranges m long step k env y))
+            (out_of (once_more (then_way o (run taking.gives n incr at5 us)) to))
+        turn-done m to at5 rec now i env u o q g =
+            let came : Came ds h now g.0 = record { long = g.2.1 ∙ sym q; kept = g.3 } in
+            subst (λ z. G now (after (computed sum u i (int_value 1)) (λ k y. ranges m long step k env y))
+            (out_of (once_more (then_way z (run taking.gives n incr at5 us)) to))) (sym g.1)
+            (goes-trans rest a ds (after (computed sum u i (int_value 1)) (λ k y. ranges m long step k env y))
+            (out_of (once_more (run taking.gives n incr at5 us (frame g.0 rest) u) to)) came
+            (last-steps m to at5 rec i env g.0 u g.2))
+
         -- after the body
         half-goes : (m : ℕ) (to : Frame → World → Way) (at5 : ℕ)
             → ((i : Value) (env : Env) (now : List Value) (u : World) → Ready env now i
@@ -419,20 +435,8 @@ module _ (taking : Taking) where
             → (now : List Value) (i : Value) (f : Flow) (o : Way) → length now ≡ count → Half now i f o
             → G now (turned f (λ e v. after (computed sum v i (int_value 1)) (λ k y. ranges m long step k e y)))
             (out_of (once_more (then_way o (run taking.gives n incr at5 us)) to))
-        half-goes m to at5 rec now i (Flow.Goes Course.On env u) o q g =
-            let came : Came ds h now g.0 = record { long = g.2.1 ∙ sym q; kept = g.3 } in
-            subst (λ z. G now (after (computed sum u i (int_value 1)) (λ k y. ranges m long step k env y))
-            (out_of (once_more (then_way z (run taking.gives n incr at5 us)) to))) (sym g.1)
-            (goes-trans rest a ds (after (computed sum u i (int_value 1)) (λ k y. ranges m long step k env y))
-            (out_of (once_more (run taking.gives n incr at5 us (frame g.0 rest) u) to)) came
-            (last-steps m to at5 rec i env g.0 u g.2))
-        half-goes m to at5 rec now i (Flow.Goes Course.Continues env u) o q g =
-            let came : Came ds h now g.0 = record { long = g.2.1 ∙ sym q; kept = g.3 } in
-            subst (λ z. G now (after (computed sum u i (int_value 1)) (λ k y. ranges m long step k env y))
-            (out_of (once_more (then_way z (run taking.gives n incr at5 us)) to))) (sym g.1)
-            (goes-trans rest a ds (after (computed sum u i (int_value 1)) (λ k y. ranges m long step k env y))
-            (out_of (once_more (run taking.gives n incr at5 us (frame g.0 rest) u) to)) came
-            (last-steps m to at5 rec i env g.0 u g.2))
+        half-goes m to at5 rec now i (Flow.Goes Course.On env u) o q g = turn-done m to at5 rec now i env u o q g
+        half-goes m to at5 rec now i (Flow.Goes Course.Continues env u) o q g = turn-done m to at5 rec now i env u o q g
         half-goes m to at5 rec now i (Flow.Goes Course.Breaks env u) o q g =
             (g.0, ap (λ z. out_of (once_more (then_way z (run taking.gives n incr at5 us)) to)) g.1, g.2)
         half-goes m to at5 rec now i (Flow.Goes Course.Skips env u) o q g = absurd g
@@ -605,7 +609,7 @@ module _ (taking : Taking) where
             ∙ then-end (run taking.gives n loop at5 ts (frame slots3 rest) v)))
             (goes-trans rest a s.locals f (run taking.gives n loop at5 ts (frame slots3 rest) v) came
             (ranges-go body means-body l names el ty a s n rest x long (length slots) ok.rising
-            (names-rise names el (hidden_by true)) enough at5 us n i env slots3 v
+            (names-rise names true el (hidden_by true)) enough at5 us n i env slots3 v
             (st3, l3 ∙ l2 ∙ l1, (at0, at1, at2))))
         by (long ∷ (k ∷ ls)) v at3 few enough = tt
 
@@ -636,7 +640,7 @@ module _ (taking : Taking) where
         ∙ then-end (run taking.gives n (Piece.Block inner) at1 ts (frame slots1 rest) y)))
         (goes-trans rest a s.locals f (run taking.gives n (Piece.Block inner) at1 ts (frame slots1 rest) y) came
         (receives-go taking body means-body l names el ty a s n rest x (length slots) ok.rising
-        (channel-rises names el (hidden_by false)) (omega (arith, room, z2)) single at1 us n env slots1 y (
+        (names-rise names false el (hidden_by false)) (omega (arith, room, z2)) single at1 us n env slots1 y (
           stored-below s.locals env slots h 0 h x (omega arith) ok.rising ok.stored,
           l1,
           set-same slots h x (omega (arith, room, z1, z2)),
