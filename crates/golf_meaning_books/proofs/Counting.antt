@@ -2,7 +2,7 @@
 -- has parameters, and of their types.
 -- For: `PassesOn`, Booking.antt.
 -- By: cases of the instruction; induction over lists of values, and over the number of operands.
-use Rattle.std.proofs.Common.{◌≡◌, ℕ, zero, suc, ◌+◌, List, [], ◌∷◌, ◌++◌, length, Option, Some, None, refl, ap, sym}
+use Rattle.std.proofs.Common.{◌≡◌, ℕ, zero, suc, List, [], ◌∷◌, ◌++◌, length, Option, Some, None, ap, sym}
 use Rattle.std.proofs.Common.{◌∙◌, subst, slice_get, arith, append-nil}
 use Rattle.std.specs.Prelude.{option_and_then, unwrap_or}
 use Rattle.golf_theory.specs.Maps.{Entry}
@@ -24,6 +24,7 @@ use Rattle.golf_model_typing.specs.Grows.{Grows}
 use Rattle.golf_model_typing.specs.Shapes.{pushed, InstructionFits, FunctionFits, HasShapes}
 use Rattle.golf_model_typing.specs.WellTyped.{Stands, LeavingFits, CallFits, DeferredFits, FramesFit, ModeFits}
 use Rattle.golf_model_typing.specs.WellTyped.{FinaliserFits, WellTyped}
+use Rattle.golf_model_typing.proofs.Lengths.{values-length, pushed-append, pushed-pushed, pushed-length}
 use Rattle.golf_model_typing.proofs.Growing.{values-more}
 use Rattle.golf_meaning_flat.specs.Worlds.{Operation}
 use Rattle.golf_meaning_turns.specs.Showing.{split_from, CalledBy}
@@ -31,13 +32,6 @@ use Rattle.golf_meaning_turns.specs.Turning.{operation, Asked, plain_shown, show
 use Rattle.golf_meaning_books.specs.Books.{RunTypes, Takes, HasParameters}
 use Rattle.golf_meaning_books.proofs.Others.{one-some}
 use Rattle.golf_meaning_books.proofs.Booking.{PassesOn}
-
-values-length : (types : Types) (known : List (ℕ × ValueType)) (vs : List Value) (ts : List ValueType)
-    → ValuesFit types known vs ts → length vs ≡ length ts
-values-length types known [] [] h = refl
-values-length types known [] (t ∷ ts) h = absurd h
-values-length types known (v ∷ vs) [] h = absurd h
-values-length types known (v ∷ vs) (t ∷ ts) h = ap suc (values-length types known vs ts h.1)
 
 -- those that are split off are of the types that were pushed last
 split-fits : (types : Types) (known : List (ℕ × ValueType)) (ps qs rest : List ValueType) (n : ℕ)
@@ -51,18 +45,6 @@ split-fits types known ps (q ∷ qs) rest zero acc os vs below count h k e = abs
 split-fits types known ps (q ∷ qs) rest (suc n) acc [] vs below count h k e = absurd k
 split-fits types known ps (q ∷ qs) rest (suc n) acc (v ∷ os) vs below count h k e =
     split-fits types known (q ∷ ps) qs rest n (v ∷ acc) os vs below (omega (arith, count)) (k.0, h) k.1 e
-
-pushed-append : (ps ts rest : List ValueType) → pushed ps (ts ++ rest) ≡ pushed ps ts ++ rest
-pushed-append [] ts rest = refl
-pushed-append (p ∷ ps) ts rest = pushed-append ps (p ∷ ts) rest
-
-pushed-pushed : (ps ts us : List ValueType) → pushed (pushed ps ts) us ≡ pushed ts (ps ++ us)
-pushed-pushed [] ts us = refl
-pushed-pushed (p ∷ ps) ts us = pushed-pushed ps (p ∷ ts) us
-
-pushed-length : (ps ts : List ValueType) → length (pushed ps ts) ≡ length ps + length ts
-pushed-length [] ts = omega arith
-pushed-length (p ∷ ps) ts = let e = pushed-length ps (p ∷ ts) in omega (arith, e)
 
 -- so many operands, pushed in this order, are of these types
 arguments-fit : (types : Types) (known : List (ℕ × ValueType)) (ps rest : List ValueType) (n : ℕ)

@@ -13,6 +13,7 @@ use Rattle.golf_model_typing.specs.Types.{ValueType, Shape, Signature, FunctionT
 use Rattle.golf_model_typing.specs.Shapes as S
 use Rattle.golf_model_typing.specs.Shapes.{GoesOn, Takes, case_takes, case_leaves, CasesFit, DefaultFits}
 use Rattle.golf_model_typing.specs.Shapes.{InstructionFits}
+use Rattle.golf_model_typing.proofs.Lengths.{values-length, pushed-length}
 use Rattle.golf_meaning_flat.specs.Worlds.{Operation, Answer, pushed}
 use Rattle.golf_meaning_flat.specs.Counts.{clause_left, answer_left}
 use Rattle.golf_meaning_flat.specs.Flat.{targets, lower, relabelled, default_of, clause_of}
@@ -22,20 +23,9 @@ use Rattle.golf_meaning_turns.specs.Answering.{operands_taken, LeadsTo, AnswerFi
 
 -- ---- lengths
 
-values-length : (types : Types) (known : List (ℕ × ValueType)) (vs : List Value) (ts : List ValueType)
-    → ValuesFit types known vs ts → length vs ≡ length ts
-values-length types known [] [] h = refl
-values-length types known [] (t ∷ ts) h = absurd h
-values-length types known (v ∷ vs) [] h = absurd h
-values-length types known (v ∷ vs) (t ∷ ts) h = ap suc (values-length types known vs ts h.1)
-
 pushed-values : (vs rest : List Value) → length (pushed vs rest) ≡ length vs + length rest
 pushed-values [] rest = omega arith
 pushed-values (v ∷ vs) rest = let ih = pushed-values vs (v ∷ rest) in omega (arith, ih)
-
-pushed-types : (ts rest : List ValueType) → length (S.pushed ts rest) ≡ length ts + length rest
-pushed-types [] rest = omega arith
-pushed-types (t ∷ ts) rest = let ih = pushed-types ts (t ∷ rest) in omega (arith, ih)
 
 same-shape : (x y : Shape) (m : Option Shape) → m ≡ Some x → m ≡ Some y → x ≡ y
 same-shape x y m a b = cc
@@ -92,7 +82,7 @@ module _ (types : Types) (known : List (ℕ × ValueType)) (ft : FunctionTypes) 
         → length values ≡ length leaves
     pushed-counted params leaves rest_types b h many =
         counted (length params) (length leaves) (length rest_types)
-        (ap (λ (us : List ValueType). length us) b ∙ pushed-types params rest_types)
+        (ap (λ (us : List ValueType). length us) b ∙ pushed-length params rest_types)
         (later-length (leaves ++ rest_types) before.assigned (at + 1) h there ∙ length-append leaves rest_types)
         many
 

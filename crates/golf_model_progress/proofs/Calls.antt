@@ -33,6 +33,7 @@ use Rattle.golf_model_typing.specs.WellTyped.{FrameFits}
 use Rattle.golf_model_typing.specs.WellTyped.{FramesFit, FinaliserFits, ModeFits}
 use Rattle.golf_model_typing.proofs.Changing.{values-get, given-fits, or_true}
 use Rattle.golf_model_typing.proofs.Gets.{slice_get-left}
+use Rattle.golf_model_typing.proofs.Lengths.{values-length, pushed-append, pushed-pushed, pushed-length}
 use Rattle.golf_model_progress.proofs.Clearing.{length-cleared, assigned-cleared}
 use Rattle.golf_model_progress.proofs.Acting.{Proceeds, of-choose, of-some, of-taking_one, Holds, ActorFits}
 use Rattle.golf_model_progress.proofs.Acting.{proceeds-stands, proceeds-dies, proceeds-goes, taken, on_no, lands}
@@ -49,25 +50,6 @@ length-append (x ∷ xs) ys = let e = length-append xs ys in omega (arith, e)
 length-replicate : {X : Type 0} (n : ℕ) (x : X) → length (replicate n x) ≡ n
 length-replicate zero x = refl
 length-replicate (suc n) x = ap suc (length-replicate n x)
-
-values-length : (types : Typing) (known : List (ℕ × ValueType)) (vs : List Value) (ts : List ValueType)
-    → ValuesFit types.of known vs ts → length vs ≡ length ts
-values-length types known [] [] h = refl
-values-length types known [] (t ∷ ts) h = absurd h
-values-length types known (v ∷ vs) [] h = absurd h
-values-length types known (v ∷ vs) (t ∷ ts) h = ap suc (values-length types known vs ts h.1)
-
-pushed-append : (ps ts rest : List ValueType) → pushed ps (ts ++ rest) ≡ pushed ps ts ++ rest
-pushed-append [] ts rest = refl
-pushed-append (p ∷ ps) ts rest = pushed-append ps (p ∷ ts) rest
-
-pushed-pushed : (ps ts us : List ValueType) → pushed (pushed ps ts) us ≡ pushed ts (ps ++ us)
-pushed-pushed [] ts us = refl
-pushed-pushed (p ∷ ps) ts us = pushed-pushed ps (p ∷ ts) us
-
-pushed-length : (ps ts : List ValueType) → length (pushed ps ts) ≡ length ps + length ts
-pushed-length [] ts = omega arith
-pushed-length (p ∷ ps) ts = let e = pushed-length ps (p ∷ ts) in omega (arith, e)
 
 -- taking operands one by one
 module _ (types : Typing) (known : List (ℕ × ValueType)) (P : List Change → Type 0) where
@@ -117,7 +99,7 @@ module _ (code : Code) (types : Typing) (shapes : HasShapes code types) (known :
       let plain = arguments ++ replicate (fn.slots - length arguments) (Value.Int (pos 0)) in
       let stays = stays_under (slice_get fn.live 0) in
       let slots = slots_of fn arguments in
-      let params = values-length types known arguments callee.params h in
+      let params = values-length types.of known arguments callee.params h in
       let both = length-append callee.params callee.locals in
       let full : length slots ≡ length (slot_types ft) = (
       let c = length-cleared stays 0 plain in
@@ -238,32 +220,29 @@ module _ (code : Code) (types : Typing) (shapes : HasShapes code types) (known :
         proceeds-stands types known s a ft (record
         a.frame { at = a.frame.at + 1; operands = rest; leaving = Leaving.Returning v }) i.base r i.callers
 
+    -- the first deferred call begins, and the frame goes on leaving
+    begins-first : (x : Leaving) (d : Deferred) (ds : List Deferred) (i : Holds types known a ft)
+        → a.frame.deferred ≡ d ∷ ds → a.frame.leaving ≡ x
+        → LeavingFits types known ft [] a.frame.at a.frame.operands a.frame.slots x → Goes (begins_deferred code a d ds)
+    begins-first x d ds i e l fits =
+        let all = subst (Every (DeferredFits types known)) e i.base.deferred_calls in
+        proceeds-begins d ds i all.0 (record {
+          typed = i.base.typed;
+          shaped = i.base.shaped;
+          full = i.base.full;
+          deferred_calls = all.1;
+        }) (subst (LeavingFits types known ft [] a.frame.at a.frame.operands a.frame.slots) (sym l) fits)
+
     pub proceeds-leaves_returning : (v : Option Value) (ds : List Deferred) (i : Holds types known a ft)
         → a.frame.deferred ≡ ds → ResultFits types known v ft.result → a.frame.leaving ≡ Leaving.Returning v
         → Goes (leaves_returning code a v ds)
     proceeds-leaves_returning v [] i e r l = proceeds-returns_to v a.callers r i.callers
-    proceeds-leaves_returning v (d ∷ ds) i e r l =
-        let all = subst (Every (DeferredFits types known)) e i.base.deferred_calls in
-        proceeds-begins d ds i all.0 (record {
-          typed = i.base.typed;
-          shaped = i.base.shaped;
-          full = i.base.full;
-          deferred_calls = all.1;
-        }) (subst (LeavingFits types known ft [] a.frame.at a.frame.operands a.frame.slots)
-        (sym l) r)
+    proceeds-leaves_returning v (d ∷ ds) i e r l = begins-first (Leaving.Returning v) d ds i e l r
 
     pub proceeds-leaves_unwinding : (x : Fault) (ds : List Deferred) (i : Holds types known a ft)
         → a.frame.deferred ≡ ds → a.frame.leaving ≡ Leaving.Unwinding x → Goes (leaves_unwinding code a x ds)
     proceeds-leaves_unwinding x [] i e l = proceeds-unwinds_to x a.callers i.callers
-    proceeds-leaves_unwinding x (d ∷ ds) i e l =
-        let all = subst (Every (DeferredFits types known)) e i.base.deferred_calls in
-        proceeds-begins d ds i all.0 (record {
-          typed = i.base.typed;
-          shaped = i.base.shaped;
-          full = i.base.full;
-          deferred_calls = all.1;
-        }) (subst (LeavingFits types known ft [] a.frame.at a.frame.operands a.frame.slots)
-        (sym l) tt)
+    proceeds-leaves_unwinding x (d ∷ ds) i e l = begins-first (Leaving.Unwinding x) d ds i e l tt
 
     module _ (sh : Shape) (i : ActorFits types known s a ft sh) where
       pub proceeds-returns : InstructionFits types.of ft a.frame.at Instr.Return sh → Goes (returns a)

@@ -2,6 +2,7 @@
 -- For: `locks` and `unlocks`, golf_model/specs/Mutexes.antt; `turns_keep_types`, src/lib.rt
 -- By: cases of the mutex and of who waits first; no induction
 use Rattle.std.proofs.Common.{◌≡◌, ℕ, ◌+◌, Bool, true, false, List, [], ◌∷◌, Option, Some, None, refl}
+use Rattle.golf_theory.specs.Maps.{find}
 use Rattle.golf_data.specs.declared.value.Value.{Value}
 use Rattle.golf_data.specs.declared.code.Instr.{Instr}
 use Rattle.golf_data.specs.declared.goroutine.PanicKind.{PanicKind}
@@ -10,10 +11,10 @@ use Rattle.golf_data.specs.declared.goroutine.WaitKind.{WaitKind}
 use Rattle.golf_model.specs.State.{State}
 use Rattle.golf_model.specs.Waiting.{Waiter, waits_of, first, bare_wait}
 use Rattle.golf_model.specs.Changes.{Change}
-use Rattle.golf_model.specs.Acting.{Actor, next}
+use Rattle.golf_model.specs.Acting.{Actor, next, taking_one, at_reference, at_mutex}
 use Rattle.golf_model.specs.Mutexes.{locks, locks_by, unlocks, unlocks_by, hands_over}
 use Rattle.golf_model_typing.specs.Types.{ValueType, Shape, FunctionTypes, Typing, HasType, ValuesFit}
-use Rattle.golf_model_typing.specs.Shapes.{GoesOn, InstructionFits}
+use Rattle.golf_model_typing.specs.Shapes.{GoesOn, InstructionFits, Takes}
 use Rattle.golf_model_typing.specs.WellTyped.{WellTyped, ChangesFit}
 use Rattle.golf_model_typing.proofs.Changing.{released-at}
 use Rattle.golf_model_progress.proofs.Acting.{Proceeds, of-taking_one, of-reference, of-mutex, ActorFits}
@@ -48,13 +49,21 @@ module _ (types : Typing) (known : List (ℕ × ValueType)) (s : State) (w : Wel
         tt,
       ) ((λ e. cc), tt) i.holds.callers
 
-  pub proceeds-locks : InstructionFits types.of ft a.frame.at Instr.Lock sh → Goes (locks a s)
-  proceeds-locks r = of-taking_one types known s Goes _ a.frame.operands ValueType.Mutex r.0
+  -- an instruction on a mutex, which is locked or not
+  on-mutex : (act : ℕ → Bool → List Value → List Change) (r : Takes ft a.frame.at sh (ValueType.Mutex ∷ []) [])
+      → ((o : ℕ) (locked : Bool) (rest : List Value) → HasType known o ValueType.Mutex
+      → ValuesFit types.of known rest r.0 → Goes (act o locked rest))
+      → Goes (taking_one (λ m rest. at_reference a (λ o. at_mutex (λ b. act o b rest) (find o s.objects)) m)
+      a.frame.operands)
+  on-mutex act r h = of-taking_one types known s Goes _ a.frame.operands ValueType.Mutex r.0
       (taken types known s a ft sh i (ValueType.Mutex ∷ r.0) r.1) i.present
-      (λ x rest h hs p. of-reference types known s Goes a _ x ValueType.Mutex tt h p
+      (λ x rest hx hs p. of-reference types known s Goes a _ x ValueType.Mutex tt hx p
       (proceeds-panics types known s a ft PanicKind.NilPointer i.holds)
-      (λ o k there. of-mutex types known s Goes w o ValueType.Mutex k there _ refl
-      (λ locked. proceeds-locks_by rest r.0 o locked hs r.2 k)))
+      (λ o k there. of-mutex types known s Goes w o ValueType.Mutex k there _ refl (λ b. h o b rest k hs)))
+
+  pub proceeds-locks : InstructionFits types.of ft a.frame.at Instr.Lock sh → Goes (locks a s)
+  proceeds-locks r = on-mutex (λ o b rest. locks_by a rest o b) r
+      (λ o b rest k hs. proceeds-locks_by rest r.0 o b hs r.2 k)
 
   pub hands-over : (t : State) (o : ℕ) (m : Option Waiter) → first o Side.Lock s.goroutines ≡ m
       → HasType known o ValueType.Mutex → ChangesFit types known t (hands_over o m)
@@ -80,9 +89,5 @@ module _ (types : Typing) (known : List (ℕ × ValueType)) (s : State) (w : Wel
       }
 
   pub proceeds-unlocks : InstructionFits types.of ft a.frame.at Instr.Unlock sh → Goes (unlocks a s)
-  proceeds-unlocks r = of-taking_one types known s Goes _ a.frame.operands ValueType.Mutex r.0
-      (taken types known s a ft sh i (ValueType.Mutex ∷ r.0) r.1) i.present
-      (λ x rest h hs p. of-reference types known s Goes a _ x ValueType.Mutex tt h p
-      (proceeds-panics types known s a ft PanicKind.NilPointer i.holds)
-      (λ o k there. of-mutex types known s Goes w o ValueType.Mutex k there _ refl
-      (λ locked. proceeds-unlocks_by rest r.0 o locked hs r.2 k)))
+  proceeds-unlocks r = on-mutex (λ o b rest. unlocks_by a rest s o b) r
+      (λ o b rest k hs. proceeds-unlocks_by rest r.0 o b hs r.2 k)

@@ -75,39 +75,30 @@ module _ (code : Code) (types : Typing) (shapes : HasShapes code types) (known :
       (bare_wait o Side.Group ∷ []) i.holds.base ((k, stays rest r.0 hs r.2), tt)
       ((λ e. cc), tt) i.holds.callers))))
 
-  -- handing a reader and writer mutex on
+  -- handing a reader and writer mutex on to a writer
+  writer : (t : State) (o : ℕ) (u : Waiter) → first o Side.Write s.goroutines ≡ Some u
+      → HasType known o ValueType.Rw → ChangesFit types known t (to_writer o u)
+  writer t o u e k =
+      let is = first-typed types known s w o Side.Write u e in (
+        (ValueType.Rw, k, refl),
+        (
+          released-at types known u.number u.wait (waits_of u.goroutine.mode) u.goroutine
+              (λ q. let f = is.side_is in cc) (λ q. let f = is.side_is in cc) is.in_waits is.blocked,
+          tt,
+        ),
+      )
+
+  -- handing it on
   served : (t : State) (o : ℕ) (m n : Option Waiter) → first o Side.Write s.goroutines ≡ m
       → HasType known o ValueType.Rw → ChangesFit types known t (serves_first o s.goroutines m n)
   served t o None n e k = ((ValueType.Rw, k, refl), (tt, tt))
   served t o (Some u) None e k = writer t o u e k
-    where
-      writer : (t : State) (o : ℕ) (u : Waiter) → first o Side.Write s.goroutines ≡ Some u
-          → HasType known o ValueType.Rw → ChangesFit types known t (to_writer o u)
-      writer t o u e k = let is = first-typed types known s w o Side.Write u
-          e in (
-            (ValueType.Rw, k, refl),
-            (
-              released-at types known u.number u.wait
-                  (waits_of u.goroutine.mode) u.goroutine (λ q. let f = is.side_is in cc)
-                  (λ q. let f = is.side_is in cc) is.in_waits is.blocked,
-              tt,
-            ),
-          )
   served t o (Some u) (Some v) e k = go (nat_lt (waiter_ticket v) (waiter_ticket u))
     where
       go : (b : Bool) → ChangesFit types known t
           (choose b (to_readers o (Some (waiter_ticket u)) s.goroutines) (to_writer o u))
       go true = ((ValueType.Rw, k, refl), (tt, tt))
-      go false = let is = first-typed types known s w o Side.Write u
-          e in (
-            (ValueType.Rw, k, refl),
-            (
-              released-at types known u.number u.wait
-                  (waits_of u.goroutine.mode) u.goroutine (λ q. let f = is.side_is in cc)
-                  (λ q. let f = is.side_is in cc) is.in_waits is.blocked,
-              tt,
-            ),
-          )
+      go false = writer t o u e k
 
   on-rw : (act : ℕ → ℤ → List Value → List Change) (r : Takes ft a.frame.at sh (ValueType.Rw ∷ []) [])
       → ((o : ℕ) (n : ℤ) (rest : List Value) → HasType known o ValueType.Rw → ValuesFit types.of known rest r.0

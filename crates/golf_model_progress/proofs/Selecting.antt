@@ -73,27 +73,8 @@ module _ (types : Typing) (known : List (ℕ × ValueType)) (s : State) (w : Wel
           present = vals-tail (Present s) c vs p;
         },
       )
-  take-fits k CaseKind.Take e rest (os, []) q l h = absurd h.held
-  take-fits k CaseKind.Take e rest (os, c ∷ vs) q l h = (
-    (record { kind = k.kind; channel = c; value = Value.Nil; target = k.target } ∷ os, vs),
-    refl,
-    record {
-      offers = (
-        (
-          e,
-          h.held.0,
-          vals-head (Present s) c vs h.present,
-          subst (λ z. SentFits z Value.Nil e) (sym q) tt,
-          l,
-        ),
-        h.offers,
-      );
-      held = h.held.1;
-      present = vals-tail (Present s) c vs h.present;
-    },
-  )
-  take-fits k CaseKind.TakeOk e rest (os, []) q l h = absurd h.held
-  take-fits k CaseKind.TakeOk e rest (os, c ∷ vs) q l h = (
+  take-fits k _ e rest (os, []) q l h = absurd h.held
+  take-fits k _ e rest (os, c ∷ vs) q l h = (
     (record { kind = k.kind; channel = c; value = Value.Nil; target = k.target } ∷ os, vs),
     refl,
     record {

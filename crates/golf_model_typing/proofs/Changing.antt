@@ -140,12 +140,7 @@ module _ (types : Typing) (known : List (ℕ × ValueType)) where
       let same : h.0 ≡ e = cc (ap (λ n. find n known) q, k, h.1) in
       subst (λ (t : ValueType). LeavingFits types known ft (received_types w.with_ok t)
       (unwrap_or w.target f.at) f.operands f.slots f.leaving) same h.2
-  receives_at o e ft f w Side.Send i q k h = cc
-  receives_at o e ft f w Side.Lock i q k h = cc
-  receives_at o e ft f w Side.Group i q k h = cc
-  receives_at o e ft f w Side.Read i q k h = cc
-  receives_at o e ft f w Side.Write i q k h = cc
-  receives_at o e ft f w Side.Cond i q k h = cc
+  receives_at o e ft f w _ i q k h = cc
 
   sends_at : (ft : FunctionTypes) (f : FrameView) (w : Wait) (side : Side) → side ≡ Side.Send
       → WaitFitsAt types known ft f w side → LeavingFits types known ft []
@@ -159,12 +154,7 @@ module _ (types : Typing) (known : List (ℕ × ValueType)) where
   sent_at o e ft f w Side.Send i q k h =
       let same : h.0 ≡ e = cc (ap (λ n. find n known) q, k, h.1) in
       subst (ValueFits types.of known w.value) same h.2
-  sent_at o e ft f w Side.Receive i q k h = cc
-  sent_at o e ft f w Side.Lock i q k h = cc
-  sent_at o e ft f w Side.Group i q k h = cc
-  sent_at o e ft f w Side.Read i q k h = cc
-  sent_at o e ft f w Side.Write i q k h = cc
-  sent_at o e ft f w Side.Cond i q k h = cc
+  sent_at o e ft f w _ i q k h = cc
 
   -- a goroutine is blocked, and one of its waits is on this side of this object
   pub record WaitsOn (o : ℕ) (side : Side) (w : Wait) (waits : List Wait) (r : GoroutineView) : Type 0 where

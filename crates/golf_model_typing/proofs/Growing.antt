@@ -109,24 +109,8 @@ module _ (types : Typing) (known later : List (ℕ × ValueType))
     value-more w.value h.0 h.2,
     leaving-more ft [] (unwrap_or w.target f.at) f.operands f.slots f.leaving h.3,
   )
-  wait-more ft f w Side.Lock h = (
-    grows w.object.0 ValueType.Mutex h.0,
-    leaving-more ft [] f.at f.operands f.slots f.leaving h.1,
-  )
-  wait-more ft f w Side.Group h = (
-    grows w.object.0 ValueType.Group h.0,
-    leaving-more ft [] f.at f.operands f.slots f.leaving h.1,
-  )
-  wait-more ft f w Side.Read h = (
-    grows w.object.0 ValueType.Rw h.0,
-    leaving-more ft [] f.at f.operands f.slots f.leaving h.1,
-  )
-  wait-more ft f w Side.Write h = (
-    grows w.object.0 ValueType.Rw h.0,
-    leaving-more ft [] f.at f.operands f.slots f.leaving h.1,
-  )
-  wait-more ft f w Side.Cond h = (
-    grows w.object.0 ValueType.Cond h.0,
+  wait-more ft f w _ h = (
+    grows w.object.0 _ h.0,
     leaving-more ft [] f.at f.operands f.slots f.leaving h.1,
   )
 

@@ -1,4 +1,5 @@
 pub mod Gets
+pub mod Lengths
 pub mod Growing
 pub mod Changing
 pub mod Waits
