@@ -1,5 +1,6 @@
 pub mod Typings
 pub mod Turning
+pub mod Givens
 pub mod Chosen
 pub mod Names
 pub mod Operators

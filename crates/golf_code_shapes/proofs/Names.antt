@@ -37,9 +37,10 @@ use Rattle.golf_code_of.specs.Calls.{receiver_base}
 use Rattle.golf_code_shapes.specs.Types.{base_type, value_type}
 use Rattle.golf_code_shapes.specs.Sound.{NameFits, LocalFits, ScopeFits, Callee, Turns, Pushes, PlaceOf, Receives}
 use Rattle.golf_code_shapes.specs.Sound.{Shown, Gives}
-use Rattle.golf_code_shapes.proofs.Typings.{none-right, same-value, assigned-value, nilable, carried-by, sent-on}
-use Rattle.golf_code_shapes.proofs.Typings.{slice-of, measured}
+use Rattle.golf_code_shapes.proofs.Typings.{none-right, assigned-value}
+use Rattle.golf_code_shapes.proofs.Typings.{measured}
 use Rattle.golf_code_shapes.proofs.Turning.{turn-op, turn-none, one-turn}
+use Rattle.golf_code_shapes.proofs.Givens as by
 use Rattle.golf_code_shapes.proofs.Chosen.{either, of-predeclared}
 
 module _ (types : Types) (t : Tables) (ft : FunctionTypes) (A : List ℕ) (s : Scope) where
@@ -77,33 +78,23 @@ module _ (types : Types) (t : Tables) (ft : FunctionTypes) (A : List ℕ) (s : S
   -- tests of values
 
   pub based : (b : Base) (g : Given) (p : Piece) → has_base b g ≡ true → GivesBy g p → Push p (base_type b)
-  based b (given_as.Typed e) p holds h = subst (Push p) (same-value e.layers [] e.base b holds) h
-  based b given_as.Nil p holds h = cc
-  based b given_as.Unknown p holds h = absurd h
+  based b g p = by.based (Push p) b g
 
   pub given-to : (g : Given) (e : GoType) (p : Piece) → assignable g (Some e) ≡ true → GivesBy g p
       → Push p (value_type e)
-  given-to (given_as.Typed a) e p fits h = subst (Push p) (assigned-value a e fits) h
-  given-to given_as.Nil e p fits h = h (value_type e) (nilable e.layers e.base fits)
-  given-to given_as.Unknown e p fits h = absurd h
+  given-to g e p = by.assigned (Push p) g e
 
   pub of-giving : (g : Given) (p : Piece) → has_layer gives g ≡ true → GivesBy g p → (e : GoType) × (element g ≡ Some e)
       × Push p (ValueType.Chan (value_type e))
-  of-giving (given_as.Typed a) p fits h = let c = carried-by a.layers a.base fits in (c.0, c.1, subst (Push p) c.2 h)
-  of-giving given_as.Nil p fits h = cc
-  of-giving given_as.Unknown p fits h = absurd h
+  of-giving g p = by.giving (Push p) g
 
   pub of-taking : (g : Given) (p : Piece) → has_layer takes g ≡ true → GivesBy g p → (e : GoType) × (element g ≡ Some e)
       × Push p (ValueType.Chan (value_type e))
-  of-taking (given_as.Typed a) p fits h = let c = sent-on a.layers a.base fits in (c.0, c.1, subst (Push p) c.2 h)
-  of-taking given_as.Nil p fits h = cc
-  of-taking given_as.Unknown p fits h = absurd h
+  of-taking g p = by.taking (Push p) g
 
   pub of-slice : (g : Given) (p : Piece) → has_layer is_slice g ≡ true → GivesBy g p → (e : GoType)
       × (element g ≡ Some e) × Push p (ValueType.Slice (value_type e))
-  of-slice (given_as.Typed a) p fits h = let c = slice-of a.layers a.base fits in (c.0, c.1, subst (Push p) c.2 h)
-  of-slice given_as.Nil p fits h = cc
-  of-slice given_as.Unknown p fits h = absurd h
+  of-slice g p = by.sliced (Push p) g
 
   pub of-measured : (g : Given) (p : Piece) → has_layer is_any g ≡ true → GivesBy g p → (u e : ValueType)
       × ((u ≡ ValueType.Slice e) ⊎ (u ≡ ValueType.Chan e)) × Push p u

@@ -1,24 +1,21 @@
 -- The code of operators and indices has shapes.
 -- For: `expressions_fit`, src/lib.rt
 -- By: cases of the operator; no induction
-use Rattle.std.proofs.Common.{◌≡◌, inl, inr, ℕ, ◌+◌, true, false, ◌&&◌, ◌||◌, not, List, [], ◌∷◌, Some, refl, sym}
+use Rattle.std.proofs.Common.{◌≡◌, ℕ, ◌+◌, true, false, ◌&&◌, List, [], ◌∷◌, Some, refl, sym}
 use Rattle.std.proofs.Common.{subst}
-use Rattle.std.proofs.lemmas.Bool.{and_parts, or_cases}
+use Rattle.std.proofs.lemmas.Bool.{and_parts}
 use Rattle.golf_data.specs.declared.code.Instr.{Instr}
 use Rattle.golf_syntax_trees.specs.declared.expressions.UnaryOperator.{UnaryOperator}
 use Rattle.golf_syntax_trees.specs.declared.expressions.UnaryOperator.TheVariants as unary
 use Rattle.golf_syntax_trees.specs.declared.expressions.BinaryOperator.{BinaryOperator}
 use Rattle.golf_syntax_trees.specs.declared.expressions.BinaryOperator.TheVariants as binary
-use Rattle.golf_check_types.specs.declared.types.Base.{Base}
 use Rattle.golf_check_types.specs.declared.types.Base.TheVariants as base
 use Rattle.golf_check_types.specs.declared.types.GoType.{GoType}
 use Rattle.golf_check_types.specs.declared.operands.Operand.{Operand}
 use Rattle.golf_check_types.specs.declared.operands.Operand.TheVariants as operand
 use Rattle.golf_check_types.specs.declared.operands.Given.{Given}
-use Rattle.golf_check_types.specs.declared.operands.Given.TheVariants as given_as
 use Rattle.golf_check_types.specs.declared.scopes.Scope.{Scope}
-use Rattle.golf_check_types.specs.Types.{has_base, has_layer, is_slice, starts_with, gives, element, comparable}
-use Rattle.golf_check_types.specs.Types.{assignable_type}
+use Rattle.golf_check_types.specs.Types.{has_base, has_layer, is_slice, gives, element}
 use Rattle.golf_check_types.specs.Expressions.{Judged, used, given_by, unary_judged, unary_faults, unary_meaning}
 use Rattle.golf_check_types.specs.Expressions.{binary_judged, binary_fits, result_base, index_judged}
 use Rattle.golf_model_typing.specs.Types.{ValueType, Shape, FunctionTypes, Types}
@@ -30,8 +27,9 @@ use Rattle.golf_code_of.specs.declared.tables.Tables.{Tables}
 use Rattle.golf_code_of.specs.Expressions.{Made, unary_operator, binary_operator, binary_piece, index}
 use Rattle.golf_code_shapes.specs.Types.{base_type, value_type}
 use Rattle.golf_code_shapes.specs.Sound.{Turns, Pushes}
-use Rattle.golf_code_shapes.proofs.Typings.{none-left, none-right, kept, assigned-value, nilable}
+use Rattle.golf_code_shapes.proofs.Typings.{none-left, none-right, kept}
 use Rattle.golf_code_shapes.proofs.Turning.{turn-op, one-turn, pair, two-turn, not-behind, either-turn}
+use Rattle.golf_code_shapes.proofs.Givens as by
 use Rattle.golf_code_shapes.proofs.Names.{Shows, GivesBy, of-used, based, of-giving, of-slice}
 
 module _ (types : Types) (t : Tables) (ft : FunctionTypes) (A : List ℕ) (s : Scope) where
@@ -92,59 +90,36 @@ module _ (types : Types) (t : Tables) (ft : FunctionTypes) (A : List ℕ) (s : S
 
   -- binary operators
 
-  alike : (b : Base) (g h : Given) (p q : Piece) → (has_base b g && has_base b h) ≡ true → Gv g p → Gv h q
-      → Pu p (base_type b) × Pu q (base_type b)
-  alike b g h p q holds x y = let k = and_parts (has_base b g)
-      (has_base b h) holds in (based types t ft A s b g p k.0 x, based types t ft A s b h q k.1 y)
-
-  -- two operands that may be compared are of one type
-  compared : (g h : Given) (p q : Piece) → comparable g h ≡ true → Gv g p → Gv h q → (u : ValueType) × Pu p u × Pu q u
-  compared (given_as.Typed a) (given_as.Typed b) p q holds x y =
-      let same = elim (or_cases (assignable_type a b) (assignable_type b a)
-      (and_parts (assignable_type a b || assignable_type b a) (not (starts_with is_slice a.layers)) holds).0) as (λ
-      z. value_type b ≡ value_type a) [
-        | inl e ↦ sym (assigned-value a b e)
-        | inr e ↦ assigned-value b a e
-      ] in
-      (value_type a, x, subst (Pu q) same y)
-  compared (given_as.Typed a) given_as.Nil p q holds x y =
-      (value_type a, x, y (value_type a) (nilable a.layers a.base holds))
-  compared (given_as.Typed a) given_as.Unknown p q holds x y = absurd y
-  compared given_as.Nil (given_as.Typed b) p q holds x y =
-      (value_type b, x (value_type b) (nilable b.layers b.base holds), y)
-  compared given_as.Nil given_as.Nil p q holds x y = cc
-  compared given_as.Nil given_as.Unknown p q holds x y = absurd y
-  compared given_as.Unknown h p q holds x y = absurd x
-
   of-ints : (i : Instr) (l : ℕ) (c : ValueType) (g h : Given) (p q : Piece)
       → (has_base base.Int g && has_base base.Int h) ≡ true → Gv g p → Gv h q → TakesTwo i ValueType.Int ValueType.Int c
       → Pu (all (p ∷ q ∷ op l i ∷ [])) c
   of-ints i l c g h p q holds x y takes =
-      let a = alike base.Int g h p q holds x y in
+      let a = by.alike (Pu p) (Pu q) base.Int g h holds x y in
       by-two i l ValueType.Int ValueType.Int c p q a.0 a.1 takes
 
   not-of-ints : (i : Instr) (l : ℕ) (g h : Given) (p q : Piece) → (has_base base.Int g && has_base base.Int h) ≡ true
       → Gv g p → Gv h q → TakesTwo i ValueType.Int ValueType.Int ValueType.Bool
       → Pu (all (p ∷ q ∷ all (op l i ∷ op l Instr.Not ∷ []) ∷ [])) ValueType.Bool
   not-of-ints i l g h p q holds x y takes =
-      let a = alike base.Int g h p q holds x y in
+      let a = by.alike (Pu p) (Pu q) base.Int g h holds x y in
       and-not i l ValueType.Int ValueType.Int p q a.0 a.1 takes
 
   combines : (l : ℕ) (o : BinaryOperator) (g h : Given) (p q : Piece) → binary_fits o g h ≡ true → Gv g p → Gv h q
       → Pu (binary_piece l o p q) (base_type (result_base o))
   combines l binary.Or g h p q holds x y =
-      let a = alike base.Bool g h p q holds x y in
+      let a = by.alike (Pu p) (Pu q) base.Bool g h holds x y in
       either-turn types ft A l _ q _ ValueType.Bool (not-behind types ft A l p [] a.0) a.1
       (turn-op types ft A (Instr.Bool true) l [] (ValueType.Bool ∷ []) (λ full k ops m. (ops, refl, m)))
   combines l binary.And g h p q holds x y =
-      let a = alike base.Bool g h p q holds x y in
+      let a = by.alike (Pu p) (Pu q) base.Bool g h holds x y in
       either-turn types ft A l p q _ ValueType.Bool a.0 a.1
       (turn-op types ft A (Instr.Bool false) l [] (ValueType.Bool ∷ []) (λ full k ops m. (ops, refl, m)))
   combines l binary.Equal g h p q holds x y = let c =
-      compared g h p q holds x y in by-two Instr.Eq l c.0 c.0 ValueType.Bool p q c.1 c.2
+      by.compared (Pu p) (Pu q) g h holds x y in by-two Instr.Eq l c.0 c.0 ValueType.Bool p q c.1 c.2
       (λ full k ops m. (c.0, (ops, refl, m)))
   combines l binary.NotEqual g h p q holds x y = let c =
-      compared g h p q holds x y in and-not Instr.Eq l c.0 c.0 p q c.1 c.2 (λ full k ops m. (c.0, (ops, refl, m)))
+      by.compared (Pu p) (Pu q) g h holds x y in and-not Instr.Eq l c.0 c.0 p q c.1 c.2
+      (λ full k ops m. (c.0, (ops, refl, m)))
   combines l binary.Less g h p q holds x y =
       of-ints Instr.Less l ValueType.Bool g h p q holds x y (λ full k ops m. (ops, refl, m))
   combines l binary.AtMost g h p q holds x y =

@@ -10,7 +10,6 @@ use Rattle.golf_check_types.specs.declared.operands.Signature.{Signature as Decl
 use Rattle.golf_check_types.specs.declared.operands.Operand.{Operand}
 use Rattle.golf_check_types.specs.declared.operands.Operand.TheVariants as operand
 use Rattle.golf_check_types.specs.declared.operands.Given.{Given}
-use Rattle.golf_check_types.specs.declared.operands.Given.TheVariants as given_as
 use Rattle.golf_check_types.specs.declared.locals.Local.{Local}
 use Rattle.golf_check_types.specs.declared.scopes.Member.{Member}
 use Rattle.golf_check_types.specs.declared.scopes.Member.TheVariants as members
@@ -26,7 +25,7 @@ use Rattle.golf_code_of.specs.declared.tables.Tables.{Tables}
 use Rattle.golf_code_of.specs.Values.{constant}
 use Rattle.golf_code_of.specs.Expressions.{Made}
 use Rattle.golf_code_of.specs.Calls.{receiver_base}
-use Rattle.golf_code_shapes.specs.Types.{base_type, value_type, known_types}
+use Rattle.golf_code_shapes.specs.Types.{base_type, value_type, known_types, ByType}
 
 abbrev pub IsKnown : Option GoType → Type 0
 IsKnown o = (t : GoType) × (o ≡ Some t)
@@ -130,6 +129,4 @@ module _ (types : Types) (t : Tables) (ft : FunctionTypes) (assigned : List ℕ)
 
   -- the code pushes such a value
   abbrev pub Gives : Given → Piece → Type 0
-  Gives (given_as.Typed e) p = Pushes types ft assigned p (value_type e)
-  Gives given_as.Nil p = (e : ValueType) → IsNilable e → Pushes types ft assigned p e
-  Gives given_as.Unknown p = ⊥
+  Gives g p = ByType (Pushes types ft assigned p) g

@@ -5,7 +5,9 @@ use Rattle.golf_check_types.specs.declared.types.Layer.TheVariants as layer
 use Rattle.golf_check_types.specs.declared.types.Base.{Base}
 use Rattle.golf_check_types.specs.declared.types.Base.TheVariants as base
 use Rattle.golf_check_types.specs.declared.types.GoType.{GoType}
-use Rattle.golf_model_typing.specs.Types.{ValueType}
+use Rattle.golf_check_types.specs.declared.operands.Given.{Given}
+use Rattle.golf_check_types.specs.declared.operands.Given.TheVariants as given_as
+use Rattle.golf_model_typing.specs.Types.{ValueType, IsNilable}
 
 abbrev pub base_type : Base → ValueType
 base_type base.Int = ValueType.Int
@@ -25,6 +27,12 @@ layers_type (x ∷ xs) b = ValueType.Chan (layers_type xs b)
 
 abbrev pub value_type : GoType → ValueType
 value_type t = layers_type t.layers t.base
+
+-- it holds of the type of what is given so; of nil it holds at each type that has nil
+abbrev pub ByType : (ValueType → Type 0) → Given → Type 0
+ByType P (given_as.Typed e) = P (value_type e)
+ByType P given_as.Nil = (u : ValueType) → IsNilable u → P u
+ByType P given_as.Unknown = ⊥
 
 -- An unknown type, which no typed file has, is read as a type that has nil.
 abbrev pub known_type : Option GoType → ValueType

@@ -1,7 +1,7 @@
 -- What is given, by what the checker says of its type; values in pairs.
 -- For: `YieldsBy` and `Yields`, specs/Sound.antt
 -- By: cases of what is said of the type, and of how many values there are; no induction
-use Rattle.std.proofs.Common.{◌≡◌, true, not, ◌&&◌, List, [], ◌∷◌, Some, refl, sym, ◌∙◌, subst, arith}
+use Rattle.std.proofs.Common.{◌≡◌, true, not, ◌&&◌, List, [], ◌∷◌, Some, refl, sym, ◌∙◌, arith}
 use Rattle.std.proofs.lemmas.Bool.{and_parts}
 use Rattle.golf_data.specs.declared.value.Value.{Value}
 use Rattle.golf_model.specs.Values.{zero_of}
@@ -16,7 +16,7 @@ use Rattle.golf_check_types.specs.Types.{assignable, type_given, is_nil}
 use Rattle.golf_code_of.specs.Values.{type_zero}
 use Rattle.golf_model_typing.specs.Types.{ValueType}
 use Rattle.golf_code_shapes.specs.Types.{layers_type, value_type}
-use Rattle.golf_code_shapes.proofs.Typings.{assigned-value, nilable}
+use Rattle.golf_code_shapes.proofs.Givens as by
 use Rattle.golf_meaning_source.specs.Operations.{Taking, Gives, fits}
 use Rattle.golf_meaning_typing.specs.Sound.{is_of, One, Yields, YieldsBy, IsOf, AllFit}
 use Rattle.golf_meaning_typing.proofs.ValueKinds.{fits-kind}
@@ -32,9 +32,7 @@ module _ (taking : Taking) where
   -- what is assignable to a type gives a value of it
   pub assigned-to : (g : Given) (e : GoType) (f : Gives) → assignable g (Some e) ≡ true → YieldsBy taking g f
       → Yields taking (value_type e) f
-  assigned-to (given_as.Typed a) e f holds h = subst (λ u. Yields taking u f) (assigned-value a e holds) h
-  assigned-to given_as.Nil e f holds h = h (value_type e) (nilable e.layers e.base holds)
-  assigned-to given_as.Unknown e f holds h = absurd h
+  assigned-to g e f = by.assigned (λ u. Yields taking u f) g e
 
   -- what is not nil has a type
   pub typed : (g : Given) (f : Gives) → not (is_nil g) ≡ true → YieldsBy taking g f → (e : GoType)

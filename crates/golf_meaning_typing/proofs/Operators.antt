@@ -1,9 +1,9 @@
 -- Operators whose operands break no rule give values of their types.
 -- For: `operators_fit` and `conditions_decide`, src/lib.rt
 -- By: cases of the operator and of the types of its operands; no induction
-use Rattle.std.proofs.Common.{◌≡◌, inl, inr, ℕ, ℤ, Bool, true, false, not, ◌&&◌, ◌||◌, List, [], ◌∷◌, Option, Some}
+use Rattle.std.proofs.Common.{◌≡◌, ℕ, ℤ, Bool, true, false, not, ◌&&◌, List, [], ◌∷◌, Option, Some}
 use Rattle.std.proofs.Common.{None, refl, sym, subst}
-use Rattle.std.proofs.lemmas.Bool.{and_parts, or_cases}
+use Rattle.std.proofs.lemmas.Bool.{and_parts}
 use Rattle.std.specs.Prelude.{int_lt, int_le}
 use Rattle.golf_syntax_trees.specs.declared.expressions.UnaryOperator.{UnaryOperator}
 use Rattle.golf_syntax_trees.specs.declared.expressions.UnaryOperator.TheVariants as unary
@@ -20,10 +20,8 @@ use Rattle.golf_check_types.specs.declared.types.Base.TheVariants as base
 use Rattle.golf_check_types.specs.declared.types.GoType.{GoType}
 use Rattle.golf_check_types.specs.declared.operands.Operand.TheVariants as operand
 use Rattle.golf_check_types.specs.declared.operands.Given.{Given}
-use Rattle.golf_check_types.specs.declared.operands.Given.TheVariants as given_as
 use Rattle.golf_check_types.specs.declared.scopes.Scope.{Scope}
-use Rattle.golf_check_types.specs.Types.{has_base, has_layer, is_slice, gives, starts_with, element, comparable}
-use Rattle.golf_check_types.specs.Types.{assignable_type}
+use Rattle.golf_check_types.specs.Types.{has_base, has_layer, is_slice, gives, element}
 use Rattle.golf_check_types.specs.Expressions.{used, given_by, unary_faults, unary_meaning, binary_fits, result_base}
 use Rattle.golf_meaning_flat.specs.Worlds.{Halt, World, Part, bind}
 use Rattle.golf_meaning_flat.specs.Doing.{on_kind, chosen_by, ints, negated, inverted, computed, divided, compared}
@@ -33,8 +31,8 @@ use Rattle.golf_meaning_source.specs.Operations.{on_two, by_bool, if_true}
 use Rattle.golf_meaning_source.specs.Exprs.{unary_does, binary_does, calculation}
 use Rattle.golf_model_typing.specs.Types.{ValueType}
 use Rattle.golf_code_shapes.specs.Types.{base_type, value_type}
-use Rattle.golf_code_shapes.proofs.Typings.{none-left, none-right, kept, same-value, assigned-value, nilable}
-use Rattle.golf_code_shapes.proofs.Typings.{carried-by, slice-of}
+use Rattle.golf_code_shapes.proofs.Typings.{none-left, none-right, kept}
+use Rattle.golf_code_shapes.proofs.Givens as by
 use Rattle.golf_meaning_typing.specs.Sound.{Sound, One, Yields, YieldsBy, Shown, IsOf}
 use Rattle.golf_meaning_typing.specs.Laws.{UnaryFits, BinaryFits, IndexFits, OperatorsFit, IsTruth, ConditionsDecide}
 use Rattle.golf_meaning_typing.proofs.ValueKinds.{same-compared}
@@ -45,23 +43,15 @@ module _ (taking : Taking) where
 
   pub based : (b : Base) (g : Given) (f : Gives) → has_base b g ≡ true → YieldsBy taking g f
       → Yields taking (base_type b) f
-  based b (given_as.Typed e) f holds h = subst (λ u. Yields taking u f) (same-value e.layers [] e.base b holds) h
-  based b given_as.Nil f holds h = cc
-  based b given_as.Unknown f holds h = absurd h
+  based b g f = by.based (λ u. Yields taking u f) b g
 
   pub giving : (g : Given) (f : Gives) → has_layer gives g ≡ true → YieldsBy taking g f → (e : GoType)
       × (element g ≡ Some e) × Yields taking (ValueType.Chan (value_type e)) f
-  giving (given_as.Typed a) f holds h = let c =
-      carried-by a.layers a.base holds in (c.0, c.1, subst (λ u. Yields taking u f) c.2 h)
-  giving given_as.Nil f holds h = cc
-  giving given_as.Unknown f holds h = absurd h
+  giving g f = by.giving (λ u. Yields taking u f) g
 
   pub sliced : (g : Given) (f : Gives) → has_layer is_slice g ≡ true → YieldsBy taking g f → (e : GoType)
       × (element g ≡ Some e) × Yields taking (ValueType.Slice (value_type e)) f
-  sliced (given_as.Typed a) f holds h = let c =
-      slice-of a.layers a.base holds in (c.0, c.1, subst (λ u. Yields taking u f) c.2 h)
-  sliced given_as.Nil f holds h = cc
-  sliced given_as.Unknown f holds h = absurd h
+  sliced g f = by.sliced (λ u. Yields taking u f) g
 
   -- calculations
 
@@ -141,31 +131,6 @@ module _ (taking : Taking) where
 
   -- binary operators
 
-  alike : (b : Base) (g h : Given) (f k : Gives) → (has_base b g && has_base b h) ≡ true → YieldsBy taking g f
-      → YieldsBy taking h k → Yields taking (base_type b) f × Yields taking (base_type b) k
-  alike b g h f k holds x y = let p = and_parts (has_base b g)
-      (has_base b h) holds in (based b g f p.0 x, based b h k p.1 y)
-
-  -- two operands that may be compared are of one type
-  comparing : (g h : Given) (f k : Gives) → comparable g h ≡ true → YieldsBy taking g f → YieldsBy taking h k
-      → (u : ValueType) × Yields taking u f × Yields taking u k
-  comparing (given_as.Typed a) (given_as.Typed b) f k holds x y =
-      let same = elim (or_cases (assignable_type a b) (assignable_type b a)
-      (and_parts (assignable_type a b || assignable_type b a) (not (starts_with is_slice a.layers)) holds).0) as (λ
-      z. value_type b ≡ value_type a) [
-        | inl e ↦ sym (assigned-value a b e)
-        | inr e ↦ assigned-value b a e
-      ] in
-      (value_type a, x, subst (λ u. Yields taking u k) same y)
-  comparing (given_as.Typed a) given_as.Nil f k holds x y =
-      (value_type a, x, y (value_type a) (nilable a.layers a.base holds))
-  comparing (given_as.Typed a) given_as.Unknown f k holds x y = absurd y
-  comparing given_as.Nil (given_as.Typed b) f k holds x y =
-      (value_type b, x (value_type b) (nilable b.layers b.base holds), y)
-  comparing given_as.Nil given_as.Nil f k holds x y = cc
-  comparing given_as.Nil given_as.Unknown f k holds x y = absurd y
-  comparing given_as.Unknown h f k holds x y = absurd x
-
   -- if the first operand is true the second decides, or else
   choosing : (f k h : Gives) → Yields taking ValueType.Bool f → Yields taking ValueType.Bool k
       → Yields taking ValueType.Bool h → (w : World)
@@ -188,22 +153,26 @@ module _ (taking : Taking) where
       → Sound taking (One taking u) (calculation o (v ∷ (z ∷ [])) w))
       → Yields taking u (then_do (both f k) (calculation o))
   of-ints o u g h f k holds x y calculates =
-      let a = alike base.Int g h f k holds x y in
+      let a = by.alike (λ u. Yields taking u f) (λ u. Yields taking u k) base.Int g h holds x y in
       two-then taking ValueType.Int ValueType.Int f k (calculation o) (One taking u) a.0 a.1 calculates
 
   binary-yields : (o : BinaryOperator) (g h : Given) (f k : Gives) → binary_fits o g h ≡ true → YieldsBy taking g f
       → YieldsBy taking h k → Yields taking (base_type (result_base o)) (binary_does o f k)
   binary-yields binary.Or g h f k holds x y = let a =
-      alike base.Bool g h f k holds x y in choosing (then_do f (on_one inverted)) k (constant (Value.Bool true ∷ []))
+      by.alike (λ u. Yields taking u f) (λ u. Yields taking u k) base.Bool g h holds x y in choosing
+      (then_do f (on_one inverted)) k (constant (Value.Bool true ∷ []))
       (yields-then taking ValueType.Bool f (on_one inverted) (One taking ValueType.Bool) a.0 inverts) a.1
       (λ w strict. refl)
   binary-yields binary.And g h f k holds x y = let a =
-      alike base.Bool g h f k holds x y in choosing f k (constant (Value.Bool false ∷ [])) a.0 a.1 (λ w strict. refl)
+      by.alike (λ u. Yields taking u f) (λ u. Yields taking u k) base.Bool g h holds x y in choosing f k
+      (constant (Value.Bool false ∷ [])) a.0 a.1 (λ w strict. refl)
   binary-yields binary.Equal g h f k holds x y = let c =
-      comparing g h f k holds x y in two-then taking c.0 c.0 f k (calculation binary.Equal)
+      by.compared (λ u. Yields taking u f) (λ u. Yields taking u k) g h holds x y in two-then taking c.0 c.0 f k
+      (calculation binary.Equal)
       (One taking ValueType.Bool) c.1 c.2 (equates c.0)
   binary-yields binary.NotEqual g h f k holds x y = let c =
-      comparing g h f k holds x y in two-then taking c.0 c.0 f k (calculation binary.NotEqual)
+      by.compared (λ u. Yields taking u f) (λ u. Yields taking u k) g h holds x y in two-then taking c.0 c.0 f k
+      (calculation binary.NotEqual)
       (One taking ValueType.Bool) c.1 c.2 (λ v z p q. negating (on_two equated) (v ∷ (z ∷ [])) (equates c.0 v z p q))
   binary-yields binary.Less g h f k holds x y = of-ints binary.Less ValueType.Bool g h f k holds x y (compares int_lt)
   binary-yields binary.AtMost g h f k holds x y =

@@ -9,9 +9,8 @@ use Rattle.golf_check_types.specs.declared.scopes.FileScope.{FileScope}
 use Rattle.golf_check_types.specs.declared.operands.Operand.{Operand}
 use Rattle.golf_check_types.specs.declared.operands.Operand.TheVariants as operand
 use Rattle.golf_check_types.specs.declared.operands.Given.{Given}
-use Rattle.golf_check_types.specs.declared.operands.Given.TheVariants as given_as
-use Rattle.golf_model_typing.specs.Types.{ValueType, IsNilable, Signature, Types}
-use Rattle.golf_code_shapes.specs.Types.{value_type}
+use Rattle.golf_model_typing.specs.Types.{ValueType, Signature, Types}
+use Rattle.golf_code_shapes.specs.Types.{value_type, ByType}
 use Rattle.golf_code_shapes.specs.Sound.{FileFits}
 use Rattle.golf_code_of.specs.declared.tables.Tables.{Tables}
 use Rattle.golf_meaning_flat.specs.Worlds.{Misfit, Halt, World, Part}
@@ -66,9 +65,7 @@ module _ (taking : Taking) where
 
   -- gives one value of the given type; nil is of each type that has nil
   abbrev pub YieldsBy : Given → Gives → Type 0
-  YieldsBy (given_as.Typed e) f = Yields (value_type e) f
-  YieldsBy given_as.Nil f = (u : ValueType) → IsNilable u → Yields u f
-  YieldsBy given_as.Unknown f = ⊥
+  YieldsBy g f = ByType (λ u. Yields u f) g
 
   -- the operand is a value
   abbrev pub Shown : Operand → Gives → Type 0
