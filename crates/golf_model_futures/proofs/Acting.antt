@@ -90,12 +90,9 @@ module _ (P : List Change → Type 0) (none : P []) where
 
     pub all-at_reference_or : (nil : List Change) (act : ℕ → List Change) (v : Value) → Val O v → P nil
         → ((o : ℕ) → O o → P (act o)) → P (at_reference_or nil act v)
-    all-at_reference_or nil act (Value.Int n) a p h = none
-    all-at_reference_or nil act (Value.Bool b) a p h = none
-    all-at_reference_or nil act (Value.Text k) a p h = none
-    all-at_reference_or nil act Value.Unit a p h = none
     all-at_reference_or nil act Value.Nil a p h = p
     all-at_reference_or nil act (Value.Ref o) a p h = h o.0 a.0
+    all-at_reference_or nil act _ a p h = none
 
     -- an object that is looked up, and refers to members alone
     abbrev pub Known : Option Object → Type 0
@@ -103,79 +100,37 @@ module _ (P : List Change → Type 0) (none : P []) where
 
     pub all-at_struct : (act : List Value → List Change) (m : Option Object) → Known m
         → ((fields : List Value) → Vals O fields → P (act fields)) → P (at_struct act m)
-    all-at_struct act None k h = none
     all-at_struct act (Some (Object.Struct fields)) k h = h fields (k (Object.Struct fields) refl)
-    all-at_struct act (Some (Object.Slice elements)) k h = none
-    all-at_struct act (Some (Object.Chan c)) k h = none
-    all-at_struct act (Some (Object.Mutex locked)) k h = none
-    all-at_struct act (Some (Object.Group n)) k h = none
-    all-at_struct act (Some (Object.Rw n)) k h = none
-    all-at_struct act (Some (Object.Cond v)) k h = none
+    all-at_struct act _ k h = none
 
     pub all-at_slice : (act : List Value → List Change) (m : Option Object) → Known m
         → ((elements : List Value) → Vals O elements → P (act elements)) → P (at_slice act m)
-    all-at_slice act None k h = none
-    all-at_slice act (Some (Object.Struct fields)) k h = none
     all-at_slice act (Some (Object.Slice elements)) k h = h elements (k (Object.Slice elements) refl)
-    all-at_slice act (Some (Object.Chan c)) k h = none
-    all-at_slice act (Some (Object.Mutex locked)) k h = none
-    all-at_slice act (Some (Object.Group n)) k h = none
-    all-at_slice act (Some (Object.Rw n)) k h = none
-    all-at_slice act (Some (Object.Cond v)) k h = none
+    all-at_slice act _ k h = none
 
     pub all-at_channel : (act : Channel → List Change) (m : Option Object) → Known m
         → ((c : Channel) → Vals O c.buffer → Val O c.zero → P (act c)) → P (at_channel act m)
-    all-at_channel act None k h = none
-    all-at_channel act (Some (Object.Struct fields)) k h = none
-    all-at_channel act (Some (Object.Slice elements)) k h = none
     all-at_channel act (Some (Object.Chan c)) k h = let a =
         k (Object.Chan c) refl in h c (Every-left O (refs c.buffer) (value_refs c.zero) a)
         (Every-right O (refs c.buffer) (value_refs c.zero) a)
-    all-at_channel act (Some (Object.Mutex locked)) k h = none
-    all-at_channel act (Some (Object.Group n)) k h = none
-    all-at_channel act (Some (Object.Rw n)) k h = none
-    all-at_channel act (Some (Object.Cond v)) k h = none
+    all-at_channel act _ k h = none
 
     pub all-at_condition : (act : Value → List Change) (m : Option Object) → Known m
         → ((v : Value) → Val O v → P (act v)) → P (at_condition act m)
-    all-at_condition act None k h = none
-    all-at_condition act (Some (Object.Struct fields)) k h = none
-    all-at_condition act (Some (Object.Slice elements)) k h = none
-    all-at_condition act (Some (Object.Chan c)) k h = none
-    all-at_condition act (Some (Object.Mutex locked)) k h = none
-    all-at_condition act (Some (Object.Group n)) k h = none
-    all-at_condition act (Some (Object.Rw n)) k h = none
     all-at_condition act (Some (Object.Cond v)) k h = h v (k (Object.Cond v) refl)
+    all-at_condition act _ k h = none
 
   pub all-at_mutex : (act : Bool → List Change) (m : Option Object) → ((b : Bool) → P (act b)) → P (at_mutex act m)
-  all-at_mutex act None h = none
-  all-at_mutex act (Some (Object.Struct fields)) h = none
-  all-at_mutex act (Some (Object.Slice elements)) h = none
-  all-at_mutex act (Some (Object.Chan c)) h = none
   all-at_mutex act (Some (Object.Mutex locked)) h = h locked
-  all-at_mutex act (Some (Object.Group n)) h = none
-  all-at_mutex act (Some (Object.Rw n)) h = none
-  all-at_mutex act (Some (Object.Cond v)) h = none
+  all-at_mutex act _ h = none
 
   pub all-at_group : (act : ℤ → List Change) (m : Option Object) → ((n : ℤ) → P (act n)) → P (at_group act m)
-  all-at_group act None h = none
-  all-at_group act (Some (Object.Struct fields)) h = none
-  all-at_group act (Some (Object.Slice elements)) h = none
-  all-at_group act (Some (Object.Chan c)) h = none
-  all-at_group act (Some (Object.Mutex locked)) h = none
   all-at_group act (Some (Object.Group n)) h = h n
-  all-at_group act (Some (Object.Rw n)) h = none
-  all-at_group act (Some (Object.Cond v)) h = none
+  all-at_group act _ h = none
 
   pub all-at_rw : (act : ℤ → List Change) (m : Option Object) → ((n : ℤ) → P (act n)) → P (at_rw act m)
-  all-at_rw act None h = none
-  all-at_rw act (Some (Object.Struct fields)) h = none
-  all-at_rw act (Some (Object.Slice elements)) h = none
-  all-at_rw act (Some (Object.Chan c)) h = none
-  all-at_rw act (Some (Object.Mutex locked)) h = none
-  all-at_rw act (Some (Object.Group n)) h = none
   all-at_rw act (Some (Object.Rw n)) h = h n
-  all-at_rw act (Some (Object.Cond v)) h = none
+  all-at_rw act _ h = none
 
 -- what is looked up in the state
 module _ (O G : ℕ → Type 0) (s : State) (c : Ground s O G) where

@@ -13,53 +13,17 @@ module _ (O G : ℕ → Type 0) where
   -- what was made is a member already, since fresh numbers are
   after-in : (n : ℕ) (c : Change) → O (n + 1) → (o : ℕ) → objects_after c O n o → O o
   after-in n (Change.Make x) i o a = elim a [ inl b ↦ b | inr b ↦ subst O (sym b) i ]
-  after-in n (Change.Replace p y) i o a = a
-  after-in n (Change.SetGlobal k v) i o a = a
-  after-in n (Change.Become h r) i o a = a
-  after-in n (Change.Block h kind line waits r) i o a = a
-  after-in n (Change.Spawn r) i o a = a
-  after-in n (Change.Leave h) i o a = a
-  after-in n (Change.Finish e) i o a = a
-  after-in n (Change.SetFinaliser p k) i o a = a
-  after-in n (Change.ClearFinaliser p) i o a = a
-  after-in n Change.TakeQueued i o a = a
-  after-in n (Change.Output bytes) i o a = a
-  after-in n (Change.WakeAll p how) i o a = a
-  after-in n (Change.PassOn h m) i o a = a
+  after-in n _ i o a = a
 
 -- wider sets stay wider after a change
 module _ (O O' G F F' : ℕ → Type 0) (w : (o : ℕ) → O o → O' o) (u : (o : ℕ) → F o → F' o) (n : ℕ) where
   objects-wider : (c : Change) (o : ℕ) → objects_after c O n o → objects_after c O' n o
   objects-wider (Change.Make x) o a = elim a [ inl b ↦ inl (w o b) | inr b ↦ inr b ]
-  objects-wider (Change.Replace p y) o a = w o a
-  objects-wider (Change.SetGlobal k v) o a = w o a
-  objects-wider (Change.Become h r) o a = w o a
-  objects-wider (Change.Block h kind line waits r) o a = w o a
-  objects-wider (Change.Spawn r) o a = w o a
-  objects-wider (Change.Leave h) o a = w o a
-  objects-wider (Change.Finish e) o a = w o a
-  objects-wider (Change.SetFinaliser p k) o a = w o a
-  objects-wider (Change.ClearFinaliser p) o a = w o a
-  objects-wider Change.TakeQueued o a = w o a
-  objects-wider (Change.Output bytes) o a = w o a
-  objects-wider (Change.WakeAll p how) o a = w o a
-  objects-wider (Change.PassOn h m) o a = w o a
+  objects-wider _ o a = w o a
 
   finalisable-wider : (c : Change) (o : ℕ) → finalisable_after c F o → finalisable_after c F' o
-  finalisable-wider (Change.Make x) o a = u o a
-  finalisable-wider (Change.Replace p y) o a = u o a
-  finalisable-wider (Change.SetGlobal k v) o a = u o a
-  finalisable-wider (Change.Become h r) o a = u o a
-  finalisable-wider (Change.Block h kind line waits r) o a = u o a
-  finalisable-wider (Change.Spawn r) o a = u o a
-  finalisable-wider (Change.Leave h) o a = u o a
-  finalisable-wider (Change.Finish e) o a = u o a
   finalisable-wider (Change.SetFinaliser p k) o a = a
-  finalisable-wider (Change.ClearFinaliser p) o a = u o a
-  finalisable-wider Change.TakeQueued o a = u o a
-  finalisable-wider (Change.Output bytes) o a = u o a
-  finalisable-wider (Change.WakeAll p how) o a = u o a
-  finalisable-wider (Change.PassOn h m) o a = u o a
+  finalisable-wider _ o a = u o a
 
 -- what is among these is among those: of objects, of goroutines, and of objects that may get a finaliser
 pub record Wider (O O' G G' F F' : ℕ → Type 0) : Type 0 where
@@ -85,19 +49,7 @@ module _ (O G : ℕ → Type 0) where
   -- fresh numbers stay in the set
   pub fresh-after : (n : ℕ) (c : Change) → ((o : ℕ) → n < o → O o) → (o : ℕ) → last_after c n < o → O o
   fresh-after n (Change.Make x) h o l = h o (omega arith)
-  fresh-after n (Change.Replace p y) h o l = h o l
-  fresh-after n (Change.SetGlobal k v) h o l = h o l
-  fresh-after n (Change.Become g r) h o l = h o l
-  fresh-after n (Change.Block g kind line waits r) h o l = h o l
-  fresh-after n (Change.Spawn r) h o l = h o l
-  fresh-after n (Change.Leave g) h o l = h o l
-  fresh-after n (Change.Finish e) h o l = h o l
-  fresh-after n (Change.SetFinaliser p k) h o l = h o l
-  fresh-after n (Change.ClearFinaliser p) h o l = h o l
-  fresh-after n Change.TakeQueued h o l = h o l
-  fresh-after n (Change.Output bytes) h o l = h o l
-  fresh-after n (Change.WakeAll p how) h o l = h o l
-  fresh-after n (Change.PassOn g m) h o l = h o l
+  fresh-after n _ h o l = h o l
 
   pub rest-sound : (F : ℕ → Type 0) (n : ℕ) (c : Change) (cs : List Change) → ((o : ℕ) → n < o → O o)
       → Sound (objects_after c O n) G (finalisable_after c F) (last_after c n) cs

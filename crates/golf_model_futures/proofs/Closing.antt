@@ -170,13 +170,8 @@ module _ (O G : ℕ → Type 0) (s : State) (c : Closed s O G) (g m : ℕ) (i : 
       (goroutine-both O q (goroutine-frames O r a) (moved-in O m s.next_ticket r.mode j (goroutine-waits O r a)))
 
   closed-pass_on_at : (x : Object) (r : GoroutineView) → Every O (goroutine_refs r) → Closed (pass_on_at x g m r s) O G
-  closed-pass_on_at (Object.Struct fields) r a = c
-  closed-pass_on_at (Object.Slice elements) r a = c
-  closed-pass_on_at (Object.Chan d) r a = c
   closed-pass_on_at (Object.Mutex locked) r a = closed-pass_on_by locked r a
-  closed-pass_on_at (Object.Group n) r a = c
-  closed-pass_on_at (Object.Rw n) r a = c
-  closed-pass_on_at (Object.Cond v) r a = c
+  closed-pass_on_at _ r a = c
 
   closed-pass_on : (r : Option GoroutineView) (x : Option Object)
       → ((q : GoroutineView) → r ≡ Some q → Every O (goroutine_refs q)) → Closed (pass_on g m r x s) O G

@@ -49,13 +49,8 @@ module _ (O G : ℕ → Type 0) where
 
   confined-pass_on_at : (s : State) (g m : ℕ) (x : Object) (r : GoroutineView) → G g → O m
       → Confined O G s (pass_on_at x g m r s)
-  confined-pass_on_at s g m (Object.Struct fields) r i j = confined-same s
-  confined-pass_on_at s g m (Object.Slice elements) r i j = confined-same s
-  confined-pass_on_at s g m (Object.Chan d) r i j = confined-same s
   confined-pass_on_at s g m (Object.Mutex locked) r i j = confined-pass_on_by s g m locked r i j
-  confined-pass_on_at s g m (Object.Group n) r i j = confined-same s
-  confined-pass_on_at s g m (Object.Rw n) r i j = confined-same s
-  confined-pass_on_at s g m (Object.Cond v) r i j = confined-same s
+  confined-pass_on_at s g m _ r i j = confined-same s
 
   confined-pass_on : (s : State) (g m : ℕ) (r : Option GoroutineView) (x : Option Object) → G g → O m
       → Confined O G s (pass_on g m r x s)

@@ -80,13 +80,8 @@ grows-by s g m false r = (omega arith, omega arith)
 
 grows-at : (s : State) (g m : ℕ) (x : Object) (r : GoroutineView) → (s.last_object ≤ (pass_on_at x g m r s).last_object)
     × (s.next_goroutine ≤ (pass_on_at x g m r s).next_goroutine)
-grows-at s g m (Object.Struct fields) r = (omega arith, omega arith)
-grows-at s g m (Object.Slice elements) r = (omega arith, omega arith)
-grows-at s g m (Object.Chan d) r = (omega arith, omega arith)
 grows-at s g m (Object.Mutex locked) r = grows-by s g m locked r
-grows-at s g m (Object.Group k) r = (omega arith, omega arith)
-grows-at s g m (Object.Rw k) r = (omega arith, omega arith)
-grows-at s g m (Object.Cond v) r = (omega arith, omega arith)
+grows-at s g m _ r = (omega arith, omega arith)
 
 grows-pass_on : (s : State) (g m : ℕ) (r : Option GoroutineView) (x : Option Object)
     → (s.last_object ≤ (pass_on g m r x s).last_object) × (s.next_goroutine ≤ (pass_on g m r x s).next_goroutine)
@@ -96,20 +91,8 @@ grows-pass_on s g m (Some r) (Some x) = grows-at s g m x r
 
 pub grows : (s : State) (c : Change) → (s.last_object ≤ (apply c s).last_object)
     × (s.next_goroutine ≤ (apply c s).next_goroutine)
-grows s (Change.Make x) = (omega arith, omega arith)
-grows s (Change.Replace p y) = (omega arith, omega arith)
-grows s (Change.SetGlobal k v) = (omega arith, omega arith)
-grows s (Change.Become h r) = (omega arith, omega arith)
-grows s (Change.Block h kind line waits r) = (omega arith, omega arith)
-grows s (Change.Spawn r) = (omega arith, omega arith)
-grows s (Change.Leave h) = (omega arith, omega arith)
-grows s (Change.Finish e) = (omega arith, omega arith)
-grows s (Change.SetFinaliser p k) = (omega arith, omega arith)
-grows s (Change.ClearFinaliser p) = (omega arith, omega arith)
-grows s Change.TakeQueued = (omega arith, omega arith)
-grows s (Change.Output bytes) = (omega arith, omega arith)
-grows s (Change.WakeAll p how) = (omega arith, omega arith)
 grows s (Change.PassOn g m) = grows-pass_on s g m (find g s.goroutines) (find m s.objects)
+grows s _ = (omega arith, omega arith)
 
 module _ (stays kept : ℕ → Bool) where
   pub keeps_fresh : (s : State) (c : Change) → KeepsFresh stays kept s → KeepsFresh stays kept (apply c s)

@@ -120,13 +120,8 @@ module _ (O G : ℕ → Type 0) (s : State) (c : Flow O G s) (g m : ℕ) (i : G 
       (goroutine-both O q (goroutine-frames O r a) (moved-in O m s.next_ticket r.mode j (goroutine-waits O r a)))
 
   flow-pass_on_at : (x : Object) (r : GoroutineView) → Every O (goroutine_refs r) → Flow O G (pass_on_at x g m r s)
-  flow-pass_on_at (Object.Struct fields) r a = c
-  flow-pass_on_at (Object.Slice elements) r a = c
-  flow-pass_on_at (Object.Chan d) r a = c
   flow-pass_on_at (Object.Mutex locked) r a = flow-pass_on_by locked r a
-  flow-pass_on_at (Object.Group n) r a = c
-  flow-pass_on_at (Object.Rw n) r a = c
-  flow-pass_on_at (Object.Cond v) r a = c
+  flow-pass_on_at _ r a = c
 
   flow-pass_on : (r : Option GoroutineView) (x : Option Object)
       → ((q : GoroutineView) → r ≡ Some q → Every O (goroutine_refs q)) → Flow O G (pass_on g m r x s)

@@ -31,13 +31,11 @@ module _ (O O' G G' F F' : ℕ → Type 0) (o : (x : ℕ) → O x → O' x) (g :
       (g h a.0, wider (frames_refs r.frames) a.1, wider (wait_refs waits) a.2)
   good-wider (Change.Spawn r) a = wider (goroutine_refs r) a
   good-wider (Change.Leave h) a = g h a
-  good-wider (Change.Finish e) a = tt
   good-wider (Change.SetFinaliser p k) a = (o p a.0, f p a.1)
   good-wider (Change.ClearFinaliser p) a = o p a
-  good-wider Change.TakeQueued a = tt
-  good-wider (Change.Output bytes) a = tt
   good-wider (Change.WakeAll p how) a = (o p a.0, waking-wider how a.1)
   good-wider (Change.PassOn h m) a = (g h a.0, o m a.1)
+  good-wider _ a = tt
 
 pub all_good-append : (O G : ℕ → Type 0) (cs ds : List Change) → AllGood O G cs → AllGood O G ds
     → AllGood O G (cs ++ ds)
@@ -46,19 +44,7 @@ all_good-append O G (c ∷ cs) ds a b = (a.0, all_good-append O G cs ds a.1 b)
 
 pub keeps_objects : (O : ℕ → Type 0) (n : ℕ) (c : Change) (x : ℕ) → O x → objects_after c O n x
 keeps_objects O n (Change.Make y) x a = inl a
-keeps_objects O n (Change.Replace p y) x a = a
-keeps_objects O n (Change.SetGlobal i v) x a = a
-keeps_objects O n (Change.Become h r) x a = a
-keeps_objects O n (Change.Block h kind line waits r) x a = a
-keeps_objects O n (Change.Spawn r) x a = a
-keeps_objects O n (Change.Leave h) x a = a
-keeps_objects O n (Change.Finish e) x a = a
-keeps_objects O n (Change.SetFinaliser p k) x a = a
-keeps_objects O n (Change.ClearFinaliser p) x a = a
-keeps_objects O n Change.TakeQueued x a = a
-keeps_objects O n (Change.Output bytes) x a = a
-keeps_objects O n (Change.WakeAll p how) x a = a
-keeps_objects O n (Change.PassOn h m) x a = a
+keeps_objects O n _ x a = a
 
 -- a list of good changes is sound for any finalisable ones
 pub good-sound : (O G F : ℕ → Type 0) (n : ℕ) (cs : List Change) → AllGood O G cs → Sound O G F n cs

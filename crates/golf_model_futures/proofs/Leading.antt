@@ -45,13 +45,8 @@ module _ (s : State) (g m : ℕ) where
   same-by false r = (refl, refl, refl)
 
   same-at : (x : Object) (r : GoroutineView) → Same (pass_on_at x g m r s)
-  same-at (Object.Struct fields) r = (refl, refl, refl)
-  same-at (Object.Slice elements) r = (refl, refl, refl)
-  same-at (Object.Chan d) r = (refl, refl, refl)
   same-at (Object.Mutex locked) r = same-by locked r
-  same-at (Object.Group k) r = (refl, refl, refl)
-  same-at (Object.Rw k) r = (refl, refl, refl)
-  same-at (Object.Cond v) r = (refl, refl, refl)
+  same-at _ r = (refl, refl, refl)
 
   pub same-pass_on : (r : Option GoroutineView) (x : Option Object) → Same (pass_on g m r x s)
   same-pass_on None x = (refl, refl, refl)
@@ -64,57 +59,25 @@ last-apply s _ = refl
 
 given-after : (s : State) (c : Change) (o : ℕ) → objects_after c (Given s) s.last_object o → Given (apply c s) o
 given-after s (Change.Make x) o a = elim a [ inl b ↦ omega arith | inr b ↦ omega arith ]
-given-after s (Change.Replace p y) o a = a
-given-after s (Change.SetGlobal k v) o a = a
-given-after s (Change.Become h r) o a = a
-given-after s (Change.Block h kind line waits r) o a = a
-given-after s (Change.Spawn r) o a = a
-given-after s (Change.Leave h) o a = a
-given-after s (Change.Finish e) o a = a
-given-after s (Change.SetFinaliser p k) o a = a
-given-after s (Change.ClearFinaliser p) o a = a
-given-after s Change.TakeQueued o a = a
-given-after s (Change.Output bytes) o a = a
-given-after s (Change.WakeAll p how) o a = a
 given-after s (Change.PassOn g m) o a = subst (λ n. o ≤ n)
     (sym (same-pass_on s g m (find g s.goroutines) (find m s.objects)).0) a
+given-after s _ o a = a
 
 started-after : (s : State) (c : Change) (h : ℕ) → Started s h → Started (apply c s) h
-started-after s (Change.Make x) h a = a
-started-after s (Change.Replace p y) h a = a
-started-after s (Change.SetGlobal k v) h a = a
-started-after s (Change.Become g r) h a = a
-started-after s (Change.Block g kind line waits r) h a = a
 started-after s (Change.Spawn r) h a = omega arith
-started-after s (Change.Leave g) h a = a
-started-after s (Change.Finish e) h a = a
-started-after s (Change.SetFinaliser p k) h a = a
-started-after s (Change.ClearFinaliser p) h a = a
-started-after s Change.TakeQueued h a = a
-started-after s (Change.Output bytes) h a = a
-started-after s (Change.WakeAll p how) h a = a
 started-after s (Change.PassOn g m) h a =
     subst (λ n. h < n) (sym (same-pass_on s g m (find g s.goroutines) (find m s.objects)).1) a
+started-after s _ h a = a
 
 unfinalised-after : (s : State) (c : Change) (o : ℕ) → finalisable_after c (Unfinalised s) o → Unfinalised (apply c s) o
-unfinalised-after s (Change.Make x) o a = a
-unfinalised-after s (Change.Replace p y) o a = a
-unfinalised-after s (Change.SetGlobal k v) o a = a
-unfinalised-after s (Change.Become g r) o a = a
-unfinalised-after s (Change.Block g kind line waits r) o a = a
-unfinalised-after s (Change.Spawn r) o a = a
-unfinalised-after s (Change.Leave g) o a = a
-unfinalised-after s (Change.Finish e) o a = a
 unfinalised-after s (Change.SetFinaliser p k) o a = absurd a
 unfinalised-after s (Change.ClearFinaliser p) o a =
     find-none o (only (λ q. not (q == p)) s.finalisers)
     (λ f e. none-find o s.finalisers f a (Entry-only (λ q. not (q == p)) s.finalisers o f e).1)
-unfinalised-after s Change.TakeQueued o a = a
-unfinalised-after s (Change.Output bytes) o a = a
-unfinalised-after s (Change.WakeAll p how) o a = a
 unfinalised-after s (Change.PassOn g m) o a =
     subst (λ (fs : List (ℕ × ℕ)). find o fs ≡ None)
     (sym (same-pass_on s g m (find g s.goroutines) (find m s.objects)).2) a
+unfinalised-after s _ o a = a
 
 -- sound changes keep numbers in order
 pub numbered_changes : (cs : List Change) (s : State) → Numbered s

@@ -153,13 +153,8 @@ module _ (s : State) (n : Numbered s) (g m : ℕ) (j : m ≤ s.last_object) wher
 
   numbered-pass_on_at : (x : Object) (r : GoroutineView) → UpTo s.last_object (goroutine_refs r)
       → Numbered (pass_on_at x g m r s)
-  numbered-pass_on_at (Object.Struct fields) r a = n
-  numbered-pass_on_at (Object.Slice elements) r a = n
-  numbered-pass_on_at (Object.Chan d) r a = n
   numbered-pass_on_at (Object.Mutex locked) r a = numbered-pass_on_by locked r a
-  numbered-pass_on_at (Object.Group k) r a = n
-  numbered-pass_on_at (Object.Rw k) r a = n
-  numbered-pass_on_at (Object.Cond v) r a = n
+  numbered-pass_on_at _ r a = n
 
   numbered-pass_on : (r : Option GoroutineView) (x : Option Object)
       → ((q : GoroutineView) → r ≡ Some q → UpTo s.last_object (goroutine_refs q)) → Numbered (pass_on g m r x s)

@@ -92,13 +92,8 @@ module _ (s : State) (g m : ℕ) where
   passed-by false r = here-same s (pass_on_by false g m r s) (keys-put m (Object.Mutex true) s.objects) refl
 
   passed-at : (x : Object) (r : GoroutineView) → SameHere s (pass_on_at x g m r s)
-  passed-at (Object.Struct fields) r = here-same s s refl refl
-  passed-at (Object.Slice elements) r = here-same s s refl refl
-  passed-at (Object.Chan d) r = here-same s s refl refl
   passed-at (Object.Mutex locked) r = passed-by locked r
-  passed-at (Object.Group k) r = here-same s s refl refl
-  passed-at (Object.Rw k) r = here-same s s refl refl
-  passed-at (Object.Cond v) r = here-same s s refl refl
+  passed-at _ r = here-same s s refl refl
 
   passed-here : (r : Option GoroutineView) (x : Option Object) → SameHere s (pass_on g m r x s)
   passed-here None x = here-same s s refl refl

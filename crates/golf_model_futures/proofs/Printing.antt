@@ -30,12 +30,7 @@ use Rattle.golf_model.specs.Reporting.{entries, entry_of}
 -- `select`
 module _ (w : List ℕ) (s : State) where
   same-on_channel : (v : Value) → is_nil_or_channel (prefixed w s) v ≡ is_nil_or_channel s v
-  same-on_channel (Value.Int n) = refl
-  same-on_channel (Value.Bool b) = refl
-  same-on_channel (Value.Text k) = refl
-  same-on_channel Value.Unit = refl
-  same-on_channel Value.Nil = refl
-  same-on_channel (Value.Ref o) = refl
+  same-on_channel _ = refl
 
   same-on_channels : (xs : List Offer) → all_on_channels (prefixed w s) xs ≡ all_on_channels s xs
   same-on_channels [] = refl
@@ -43,12 +38,7 @@ module _ (w : List ℕ) (s : State) where
       ∙ ap (λ b. is_nil_or_channel s x.channel && b) (same-on_channels xs)
 
   same-ready_on : (kind : CaseKind) (v : Value) → is_ready_on kind (prefixed w s) v ≡ is_ready_on kind s v
-  same-ready_on kind (Value.Int n) = refl
-  same-ready_on kind (Value.Bool b) = refl
-  same-ready_on kind (Value.Text k) = refl
-  same-ready_on kind Value.Unit = refl
-  same-ready_on kind Value.Nil = refl
-  same-ready_on kind (Value.Ref o) = refl
+  same-ready_on kind _ = refl
 
   same-ready : (xs : List Offer) → ready (prefixed w s) xs ≡ ready s xs
   same-ready [] = refl

@@ -148,14 +148,10 @@ module _ (stays kept : ℕ → Bool) (O G : ℕ → Type 0) (s : State) (c : Gro
 
   same-is_ready_on : (kind : CaseKind) (v : Value) → Val O v
       → is_ready_on kind (cut stays kept s) v ≡ is_ready_on kind s v
-  same-is_ready_on kind (Value.Int n) h = refl
-  same-is_ready_on kind (Value.Bool b) h = refl
-  same-is_ready_on kind (Value.Text k) h = refl
-  same-is_ready_on kind Value.Unit h = refl
-  same-is_ready_on kind Value.Nil h = refl
   same-is_ready_on kind (Value.Ref o) h =
       ap (is_ready_at kind o.0 (only stays s.goroutines)) (same-find stays kept O G s c sub_o sub_g o.0 h.0)
       ∙ same-is_ready_at kind o.0 h.0 (find o.0 s.objects)
+  same-is_ready_on kind _ h = refl
 
   same-ready : (xs : List Offer) → Every (OfferIn O G s c a i) xs → ready (cut stays kept s) xs ≡ ready s xs
   same-ready [] h = refl

@@ -57,11 +57,7 @@ module _ (O : ℕ → Type 0) where
   closed_for-in zero w Side.Receive r a b =
       resumed-in w (received w.with_ok zero false) r (received-in w.with_ok zero false a) b
   closed_for-in zero w Side.Send r a b = unwound-in _ r b
-  closed_for-in zero w Side.Lock r a b = b
-  closed_for-in zero w Side.Group r a b = b
-  closed_for-in zero w Side.Read r a b = b
-  closed_for-in zero w Side.Write r a b = b
-  closed_for-in zero w Side.Cond r a b = b
+  closed_for-in zero w _ r a b = b
 
   closed_on-in : (zero : Value) (m : Option Wait) (r : GoroutineView) → Val O zero → Every O (goroutine_refs r)
       → Every O (goroutine_refs (closed_on zero m r))
@@ -88,11 +84,7 @@ closed_for-cases : (zero : Value) (o : ℕ) (w : Wait) (side : Side) (r : Gorout
     → Woken o r (closed_for zero w side r)
 closed_for-cases zero o w Side.Receive r i = inr (i, refl)
 closed_for-cases zero o w Side.Send r i = inr (i, refl)
-closed_for-cases zero o w Side.Lock r i = inl refl
-closed_for-cases zero o w Side.Group r i = inl refl
-closed_for-cases zero o w Side.Read r i = inl refl
-closed_for-cases zero o w Side.Write r i = inl refl
-closed_for-cases zero o w Side.Cond r i = inl refl
+closed_for-cases zero o w _ r i = inl refl
 
 closed_on-cases : (zero : Value) (o : ℕ) (r : GoroutineView) (m : Option Wait) → wait_on o (waits_of r.mode) ≡ m
     → Woken o r (closed_on zero m r)
