@@ -125,10 +125,8 @@ newline-held bytes = none (nat_eq (newlines bytes) 0)
 
 lexeme-held : (line : ℕ) (c : Class) (bytes : List ℕ) → Forms c bytes → held (lexeme_items line c bytes) ≤ length bytes
 unfolding held
-lexeme-held line class.Blank bytes h = let e = newline-held bytes in omega (arith, e)
-lexeme-held line class.LineComment bytes h = let e = newline-held bytes in omega (arith, e)
-lexeme-held line class.GeneralComment bytes h = let e = newline-held bytes in omega (arith, e)
 lexeme-held line (class.Of k) bytes h = let e = token-bytes k bytes h in omega (arith, e)
+lexeme-held line _ bytes h = let e = newline-held bytes in omega (arith, e)
 
 items-held : (line : ℕ) (ps : List Lexeme) → Cut ps → held (items line ps) ≤ length (lexemes_text ps)
 unfolding held

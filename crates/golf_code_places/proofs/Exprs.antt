@@ -70,8 +70,6 @@ module _ (t : Tables) where
     at : (y : ExprLayer P) → Small (length
         (print_step (map-Expr Expr Element (List Word) (List Word) print_expr print_element (bare_expr P y))))
         ((coded_layer t (bare_expr P y)).code l s)
-    at (F.Integer digits) = alone _ _ (omega arith)
-    at (F.Text bytes) = alone _ _ (omega arith)
     at (F.Name n) = on-name l t (named l s n).meaning
     at (F.Parens e) =
         let h = e.1 l s in
@@ -93,15 +91,12 @@ module _ (t : Tables) where
         ++ punctuation punctuations.CloseBrace ∷ [])) in
         on-slice-literal l (with_layer layer.Slice (write_at l s w).type) (pieces xs) (words xs) _ (beside xs)
         (omega (arith, few, behind, type))
-    at F.EmptyLiteral = alone _ _ (omega arith)
-    at (F.Make w) = alone _ _ (omega arith)
     at (F.MakeSized w e) =
         let h = (e.1 l s).piece in
         let inner = length-append (print_type w) (punctuation punctuations.Comma ∷ print_expr e.0) in
         let whole = length-append (print_type w ++ punctuation punctuations.Comma ∷ print_expr e.0)
         (punctuation punctuations.CloseParen ∷ []) in
         alone _ _ (omega (arith, h, inner, whole))
-    at (F.New n) = alone _ _ (omega arith)
     at (F.NewSync n) = on-new-sync l (made_base n) _ (omega arith)
     at (F.Selector e n) = on-selector l (selected_from l s.file n ((coded t e.0).judge l s).meaning).meaning
         ((coded t e.0).code l s) _ _ (e.1 l s)
@@ -127,6 +122,7 @@ module _ (t : Tables) where
     at (F.Binary o a b) =
         let whole = length-append (print_expr a.0) (punctuation (binary_punctuation o) ∷ print_expr b.0) in
         on-binary l o ((coded t a.0).code l s) ((coded t b.0).code l s) _ _ _ (a.1 l s) (b.1 l s) (omega (arith, whole))
+    at _ = alone _ _ (omega arith)
 
   rolled : (y : ExprLayer P) → P (roll-Expr (bare_expr P y))
   rolled y l s =

@@ -199,22 +199,7 @@ module _ (t : Tables) (l : ℕ) where
           → 1 + (length (with_receiver r ts) + 0) ≤ length xs + 2
       few None ts e = omega (arith, e)
       few (Some r) ts e = omega (arith, e)
-  beginning-light begin n (operand.Function k) xs = omega arith
-  beginning-light begin n (operand.Method k) xs = omega arith
-  beginning-light begin n (operand.Nothing late) xs = omega arith
-  beginning-light begin n (operand.Variable w e) xs = omega arith
-  beginning-light begin n (operand.Constant k b) xs = omega arith
-  beginning-light begin n (operand.Truth b) xs = omega arith
-  beginning-light begin n operand.Nil xs = omega arith
-  beginning-light begin n operand.Blank xs = omega arith
-  beginning-light begin n (operand.Value e) xs = omega arith
-  beginning-light begin n (operand.Outcome e) xs = omega arith
-  beginning-light begin n (operand.Field i e) xs = omega arith
-  beginning-light begin n (operand.Element e) xs = omega arith
-  beginning-light begin n operand.Unknown xs = omega arith
-  beginning-light begin n (operand.Package q) xs = omega arith
-  beginning-light begin n (operand.Struct k) xs = omega arith
-  beginning-light begin n operand.TypeName xs = omega arith
+  beginning-light begin n _ xs = omega arith
 
   pub light-begin : (begin : ℕ → ℕ → Instr) (f : Expr) (xs : List Expr) (k : ℕ)
       → length (print_expr f) + (total (map print_expr xs) + length xs) ≤ k → Light k (begin_part t l begin f xs)

@@ -44,11 +44,9 @@ operands-light t (comm.Assign n e) l s = let h = (expr-small t e l s).piece in o
 operands-light t (comm.DefineReceived n m e) l s = let h = (expr-small t e l s).piece in omega (arith, h)
 
 takes-light : (t : Tables) (l k : ℕ) (c : Communication) (s : Scope) → size (takes_in t l k c s) ≤ 12
-takes-light t l k (comm.Send c e) s = omega arith
-takes-light t l k (comm.Receive e) s = omega arith
-takes-light t l k (comm.Define n e) s = omega arith
 takes-light t l k (comm.Assign n e) s = let h = store-name t k s n in omega (arith, h)
 takes-light t l k (comm.DefineReceived n m e) s = store-pair t k s n m (carried l e s)
+takes-light t l k _ s = omega arith
 
 pub light-case : (t : Tables) (k : ℕ) (c : Communication) (xs : List Part) (n m : ℕ) → Light n (in_order xs)
     → length (print_comm c) + n + 2 ≤ m → ClauseLight m (case_clause t k c xs)

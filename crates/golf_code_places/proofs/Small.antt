@@ -40,22 +40,8 @@ on-variable l (place.Global g) = record { piece = omega arith; place = omega ari
 
 pub on-name : (l : ℕ) (t : Tables) (m : Operand) → Small 1 (name l t m)
 on-name l t (operand.Variable w e) = on-variable l w
-on-name l t (operand.Constant k b) = alone 1 _ (omega arith)
-on-name l t (operand.Truth b) = alone 1 _ (omega arith)
-on-name l t operand.Nil = alone 1 _ (omega arith)
 on-name l t operand.Blank = record { piece = omega arith; place = omega arith }
-on-name l t (operand.Value e) = alone 1 _ (omega arith)
-on-name l t (operand.Outcome e) = alone 1 _ (omega arith)
-on-name l t (operand.Field i e) = alone 1 _ (omega arith)
-on-name l t (operand.Element e) = alone 1 _ (omega arith)
-on-name l t operand.Unknown = alone 1 _ (omega arith)
-on-name l t (operand.Nothing late) = alone 1 _ (omega arith)
-on-name l t (operand.Package q) = alone 1 _ (omega arith)
-on-name l t (operand.Function k) = alone 1 _ (omega arith)
-on-name l t (operand.Method k) = alone 1 _ (omega arith)
-on-name l t (operand.BuiltIn b) = alone 1 _ (omega arith)
-on-name l t (operand.Struct k) = alone 1 _ (omega arith)
-on-name l t operand.TypeName = alone 1 _ (omega arith)
+on-name l t _ = alone 1 _ (omega arith)
 
 -- Lists of expressions: each piece is small beside its words.
 
@@ -112,19 +98,7 @@ on-selector l (operand.Field i e) x n k h more =
 on-selector l (operand.Value e) x n k h more = alone k _ (omega (arith, h.piece, more))
 on-selector l (operand.Method j) x n k h more = alone k _ (omega (arith, h.piece, more))
 on-selector l (operand.BuiltIn b) x n k h more = alone k _ (omega (arith, h.piece, more))
-on-selector l (operand.Variable w e) x n k h more = alone k _ (omega (arith, more))
-on-selector l (operand.Constant i b) x n k h more = alone k _ (omega (arith, more))
-on-selector l (operand.Truth b) x n k h more = alone k _ (omega (arith, more))
-on-selector l operand.Nil x n k h more = alone k _ (omega (arith, more))
-on-selector l operand.Blank x n k h more = alone k _ (omega (arith, more))
-on-selector l (operand.Outcome e) x n k h more = alone k _ (omega (arith, more))
-on-selector l (operand.Element e) x n k h more = alone k _ (omega (arith, more))
-on-selector l operand.Unknown x n k h more = alone k _ (omega (arith, more))
-on-selector l (operand.Nothing late) x n k h more = alone k _ (omega (arith, more))
-on-selector l (operand.Package q) x n k h more = alone k _ (omega (arith, more))
-on-selector l (operand.Function j) x n k h more = alone k _ (omega (arith, more))
-on-selector l (operand.Struct j) x n k h more = alone k _ (omega (arith, more))
-on-selector l operand.TypeName x n k h more = alone k _ (omega (arith, more))
+on-selector l _ x n k h more = alone k _ (omega (arith, more))
 
 pub on-index : (l : ℕ) (x y : Made) (n m k : ℕ) → Small n x → Small m y → n + m + 1 ≤ k
     → Small k (index l x.piece y.piece)
@@ -181,23 +155,8 @@ operation-small l built_in.Signal n = omega arith
 operation-small l built_in.Broadcast n = omega arith
 
 calling-small : (l : ℕ) (m : Operand) (n : ℕ) → size (calling l m n) ≤ 2
-calling-small l (operand.Function k) n = omega arith
-calling-small l (operand.Method k) n = omega arith
 calling-small l (operand.BuiltIn b) n = operation-small l b n
-calling-small l (operand.Variable w e) n = omega arith
-calling-small l (operand.Constant k b) n = omega arith
-calling-small l (operand.Truth b) n = omega arith
-calling-small l operand.Nil n = omega arith
-calling-small l operand.Blank n = omega arith
-calling-small l (operand.Value e) n = omega arith
-calling-small l (operand.Outcome e) n = omega arith
-calling-small l (operand.Field i e) n = omega arith
-calling-small l (operand.Element e) n = omega arith
-calling-small l operand.Unknown n = omega arith
-calling-small l (operand.Nothing late) n = omega arith
-calling-small l (operand.Package q) n = omega arith
-calling-small l (operand.Struct k) n = omega arith
-calling-small l operand.TypeName n = omega arith
+calling-small l _ n = omega arith
 
 finaliser-small : (l : ℕ) (m : Operand) → size (finaliser l m) ≤ 1
 finaliser-small l (operand.Function k) = omega arith

@@ -120,11 +120,7 @@ module _ (types : Typing) (known : List (ℕ × ValueType)) where
       → LeavingFits types known ft [] f.at f.operands f.slots f.leaving
   lacks_none ft f w Side.Receive n m h = absurd (n refl)
   lacks_none ft f w Side.Send n m h = absurd (m refl)
-  lacks_none ft f w Side.Lock n m h = h.1
-  lacks_none ft f w Side.Group n m h = h.1
-  lacks_none ft f w Side.Read n m h = h.1
-  lacks_none ft f w Side.Write n m h = h.1
-  lacks_none ft f w Side.Cond n m h = h.1
+  lacks_none ft f w _ n m h = h.1
 
   -- a waiter on this side of an object lacks nothing, unless it receives or sends
   pub released-at : (g : ℕ) (w : Wait) (waits : List Wait) (r : GoroutineView) → (w.side ≡ Side.Receive → ⊥)

@@ -45,10 +45,8 @@ module _ (types : Typing) (known later : List (ℕ × ValueType))
     h.1,
     record { buffer = each-more h.0 c.buffer h.2.buffer; zero = value-more c.zero h.0 h.2.zero },
   )
-  object-more (Object.Mutex locked) t h = h
-  object-more (Object.Group n) t h = h
-  object-more (Object.Rw n) t h = h
   object-more (Object.Cond m) t h = (h.0, value-more m ValueType.Mutex h.1)
+  object-more _ t h = h
 
   stands-more : (ft : FunctionTypes) (ts : List ValueType) (at : ℕ) (vs slots : List Value)
       → Stands types known ft ts at vs slots → Stands types later ft ts at vs slots
