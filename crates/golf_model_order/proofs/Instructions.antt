@@ -445,11 +445,6 @@ module _ (code : Code) (a : Actor) (s : State) where
 
   -- one line for each instruction
   pub keep_changes : (i : Instr) (choice : ℕ) → AllKeepOrder s.objects (changes code i a choice s)
-  keep_changes (Instr.Int n) choice = (refl, tt)
-  keep_changes (Instr.Bool b) choice = (refl, tt)
-  keep_changes (Instr.Text k) choice = (refl, tt)
-  keep_changes Instr.Unit choice = (refl, tt)
-  keep_changes Instr.Nil choice = (refl, tt)
   keep_changes (Instr.Load i) choice = keep-leaves s.objects a ops (slice_get a.frame.slots i)
   keep_changes (Instr.Store i) choice = keep-stores i
   keep_changes (Instr.LoadGlobal i) choice = keep-leaves s.objects a ops (slice_get s.globals i)
@@ -468,7 +463,6 @@ module _ (code : Code) (a : Actor) (s : State) where
       (λ x y rest. on-some s.objects _ (equality x y) (λ b. (refl, tt)))
   keep_changes Instr.Less choice = keep-compares int_lt
   keep_changes Instr.AtMost choice = keep-compares int_le
-  keep_changes (Instr.Jump target) choice = (refl, tt)
   keep_changes (Instr.JumpIfNot target) choice = keep-jumps_unless target
   keep_changes (Instr.NewStruct t) choice = on-some s.objects _ (slice_get code.structs t) (λ row. (tt, (refl, tt)))
   keep_changes Instr.NewMutex choice = (tt, (refl, tt))
@@ -507,11 +501,11 @@ module _ (code : Code) (a : Actor) (s : State) where
       on-one s.objects _ ops (λ v rest. keep-returns_by (Some v) rest a.frame.deferred)
   keep_changes (Instr.Print n) choice = on-operands s.objects n _ ops
       (λ vs rest. on-some s.objects _ (line_bytes code.texts vs) (λ bytes. (tt, (refl, tt))))
-  keep_changes Instr.Collect choice = (refl, tt)
   keep_changes (Instr.SetFinalizer f) choice = keep-finalises f
   keep_changes Instr.ClearFinalizer choice = keep-unfinalises
   keep_changes Instr.Panic choice = on-one s.objects _ ops
       (λ x rest. on-some s.objects _ (text_of x) (λ k. keep-panics s.objects a (PanicKind.Custom k)))
+  keep_changes _ choice = (refl, tt)
 
 -- goroutine 0 begins with the first entry of its queue
 keep-begins_queued : (xs : List (ℕ × Object)) (code : Code) (r : GoroutineView) (queue : List Queued)

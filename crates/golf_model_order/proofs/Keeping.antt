@@ -138,11 +138,7 @@ closed_for-wakes : (zero : Value) (w : Wait) (side : Side) (r : GoroutineView)
     → (is_running (closed_for zero w side r).mode ≡ true) ⊎ (closed_for zero w side r ≡ r)
 closed_for-wakes zero w Side.Receive r = inl refl
 closed_for-wakes zero w Side.Send r = inl refl
-closed_for-wakes zero w Side.Lock r = inr refl
-closed_for-wakes zero w Side.Group r = inr refl
-closed_for-wakes zero w Side.Read r = inr refl
-closed_for-wakes zero w Side.Write r = inr refl
-closed_for-wakes zero w Side.Cond r = inr refl
+closed_for-wakes zero w _ r = inr refl
 
 closed_on-wakes : (zero : Value) (m : Option Wait) (r : GoroutineView) → (is_running (closed_on zero m r).mode ≡ true)
     ⊎ (closed_on zero m r ≡ r)
@@ -206,22 +202,12 @@ kinds-add xs o y p z i = (z, find-add_old o y xs p z i, kind-same z)
 
 -- two that are of the kind of a third one
 kind-third : (x y z : Object) → SameKind x y → SameKind x z → SameKind z y
-kind-third (Object.Struct fields) y z a b = subst (λ (u : Object). SameKind u y) (sym b.1) a
-kind-third (Object.Slice elements) y z a b = subst (λ (u : Object). SameKind u y) (sym b.1) a
-kind-third (Object.Chan c) y z a b = subst (λ (u : Object). SameKind u y) (sym b.1) a
-kind-third (Object.Mutex locked) y z a b = subst (λ (u : Object). SameKind u y) (sym b.1) a
-kind-third (Object.Group n) y z a b = subst (λ (u : Object). SameKind u y) (sym b.1) a
-kind-third (Object.Rw n) y z a b = subst (λ (u : Object). SameKind u y) (sym b.1) a
 kind-third (Object.Cond v) y z a b = subst (λ (u : Object). SameKind u y) (sym b) a
+kind-third _ y z a b = subst (λ (u : Object). SameKind u y) (sym b.1) a
 
 kind-joined : (x y z : Object) → SameKind x y → SameKind y z → SameKind x z
-kind-joined (Object.Struct fields) y z a b = subst (λ (u : Object). SameKind u z) a.1 b
-kind-joined (Object.Slice elements) y z a b = subst (λ (u : Object). SameKind u z) a.1 b
-kind-joined (Object.Chan c) y z a b = subst (λ (u : Object). SameKind u z) a.1 b
-kind-joined (Object.Mutex locked) y z a b = subst (λ (u : Object). SameKind u z) a.1 b
-kind-joined (Object.Group n) y z a b = subst (λ (u : Object). SameKind u z) a.1 b
-kind-joined (Object.Rw n) y z a b = subst (λ (u : Object). SameKind u z) a.1 b
 kind-joined (Object.Cond v) y z a b = subst (λ (u : Object). SameKind u z) a b
+kind-joined _ y z a b = subst (λ (u : Object). SameKind u z) a.1 b
 
 kinds-joined : (xs ys zs : List (ℕ × Object)) → SameKinds xs ys → SameKinds ys zs → SameKinds xs zs
 kinds-joined xs ys zs a b o x e = let i = a o x e in let j = b o i.0 i.1 in (j.0, j.1, kind-joined x i.0 j.0 i.2 j.2)
@@ -290,13 +276,8 @@ module _ (xs : List (ℕ × Object)) (s : State) (k : SameKinds xs s.objects) (h
 
   passed-at : (g m : ℕ) (x : Object) (r : GoroutineView) → Entry s.goroutines g r → find m s.objects ≡ Some x
       → Kept (pass_on_at x g m r s)
-  passed-at g m (Object.Struct fields) r i e = (same, h)
-  passed-at g m (Object.Slice elements) r i e = (same, h)
-  passed-at g m (Object.Chan c) r i e = (same, h)
   passed-at g m (Object.Mutex locked) r i e = passed-by g m locked r i e
-  passed-at g m (Object.Group n) r i e = (same, h)
-  passed-at g m (Object.Rw n) r i e = (same, h)
-  passed-at g m (Object.Cond v) r i e = (same, h)
+  passed-at g m _ r i e = (same, h)
 
   passed : (g m : ℕ) (r : Option GoroutineView) (x : Option Object) → find g s.goroutines ≡ r → find m s.objects ≡ x
       → Kept (pass_on g m r x s)
@@ -336,7 +317,6 @@ module _ (xs : List (ℕ × Object)) (s : State) (k : SameKinds xs s.objects) (h
         },
       )
   order_kept (Change.Replace o x) a = replaced o a.0 x a.1 a.2
-  order_kept (Change.SetGlobal i v) a = (same, record { goroutines = h.goroutines; conditions = h.conditions })
   order_kept (Change.Become g r) a = (
     same,
     record {
@@ -371,11 +351,6 @@ module _ (xs : List (ℕ × Object)) (s : State) (k : SameKinds xs s.objects) (h
           (Entry-only (λ i. not (i == g)) s.goroutines j q e).1;
     },
   )
-  order_kept (Change.Finish e) a = (same, record { goroutines = h.goroutines; conditions = h.conditions })
-  order_kept (Change.SetFinaliser o f) a = (same, record { goroutines = h.goroutines; conditions = h.conditions })
-  order_kept (Change.ClearFinaliser o) a = (same, record { goroutines = h.goroutines; conditions = h.conditions })
-  order_kept Change.TakeQueued a = (same, record { goroutines = h.goroutines; conditions = h.conditions })
-  order_kept (Change.Output bytes) a = (same, record { goroutines = h.goroutines; conditions = h.conditions })
   order_kept (Change.WakeAll o how) a = (
     same,
     record {
@@ -385,6 +360,7 @@ module _ (xs : List (ℕ × Object)) (s : State) (k : SameKinds xs s.objects) (h
     },
   )
   order_kept (Change.PassOn g m) a = passed g m (find g s.goroutines) (find m s.objects) refl refl
+  order_kept _ a = (same, record { goroutines = h.goroutines; conditions = h.conditions })
 
 pub order_change : (s : State) (c : Change) → KeepsOrder s.objects c → IsOrderly s → IsOrderly (apply c s)
 order_change s c a h = (order_kept s.objects s (kinds-same s.objects) h c a).1

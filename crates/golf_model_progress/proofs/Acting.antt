@@ -78,12 +78,10 @@ module _ (types : Typing) (known : List (ℕ × ValueType)) (s : State) (P : Lis
 
   pub of-text : (act : ℕ → List Change) (x : Value) → ValueFits types.of known x ValueType.Text → ((n : ℕ) → P (act n))
       → P (on_some act (text_of x))
-  of-text act (Value.Int n) a h = cc
-  of-text act (Value.Bool b) a h = cc
   of-text act (Value.Text k) a h = h k
-  of-text act Value.Unit a h = cc
   of-text act Value.Nil a h = absurd a
   of-text act (Value.Ref o) a h = absurd a.1
+  of-text act _ a h = cc
 
   pub of-int : (act : ℤ → List Change) (x : Value) → ValueFits types.of known x ValueType.Int → ((n : ℤ) → P (act n))
       → P (on_some act (int_of x))
@@ -106,22 +104,18 @@ module _ (types : Typing) (known : List (ℕ × ValueType)) (s : State) (P : Lis
   pub of-reference_or : (nil : List Change) (act : ℕ → List Change) (x : Value) (t : ValueType) → IsNilable t
       → ValueFits types.of known x t → Val (Present s) x → P nil
       → ((o : ℕ) → HasType known o t → Present s o → P (act o)) → P (at_reference_or nil act x)
-  of-reference_or nil act (Value.Int n) t i a p z h = absurd (subst IsNilable a i)
-  of-reference_or nil act (Value.Bool b) t i a p z h = absurd (subst IsNilable a i)
   of-reference_or nil act (Value.Text k) t i a p z h = absurd (subst IsNilable a.0 i)
-  of-reference_or nil act Value.Unit t i a p z h = absurd (subst IsNilable a i)
   of-reference_or nil act Value.Nil t i a p z h = z
   of-reference_or nil act (Value.Ref o) t i a p z h = h o.0 a.0 p.0
+  of-reference_or nil act _ t i a p z h = absurd (subst IsNilable a i)
 
   pub of-reference : (a : Actor) (act : ℕ → List Change) (x : Value) (t : ValueType) → IsNilable t
       → ValueFits types.of known x t → Val (Present s) x → P (panics a PanicKind.NilPointer)
       → ((o : ℕ) → HasType known o t → Present s o → P (act o)) → P (at_reference a act x)
-  of-reference b act (Value.Int n) t i a p z h = absurd (subst IsNilable a i)
-  of-reference b act (Value.Bool c) t i a p z h = absurd (subst IsNilable a i)
   of-reference b act (Value.Text k) t i a p z h = absurd (subst IsNilable a.0 i)
-  of-reference b act Value.Unit t i a p z h = absurd (subst IsNilable a i)
   of-reference b act Value.Nil t i a p z h = z
   of-reference b act (Value.Ref o) t i a p z h = h o.0 a.0 p.0
+  of-reference b act _ t i a p z h = absurd (subst IsNilable a i)
 
   module _ (w : WellTyped types known s) (o : ℕ) (t : ValueType) (k : HasType known o t) (p : Present s o) where
     -- an object that is known is there, and of its type

@@ -134,12 +134,10 @@ module _ (types : Typing) (known : List (ℕ × ValueType)) (s : State) (w : Wel
 
   nil-or-channel : (v : Value) (e : ValueType) → ValueFits types.of known v (ValueType.Chan e) → Val (Present s) v
       → is_nil_or_channel s v ≡ true
-  nil-or-channel (Value.Int n) e h p = cc
-  nil-or-channel (Value.Bool b) e h p = cc
   nil-or-channel (Value.Text k) e h p = let f = h.0 in cc
-  nil-or-channel Value.Unit e h p = cc
   nil-or-channel Value.Nil e h p = refl
   nil-or-channel (Value.Ref o) e h p = is-channel o.0 e h.0 p.0 (find o.0 s.objects) refl
+  nil-or-channel _ e h p = cc
 
   on-channels : (xs : List Offer) → Every OfferFits xs → all_on_channels s xs ≡ true
   on-channels [] h = refl
