@@ -268,8 +268,6 @@ module _ (f : FileScope) (globals : List (Option GoType)) (g : ℕ) (same : Same
       ∙ ap (λ js. j ∷ js) (puts-same l xs (none-right (used l j) _ none))
 
   at : (y : ExprLayer P) (l : ℕ) → (judged y l here).faults ≡ [] → judged y l there ≡ judged y l here
-  at (F.Integer digits) l none = refl
-  at (F.Text bytes) l none = refl
   at (F.Name x) l none = name-same l x none
   at (F.Parens e) l none = ap in_parens (e.1 l none)
   at (F.StructLiteral x xs) l none =
@@ -278,20 +276,17 @@ module _ (f : FileScope) (globals : List (Option GoType)) (g : ℕ) (same : Same
       ∙ ap (struct_literal l there.file (pointer_to (meaning here x)) ns)
       (puts-same l xs (none-left (flat_map (used l) (puts-at l here xs)) _ none))
       ∙ literal-same f globals l (pointer_to (meaning here x)) ns (puts-at l here xs)
-  at (F.SyncLiteral x) l none = refl
   at (F.SliceLiteral t xs) l none =
       let w = write t l here in
       ap (λ w. slice_literal l w (with_layer layer.Slice w.type) (all-at l there xs)) (write-same t l)
       ∙ ap (slice_literal l w (with_layer layer.Slice w.type))
       (all-same l xs (none-left (flat_map (used l) (all-at l here xs)) _ (none-right w.faults _ none)))
-  at F.EmptyLiteral l none = refl
   at (F.Make t) l none = ap (made l) (write-same t l)
   at (F.MakeSized t e) l none =
       ap (λ w. made_sized l w (judge e.0 l there)) (write-same t l)
       ∙ ap (made_sized l (write t l here)) (used-same l e
       (none-left (used l (judge e.0 l here)) _ (none-right (write t l here).faults _ none)))
   at (F.New x) l none = ap (made_struct l) (pointer-same x)
-  at (F.NewSync x) l none = refl
   at (F.Selector e x) l none =
       let j = judge e.0 l here in
       ap (selector l there x) (e.1 l (none-left j.faults _ none))
@@ -314,6 +309,7 @@ module _ (f : FileScope) (globals : List (Option GoType)) (g : ℕ) (same : Same
       ap (λ j. binary_judged l u j (judge y.0 l there)) (used-same l x (none-left (used l (judge x.0 l here)) _ none))
       ∙ ap (binary_judged l u (judge x.0 l here))
       (used-same l y (none-left (used l (judge y.0 l here)) _ (none-right (used l (judge x.0 l here)) _ none)))
+  at _ l none = refl
 
   rolled : (y : ExprLayer P) → P (roll-Expr (bare_expr P y))
   rolled y l = subst (λ (j : Judge). (j l here).faults ≡ [] → j l there ≡ j l here) (sym (judge-rolls (bare_expr P y)))

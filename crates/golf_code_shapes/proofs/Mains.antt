@@ -51,10 +51,8 @@ function-keeps k (Some r) n j m e = e
 
 decl-keeps : (k : Naming) (x : Decl) (j : ℕ) (m : Entity) → slice_get k.entities j ≡ Some m
     → slice_get (decl_added k x).entities j ≡ Some m
-decl-keeps k (d.Const l n c) j m e = slice_get-left k.entities _ j m e
-decl-keeps k (d.Var v) j m e = slice_get-left k.entities _ j m e
-decl-keeps k (d.Struct l n fs) j m e = slice_get-left k.entities _ j m e
 decl-keeps k (d.Func f) j m e = function-keeps k f.receiver f.name j m e
+decl-keeps k _ j m e = slice_get-left k.entities _ j m e
 
 naming-keeps : (k : Naming) (xs : List Decl) (j : ℕ) (m : Entity) → slice_get k.entities j ≡ Some m
     → slice_get (fold decl_added k xs).entities j ≡ Some m
@@ -159,10 +157,8 @@ module _ (names : FileScope) (pre rest : List Decl) (k : Naming) (a : Above) (c 
 
   main-here : (x : Decl) → name_faults names a x ≡ [] → declares_main x ≡ true → fits_main x ≡ true
       → MainIs names (fold decl_added k (x ∷ rest)) (pre ++ x ∷ rest)
-  main-here (d.Const l n v) none is bare = cc
-  main-here (d.Var v) none is bare = cc
-  main-here (d.Struct l n fs) none is bare = cc
   main-here (d.Func f) none is bare = this-main f none is bare
+  main-here _ none is bare = cc
 
 find-main : (names : FileScope) (pre xs : List Decl) (k : Naming) (a : Above) → Counted pre k → Above-is a k
     → names_faults names a xs ≡ [] → main_faults xs ≡ [] → MainIs names (fold decl_added k xs) (pre ++ xs)

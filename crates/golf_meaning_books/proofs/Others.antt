@@ -86,11 +86,7 @@ closed-passes : (z : Value) (w : Wait) (side : Side) (r : GoroutineView) → May
     → MayPass (closed_for z w side r).mode
 closed-passes z w Side.Receive r h = tt
 closed-passes z w Side.Send r h = tt
-closed-passes z w Side.Lock r h = h
-closed-passes z w Side.Group r h = h
-closed-passes z w Side.Read r h = h
-closed-passes z w Side.Write r h = h
-closed-passes z w Side.Cond r h = h
+closed-passes z w _ r h = h
 
 closing-passes : (z : Value) (m : Option Wait) (r : GoroutineView) → MayPass r.mode → MayPass (closed_on z m r).mode
 closing-passes z None r h = h
@@ -296,13 +292,8 @@ module _ (code : Code) (types : RunTypes) (b : Book) (s : State) (rising : IsRis
           (moved-passes m t.next_ticket q.mode (k.passing h q c at)) refl refl refl
 
       passed-at : (x : Object) → Keeps r (pass_on_at x h m q t)
-      passed-at (Object.Struct fields) = k
-      passed-at (Object.Slice elements) = k
-      passed-at (Object.Chan d) = k
       passed-at (Object.Mutex locked) = passed-by locked
-      passed-at (Object.Group n) = k
-      passed-at (Object.Rw n) = k
-      passed-at (Object.Cond v) = k
+      passed-at _ = k
 
     passed : (t : State) → Keeps r t → (h m : ℕ) → (h ≡ g → ⊥) → WaitsOnCondition s h → (q : Option GoroutineView)
         → find h t.goroutines ≡ q → (x : Option Object) → Keeps r (pass_on h m q x t)
@@ -311,20 +302,15 @@ module _ (code : Code) (types : RunTypes) (b : Book) (s : State) (rising : IsRis
     passed t k h m ne c (Some q) e (Some x) = passed-at t k h m ne c q e x
 
     one : (c : Change) → IsOther s g c → (t : State) → Keeps r t → Keeps r (apply c t)
-    one (Change.Make x) i t k = still t _ k refl refl refl
-    one (Change.Replace o x) i t k = still t _ k refl refl refl
-    one (Change.SetGlobal j v) i t k = still t _ k refl refl refl
     one (Change.Become h q) i t k = let f = serves-fits h q i.1 in changed t _ h q k i.0 f.0 f.1 refl refl refl
     one (Change.Block h kind line waits q) i t k = absurd i
     one (Change.Spawn q) i t k = absurd i
     one (Change.Leave h) i t k = absurd i
     one (Change.Finish e) i t k = absurd i
-    one (Change.SetFinaliser o f) i t k = still t _ k refl refl refl
-    one (Change.ClearFinaliser o) i t k = still t _ k refl refl refl
     one Change.TakeQueued i t k = absurd i
-    one (Change.Output bytes) i t k = still t _ k refl refl refl
     one (Change.WakeAll o how) i t k = woken t _ how o k refl refl refl
     one (Change.PassOn h m) i t k = passed t k h m i.0 i.1 (find h t.goroutines) refl (find m t.objects)
+    one _ i t k = still t _ k refl refl refl
 
     -- changes of others, one after another
     pub keeps-all : (cs : List Change) → AreOthers s g cs → (t : State) → Keeps r t → Keeps r (apply_all cs t)

@@ -67,11 +67,6 @@ wait-for-in o side (x ∷ ws) w e = elim (x.object.0 == o) as (λ b. cond (b && 
 -- an operation of a lock, a group or a condition
 
 pub of-lock : (a b : Side) → same_side a b ≡ true → IsOfLock b → IsOfLock a
-of-lock Side.Lock b e k = tt
-of-lock Side.Group b e k = tt
-of-lock Side.Read b e k = tt
-of-lock Side.Write b e k = tt
-of-lock Side.Cond b e k = tt
 of-lock Side.Receive Side.Receive e k = k
 of-lock Side.Receive Side.Send e k = k
 of-lock Side.Receive Side.Lock e k = cc
@@ -86,6 +81,7 @@ of-lock Side.Send Side.Group e k = cc
 of-lock Side.Send Side.Read e k = cc
 of-lock Side.Send Side.Write e k = cc
 of-lock Side.Send Side.Cond e k = cc
+of-lock _ b e k = tt
 
 module _ (code : Code) (types : RunTypes) (kind : WaitKind) (line : ℕ) (waits : List Wait) (ticket : ℕ) where
   abbrev blocked : Mode
@@ -172,11 +168,7 @@ module _ (code : Code) (types : RunTypes) (ks : List Call) where
       resumed-matches code types kind line waits ticket w (received w.with_ok z false) m fs ks h
   closed-one z fs kind line waits ticket started w m Side.Send h =
       unwound-matches code types kind line waits ticket (fault PanicKind.SendClosed line) fs ks h
-  closed-one z fs kind line waits ticket started w m Side.Lock h = h
-  closed-one z fs kind line waits ticket started w m Side.Group h = h
-  closed-one z fs kind line waits ticket started w m Side.Read h = h
-  closed-one z fs kind line waits ticket started w m Side.Write h = h
-  closed-one z fs kind line waits ticket started w m Side.Cond h = h
+  closed-one z fs kind line waits ticket started w m _ h = h
 
   module _ (fs : List FrameView) (kind : WaitKind) (line : ℕ) (waits : List Wait) (ticket started : ℕ) where
     abbrev r : GoroutineView

@@ -239,11 +239,7 @@ within-self os End.Short = begins-self os
 halts : (h : Halt) {P : Type 0} → IsRuled (End.Halts h) → Said h P → P
 halts (Halt.Unfit Misfit.OfAnswer) ruled d = absurd ruled
 halts (Halt.Unfit Misfit.OfRule) ruled d = absurd ruled
-halts (Halt.Unfit Misfit.OfCount) ruled d = d
-halts (Halt.Unfit Misfit.OfKind) ruled d = d
-halts (Halt.Returned v) ruled d = d
-halts Halt.Divided ruled d = d
-halts Halt.Waits ruled d = d
+halts _ ruled d = d
 
 module _ (gives : List Bool) (code : List CodeLine) (c : Frame) (w : World) where
   abbrev G : ℕ → Told

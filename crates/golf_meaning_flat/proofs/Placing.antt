@@ -166,9 +166,7 @@ module _ (gives : List Bool) (code : List CodeLine) where
       → ((k : ℕ) → exec gives code (suc k) at c w ≡ does gives d (exec gives code k) at c w)
       → Follows gives code n at ts (at + 1) c w (acted d c w)
   acted-follows n at ts c w (Doing.Acts f) st = part-follows n at (at + 1) ts c w (f c w) st
-  acted-follows n at ts c w (Doing.Jumps t) st = tt
-  acted-follows n at ts c w (Doing.Tests t) st = tt
-  acted-follows n at ts c w (Doing.Chooses cs o) st = tt
+  acted-follows n at ts c w _ st = tt
 
   unless-follows : (n at k : ℕ) (ts : List ℕ) (c : Frame) (w : World) (p : Part (Bool × Frame))
       → ((j : ℕ) → exec gives code (suc j) at c w ≡ ended p
@@ -181,12 +179,10 @@ module _ (gives : List Bool) (code : List CodeLine) where
   -- out of a block
   out-follows : (n at to : ℕ) (ts : List ℕ) (c : Frame) (w : World) (o : Way)
       → Follows gives code n at (to ∷ ts) to c w o → Follows gives code n at ts to c w (out_of o)
-  out-follows n at to ts c w (Way.Through d u) h = h
   out-follows n at to ts c w (Way.Leaves zero d u) h =
       record { by = λ k. let a = h.by k in (a.0, omega (arith, a.1), a.2) }
-  out-follows n at to ts c w (Way.Leaves (suc k) d u) h = h
-  out-follows n at to ts c w (Way.Ends t) h = h
   out-follows n at to ts c w Way.Lost h = tt
+  out-follows n at to ts c w _ h = h
 
   -- after a jump to the beginning, one round more
   again-after : {at : ℕ} {c d : Frame} {w u : World} (m to : ℕ) (ts : List ℕ) (o : Way) → Leads gives code at c w at d u

@@ -126,9 +126,6 @@ module _ (taking : Taking) where
         let d = from-ends (then_way o (run taking.gives n (all (last_return l r ∷ [])) at [])) k
         (halted (Halt.Returned (at_end r)) u.operations) ways in
         (d.0, d.2)
-    body-done l r (Flow.Goes Course.Breaks env u) o at body k = tt
-    body-done l r (Flow.Goes Course.Continues env u) o at body k = tt
-    body-done l r (Flow.Goes Course.Skips env u) o at body k = tt
     body-done l r (Flow.Ends t) o at body k =
         done-ends t t.end (then_way o (run taking.gives n (all (last_return l r ∷ [])) at []))
         (through t t.end body.goes) (from-ends
@@ -138,6 +135,7 @@ module _ (taking : Taking) where
             → EndsAlike t e (then_way o (run taking.gives n (all (last_return l r ∷ [])) at []))
         through t e q = Rattle.golf_meaning_statements.proofs.Flowing.ends-in t e
             (λ z. then_way z (run taking.gives n (all (last_return l r ∷ [])) at [])) o refl q
+    body-done l r _ o at body k = tt
 
 pub functions-agree : FunctionsAgree
 functions-agree taking t gives names k f arguments answers enough never =

@@ -60,13 +60,11 @@ nothing-given (v ∷ vs) fits = let none = exact_unsigned_eq (length (v ∷ vs))
 module _ (rest : List Value) (ds : List Local) (next : ℕ) (slots : List Value) where
   exactly-around : {a b : Around} (f : Flow) (o : Way) → LeadsAlike a b → Exactly rest b ds next slots f o
       → Exactly rest a ds next slots f o
-  exactly-around (Flow.Goes Course.On env u) o alike h = h
-  exactly-around (Flow.Goes Course.Skips env u) o alike h = h
   exactly-around (Flow.Goes Course.Breaks env u) o alike h =
       (h.0, h.1 ∙ ap (λ k. Way.Leaves k (frame h.0 rest) u) alike.breaks, h.2)
   exactly-around (Flow.Goes Course.Continues env u) o alike h =
       (h.0, h.1 ∙ ap (λ k. Way.Leaves k (frame h.0 rest) u) alike.continues, h.2)
-  exactly-around (Flow.Ends t) o alike h = h
+  exactly-around _ o alike h = h
 
   -- seen from fewer slots
   exactly-lower : (a : Around) (high : ℕ) (f : Flow) (o : Way) → next ≤ high → Exactly rest a ds high slots f o
@@ -178,11 +176,9 @@ module _ (taking : Taking) where
   module _ (t : Tables) (l k : ℕ) where
     communication-rises : (c : Communication) (s : Scope)
         → Rising s.next (behind s (W.communication l k c s)).next (W.communication l k c s).declares
-    communication-rises (comm.Send c e) s = omega arith
-    communication-rises (comm.Receive e) s = omega arith
     communication-rises (comm.Define n e) s = (omega arith, omega arith)
-    communication-rises (comm.Assign n e) s = omega arith
     communication-rises (comm.DefineReceived n m e) s = pair-rises n m (W.carried l e s) s
+    communication-rises _ s = omega arith
 
     dropped-goes : (s : Scope) (env : Env) (slots : List Value) → Known s.locals s.next env slots
         → (vs : List Value) (n at : ℕ) (ts : List ℕ) (rest : List Value) (u : World)

@@ -219,17 +219,12 @@ module _ (rest : List Value) (a : Around) where
   goes-prefix ds es next slots (Flow.Goes Course.On env u) o h =
       (h.0, h.1, (stored-prefix ds es env h.0 h.2.0, h.2.1, h.2.2))
   goes-prefix ds es next slots (Flow.Goes Course.Skips env u) o h = tt
-  goes-prefix ds es next slots (Flow.Goes Course.Breaks env u) o h = h
-  goes-prefix ds es next slots (Flow.Goes Course.Continues env u) o h = h
-  goes-prefix ds es next slots (Flow.Ends t) o h = h
+  goes-prefix ds es next slots _ o h = h
 
   pub cut-exactly : (ds : List Local) (next : ℕ) (slots : List Value) (f : Flow) (o : Way)
       → GoesPrefix ds next slots f o → Exactly ds next slots (cut (length ds) f) o
-  cut-exactly ds next slots (Flow.Goes Course.On env u) o h = h
   cut-exactly ds next slots (Flow.Goes Course.Skips env u) o h = tt
-  cut-exactly ds next slots (Flow.Goes Course.Breaks env u) o h = h
-  cut-exactly ds next slots (Flow.Goes Course.Continues env u) o h = h
-  cut-exactly ds next slots (Flow.Ends t) o h = h
+  cut-exactly ds next slots _ o h = h
 
   pub exactly-goes : (ds : List Local) (next : ℕ) (slots : List Value) (f : Flow) (o : Way) → Exactly ds next slots f o
       → Goes ds next slots rest (ds ++ []) a f o
@@ -249,13 +244,11 @@ pub record LeadsAlike (a b : Around) : Type 0 where
 
 pub around-same : {a b : Around} (ds : List Local) (next : ℕ) (slots rest : List Value) (al : List Local) (f : Flow)
     (o : Way) → LeadsAlike a b → Goes ds next slots rest al b f o → Goes ds next slots rest al a f o
-around-same ds next slots rest al (Flow.Goes Course.On env u) o alike h = h
-around-same ds next slots rest al (Flow.Goes Course.Skips env u) o alike h = h
 around-same ds next slots rest al (Flow.Goes Course.Breaks env u) o alike h =
     (h.0, h.1 ∙ ap (λ k. Way.Leaves k (frame h.0 rest) u) alike.breaks, h.2)
 around-same ds next slots rest al (Flow.Goes Course.Continues env u) o alike h =
     (h.0, h.1 ∙ ap (λ k. Way.Leaves k (frame h.0 rest) u) alike.continues, h.2)
-around-same ds next slots rest al (Flow.Ends t) o alike h = h
+around-same ds next slots rest al _ o alike h = h
 
 -- past a piece that was laid
 pub past-alike : (a : Around) (m : L.Laid) → LeadsAlike a (L.past a m)

@@ -497,9 +497,7 @@ module _ (taking : Taking) where
   prefix-of rest a locals next slots (Flow.Goes Course.On env u) o k =
       (k.0, k.1, (stored-take locals env k.0 k.2.0, k.2.1, k.2.2))
   prefix-of rest a locals next slots (Flow.Goes Course.Skips env u) o k = tt
-  prefix-of rest a locals next slots (Flow.Goes Course.Breaks env u) o k = k
-  prefix-of rest a locals next slots (Flow.Goes Course.Continues env u) o k = k
-  prefix-of rest a locals next slots (Flow.Ends t) o k = k
+  prefix-of rest a locals next slots _ o k = k
 
   module _ (body : List Step) (means-body : EachMeans taking body) (t : Tables) (l : ℕ) (names : RangeNames) (e : Expr)
       (el ty : Option GoType) (a : Around) (s : Scope) (n : ℕ) (env : Env) (slots rest : List Value)

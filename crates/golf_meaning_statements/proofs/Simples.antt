@@ -550,15 +550,9 @@ module _ (taking : Taking) where
     -- a statement that declares nothing, as a part of a loop
     pub plain-quiet : (k : SimpleKind) → is_plain_kind k ≡ true → (s : Scope) → ((W.simple_kind l k s).declares ≡ [])
         × ((W.simple_kind l k s).slots ≡ [])
-    plain-quiet (simple.Expression e) h s = (refl, refl)
-    plain-quiet (simple.Send c e) h s = (refl, refl)
-    plain-quiet (simple.Increment p) h s = (refl, refl)
-    plain-quiet (simple.Decrement p) h s = (refl, refl)
-    plain-quiet (simple.Assign p e) h s = (refl, refl)
-    plain-quiet (simple.Update p o e) h s = (refl, refl)
     plain-quiet (simple.Define n e) h s = absurd (false≢true h)
     plain-quiet (simple.DefineReceived n m e) h s = absurd (false≢true h)
-    plain-quiet (simple.AssignReceived n m e) h s = (refl, refl)
+    plain-quiet _ h s = (refl, refl)
 
     pub plain-tail : (k : SimpleKind) → is_plain_kind k ≡ true → (s : Scope) (env : Env) (slots : List Value)
         → Known s.locals s.next env slots → (rest : List Value)

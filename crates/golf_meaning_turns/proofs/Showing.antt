@@ -455,30 +455,6 @@ module _ (code : Code) (i : Instr) (a : Actor) (choice : ℕ) (s : State) (awake
   visible : (j : Instr) → j ≡ i → is_inner j ≡ false
       → ((cases : List SelectCase) (otherwise : Option ℕ) → j ≡ Instr.Select cases otherwise → ⊥)
       → By (taken j) a.frame.operands (changes code j a choice s)
-  visible (Instr.Int n) same e ns = cc
-  visible (Instr.Bool b) same e ns = cc
-  visible (Instr.Text k) same e ns = cc
-  visible Instr.Unit same e ns = cc
-  visible Instr.Nil same e ns = cc
-  visible (Instr.Load i) same e ns = cc
-  visible (Instr.Store i) same e ns = cc
-  visible Instr.Drop same e ns = cc
-  visible Instr.Dup same e ns = cc
-  visible Instr.Dup2 same e ns = cc
-  visible Instr.Neg same e ns = cc
-  visible Instr.Not same e ns = cc
-  visible Instr.Add same e ns = cc
-  visible Instr.Sub same e ns = cc
-  visible Instr.Mul same e ns = cc
-  visible Instr.Div same e ns = cc
-  visible Instr.Rem same e ns = cc
-  visible Instr.Eq same e ns = cc
-  visible Instr.Less same e ns = cc
-  visible Instr.AtMost same e ns = cc
-  visible (Instr.Jump t) same e ns = cc
-  visible (Instr.JumpIfNot t) same e ns = cc
-  visible Instr.Return same e ns = cc
-  visible Instr.ReturnValue same e ns = cc
   visible (Instr.Select cases otherwise) same e ns = absurd (ns cases otherwise refl)
   visible (Instr.LoadGlobal i) same e ns = by-leaves a.frame.operands (slice_get s.globals i)
   visible (Instr.StoreGlobal i) same e ns =
@@ -597,6 +573,7 @@ module _ (code : Code) (i : Instr) (a : Actor) (choice : ℕ) (s : State) (awake
       (λ fields. on rest [] (Change.ClearFinaliser o ∷ []) [] (tt, tt) tt)))
   visible Instr.Panic same e ns = by-one _ a.frame.operands
       (λ x rest. S rest _ (text_of x) (λ k. Panics (PanicKind.Custom k) refl))
+  visible _ same e ns = cc
 
   -- a choice
 
@@ -630,12 +607,8 @@ module _ (code : Code) (i : Instr) (a : Actor) (choice : ℕ) (s : State) (awake
     wait-chooses x CaseKind.TakeOk o m = ((x.target, refl, m, inr refl), tt)
 
     case-chooses : (x : Offer) (v : Value) → In x.target ts → Chooses ts (case_waits x v)
-    case-chooses x (Value.Int n) m = tt
-    case-chooses x (Value.Bool b) m = tt
-    case-chooses x (Value.Text k) m = tt
-    case-chooses x Value.Unit m = tt
-    case-chooses x Value.Nil m = tt
     case-chooses x (Value.Ref o) m = wait-chooses x x.kind o.0 m
+    case-chooses x _ m = tt
 
     choose-append : (xs ys : List Wait) → Chooses ts xs → Chooses ts ys → Chooses ts (xs ++ ys)
     choose-append [] ys h k = k
