@@ -188,8 +188,6 @@ module _ (taking : Taking) where
       element _ f a b h is two = absurd h
 
       at : (y : ExprLayer P) → (judged y l s).faults ≡ [] → Is (judged y l s).meaning (does y l s)
-      at (F.Integer digits) none = λ w strict. refl
-      at (F.Text bytes) none = λ w strict. refl
       at (F.Name n) none = on-name taking types t s env fit l n file none
       at (F.Parens x) none = parenthesised (judge x.0 l s).meaning ((meant taking t x.0).does l s)
           (x.1 l s env file fit none)
@@ -214,7 +212,6 @@ module _ (taking : Taking) where
           (X.slice_literal taking (with_layer layer.Slice o)
           (map (λ (m : Meant). (m.does l s).value env) (map (meant taking t) (bare_exprs P xs)))) Location.Nowhere
           (X.constant_gives [] env)) (sym k.1) (slice-yields taking k.0 _ (each xs u))
-      at F.EmptyLiteral none = λ w strict. refl
       at (F.Make w) none =
           let k = written-known w l s (none-left (write w l s).faults _ none) in
           typed (write w l s).type k (λ o. X.made taking o (X.int_value 0 ∷ []))
@@ -294,6 +291,7 @@ module _ (taking : Taking) where
           ((operators-fit taking).0 l s o j (gives_of e) (value e) none))
       at (F.Binary o a b) none = (operators-fit taking).1 l o (judge a.0 l s) (judge b.0 l s) (gives_of a) (gives_of b)
           (value a) (value b) none
+      at _ none = λ w strict. refl
 
     rolled : (y : ExprLayer P) → P (roll-Expr (bare_expr P y))
     rolled y = subst (λ (j : Judge). ExpressionFits taking types t j (meant taking t (roll-Expr (bare_expr P y))).does)

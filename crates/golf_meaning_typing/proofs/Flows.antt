@@ -66,10 +66,8 @@ module _ (taking : Taking) where
     pub fitting-then : (L : Env → Type 0) (x : Flow) (f : Env → World → Flow) → Fitting taking L B C Never x
         → ((env : Env) (w : World) → L env → Fitting taking K B C S (f env w)) → Fitting taking K B C S (then_flow x f)
     fitting-then L (Flow.Goes Course.On env w) f h k = k env w h
-    fitting-then L (Flow.Goes Course.Breaks env w) f h k = h
-    fitting-then L (Flow.Goes Course.Continues env w) f h k = h
     fitting-then L (Flow.Goes Course.Skips env w) f h k = absurd h
-    fitting-then L (Flow.Ends t) f h k = h
+    fitting-then L _ f h k = h
 
     pub fitting-cut : (K1 B1 C1 : Env → Type 0) (k : ℕ) (x : Flow) → Fitting taking K1 B1 C1 Never x
         → ((env : Env) → K1 env → K (take k env)) → ((env : Env) → B1 env → B (take k env))
@@ -89,21 +87,16 @@ module _ (taking : Taking) where
 
     pub fitting-else : (L : Env → Type 0) (x : Flow) (f : Env → World → Flow) → Fitting taking K B C L x
         → ((env : Env) (w : World) → L env → Fitting taking K B C S (f env w)) → Fitting taking K B C S (or_else x f)
-    fitting-else L (Flow.Goes Course.On env w) f h k = h
-    fitting-else L (Flow.Goes Course.Breaks env w) f h k = h
-    fitting-else L (Flow.Goes Course.Continues env w) f h k = h
     fitting-else L (Flow.Goes Course.Skips env w) f h k = k env w h
-    fitting-else L (Flow.Ends t) f h k = h
+    fitting-else L _ f h k = h
 
     -- what a loop leaves is what each turn leaves
     pub fitting-turned : (I : Env → Type 0) (x : Flow) (next : Env → World → Flow) → Fitting taking I K I K x
         → ((env : Env) (w : World) → I env → Fitting taking K B C S (next env w))
         → Fitting taking K B C S (turned x next)
     fitting-turned I (Flow.Goes Course.On env w) next h k = k env w h
-    fitting-turned I (Flow.Goes Course.Breaks env w) next h k = h
     fitting-turned I (Flow.Goes Course.Continues env w) next h k = k env w h
-    fitting-turned I (Flow.Goes Course.Skips env w) next h k = h
-    fitting-turned I (Flow.Ends t) next h k = h
+    fitting-turned I _ next h k = h
 
     pub fitting-turns : (I : Env → Type 0) (step : Env → World → Flow)
         → ((env : Env) (w : World) → I env → Fitting taking I K I K (step env w)) → (n : ℕ) (env : Env) (w : World)
@@ -121,8 +114,5 @@ module _ (taking : Taking) where
     fitting-post L (Flow.Ends t) f h k = h
 
     pub fitting-select : (x : Flow) → Fitting taking K K C Never x → Fitting taking K B C S (out_of_select x)
-    fitting-select (Flow.Goes Course.On env w) h = h
-    fitting-select (Flow.Goes Course.Breaks env w) h = h
-    fitting-select (Flow.Goes Course.Continues env w) h = h
     fitting-select (Flow.Goes Course.Skips env w) h = absurd h
-    fitting-select (Flow.Ends t) h = h
+    fitting-select _ h = h

@@ -44,13 +44,7 @@ quiet-kind : (l : ℕ) (x : SimpleKind) (s : Scope) → not (simple_form x).defi
     → ((W.simple_kind l x s).declares ≡ []) × (is_plain_kind x ≡ true)
 quiet-kind l (simple.Define n e) s h = cc
 quiet-kind l (simple.DefineReceived n m e) s h = cc
-quiet-kind l (simple.Expression e) s h = (refl, refl)
-quiet-kind l (simple.Send c e) s h = (refl, refl)
-quiet-kind l (simple.Increment p) s h = (refl, refl)
-quiet-kind l (simple.Decrement p) s h = (refl, refl)
-quiet-kind l (simple.Assign p e) s h = (refl, refl)
-quiet-kind l (simple.Update p o e) s h = (refl, refl)
-quiet-kind l (simple.AssignReceived n m e) s h = (refl, refl)
+quiet-kind l _ s h = (refl, refl)
 
 pub quiet-post : (t : Tables) (o : Option Simple) (s : Scope) → all_of post_simple o ≡ true
     → (((L.optional t o).walk s).declares ≡ []) × (is_plain o ≡ true)
