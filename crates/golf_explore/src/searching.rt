@@ -297,8 +297,9 @@ fn seek(alloc: Global, code: &Code, aim: Aim) -> Result<SearchResult, Memory>
     Ok(SearchResult::Nothing(frontier.visits.list.len() as u64))
 }
 
-/// Looks for a schedule that reaches what is sought, by a rising number of preemptions. What it finds it makes
-/// shorter: no turn of the schedule can be left out. The only error is `Memory`.
+/// Looks for a schedule that reaches what is sought, by a rising number of preemptions. If that has at most 4,096
+/// turns, it is made shorter: each turn is tried, the last ones first. It is left out if the others reach what is
+/// sought, with no more preemptions. The only error is `Memory`.
 ///
 /// A turn is a preemption if the goroutine of the last turn can go on and another one takes it.
 pub fn search(alloc: Global, code: &Code, aim: Aim) -> Result<SearchResult, Memory>
