@@ -11,13 +11,14 @@ compares output, reports, collections, endings and statuses turn by turn. For ea
 model, it runs a shortest run that shows it, and compares the report. States of small programs are counted twice.
 
 `--compare` runs `PROGRAM all` on each program (300 by default) and compares its answer with the model's: the status,
-whether a run leaks, the number of states, and whether a run panics or falls asleep. The choices of a leak are replayed
-by the model, and with `--golf` by that program too. With `--any-states` the number of states may differ.
+whether a run leaks, whether a run panics or falls asleep, and whether each run ends. The model looks at each turn of each
+state for these. The number of states is that of the model if frame-local turns follow each turn; with `--any-states` it
+may differ. The choices of a leak are replayed by the model, and with `--golf` by that program too.
 
 Both begin with the files of examples/schedules. There a file NAME_leaks.go leaks, and the others do not.
 
-The model is explored_code.py, which makes the code of a file, and explored_machine.py, which steps it. Its turns are
-exactly those of the program."""
+The model has four parts: explored_syntax.py reads a file, explored_code.py makes its code, explored_machine.py steps it,
+and explored_states.py looks at all schedules. Its turns are exactly those of the program."""
 import argparse
 import random
 import re
@@ -28,8 +29,10 @@ from pathlib import Path
 
 sys.dont_write_bytecode = True
 
-from explored_code import Unread, code_of
-from explored_machine import Explored, Run, plain_states
+from explored_code import code_of
+from explored_machine import Run
+from explored_states import Explored, Settled, always_ends, plain_states
+from explored_syntax import Unread
 
 ROOT = Path(__file__).resolve().parent.parent
 DEFAULT_STATES = 1_000_000
@@ -319,10 +322,10 @@ def answer(text, most):
         return [leak_line(explored.leak)] + [line for line in run.errors if line.startswith('goroutine')], 1
     if not explored.complete:
         return ['stopped: more than %d states' % most], 3
-    lines = ['every schedule: %d states, no leak' % explored.states]
+    lines = ['every schedule: %d states, no leak' % Settled(explored).states]
     lines.append('panics under some schedule' if explored.ends('panicked') else 'never panics')
     lines.append('all asleep under some schedule' if explored.ends('asleep') else 'never all asleep')
-    return lines, 0
+    return lines + ['always ends'] * always_ends(explored), 0
 
 
 def leak_line(choices):
@@ -479,9 +482,11 @@ def faults_of_closed(told, explored, any_states):
     """What is wrong with the answer to a program without a leak."""
     if told.status != 0 or not told.every:
         return ['no leak in %d states by the model' % explored.states]
-    faults = []
-    if not any_states and int(told.every[1]) != explored.states:
-        faults.append('%s states, %d by the model' % (told.every[1], explored.states))
+    faults, settled = [], Settled(explored)
+    if not any_states and int(told.every[1]) != settled.states:
+        faults.append('%s states, %d by the model' % (told.every[1], settled.states))
+    if told.says('always ends') != always_ends(explored):
+        faults.append('%r is %stold' % ('always ends', '' if told.says('always ends') else 'not '))
     for never, some, happens in (('never panics', 'panics under some schedule', explored.ends('panicked')),
                                  ('never all asleep', 'all asleep under some schedule', explored.ends('asleep'))):
         if told.says(never) == happens or told.says(some) != happens:

@@ -4,14 +4,20 @@
 use Rattle.std.proofs.Common.{◌≡◌, ℕ, zero, suc, ◌<◌, ◌≤◌, List, [], ◌∷◌, ◌++◌, length, Option, Some, None, slice_get}
 use Rattle.std.proofs.Common.{◌⊎◌, inl, inr, refl, sym, ap, ◌∙◌, subst, arith, append-nil, append_assoc}
 use Rattle.golf_theory.specs.Membership.{In}
-use Rattle.golf_theory.proofs.Lists.{In-left, In-right, In-cases, In-slice_get}
+use Rattle.golf_theory.proofs.Lists.{In-left, In-cases, In-slice_get}
 use Rattle.golf_data.specs.declared.code.Code.{Code}
-use Rattle.golf_model.specs.State.{State, ending, start}
-use Rattle.golf_explore_laws.specs.Closed.{silent}
+use Rattle.golf_model.specs.State.{State, start}
+use Rattle.golf_explore_laws.specs.After.{silent, after, after_all}
+use Rattle.golf_explore_laws.specs.Closed.{IsPlain}
 use Rattle.golf_explore_laws.proofs.Visiting.{silent-dead}
 use Rattle.golf_explore.specs.declared.visits.Came.{Came}
+use Rattle.golf_explore.specs.declared.visits.Edge.{Edge}
 use Rattle.golf_explore.specs.declared.visits.Visit.{Visit}
-use Rattle.golf_explore.specs.Visiting.{states, IsNext, IsFrom, IsWell, AreVisits, Grows, HasPushed, HasAdded, after}
+use Rattle.golf_explore.specs.Ranking.{SettlesAt, SettlesBy}
+use Rattle.golf_explore.specs.Visiting.{states, LeadsTo, IsNext, IsFrom, IsWell, AreVisits, Grows, HasPushed, HasEdges}
+use Rattle.golf_explore.specs.Visiting.{HasAdded}
+use Rattle.golf_explore.specs.Settling.{HasTaken}
+use Rattle.golf_explore.proofs.Settled.{silent-all}
 
 -- ---- places
 
@@ -28,7 +34,7 @@ get-left [] ys i s h = cc
 get-left (x ∷ xs) ys zero s h = h
 get-left (x ∷ xs) ys (suc i) s h = get-left xs ys i s h
 
-get-within : (xs : List State) (i : ℕ) (s : State) → slice_get xs i ≡ Some s → i < length xs
+pub get-within : {X : Type 0} (xs : List X) (i : ℕ) (s : X) → slice_get xs i ≡ Some s → i < length xs
 get-within [] i s h = cc
 get-within (x ∷ xs) zero s h = omega arith
 get-within (x ∷ xs) (suc i) s h = let l = get-within xs i s h in omega (arith, l)
@@ -46,15 +52,16 @@ get-states (x ∷ xs) zero v h = ap (λ (o : Option Visit).
     elim o as (λ _. Option State) [ None ↦ None | Some w ↦ Some (silent w.state) ]) h
 get-states (x ∷ xs) (suc i) v h = get-states xs i v h
 
-pub get-In : (xs : List Visit) (i : ℕ) (v : Visit) → slice_get xs i ≡ Some v → In (silent v.state) (states xs)
-get-In xs i v h = In-slice_get (states xs) i (silent v.state) (get-states xs i v h)
-
-get-pushed : (xs : List Visit) (x : Visit) (i : ℕ) (v : Visit) → slice_get (xs ++ x ∷ []) i ≡ Some v
+pub get-pushed : {X : Type 0} (xs : List X) (x : X) (i : ℕ) (v : X) → slice_get (xs ++ x ∷ []) i ≡ Some v
     → (slice_get xs i ≡ Some v) ⊎ ((i ≡ length xs) × (v ≡ x))
-get-pushed [] x zero v h = inr (refl, cc)
+get-pushed [] x zero v h = let e : x ≡ v = cc in inr (refl, sym e)
 get-pushed [] x (suc i) v h = cc
 get-pushed (y ∷ xs) x zero v h = inl h
 get-pushed (y ∷ xs) x (suc i) v h = elim (get-pushed xs x i v h) [ inl g ↦ inl g | inr g ↦ inr (ap suc g.0, g.1) ]
+
+get-last : (xs : List State) (x : State) → slice_get (xs ++ x ∷ []) (length xs) ≡ Some x
+get-last [] x = refl
+get-last (y ∷ xs) x = get-last xs x
 
 length-more : (xs ys : List Visit) → length xs ≤ length (xs ++ ys)
 length-more [] ys = omega arith
@@ -78,6 +85,15 @@ module _ (old new : List Visit) (g : Grows old new) where
   pub grown-get : (i : ℕ) (s : State) → slice_get (states old) i ≡ Some s → slice_get (states new) i ≡ Some s
   grown-get i s h = ap (λ (xs : List State). slice_get xs i) grown ∙ get-left (states old) (states g.0) i s h
 
+  grown-at : (code : Code) (e : Edge) (s : State) → SettlesAt code (states old) e s → SettlesAt code (states new) e s
+  grown-at code e s h = (h.0, h.1, h.2, grown-get e.to (after_all code s h.0) h.3)
+
+  -- so do the edges
+  pub grown-by : (code : Code) (before now : List Edge) → HasEdges before now → (s : State)
+      → SettlesBy code (states old) before s → SettlesBy code (states new) now s
+  grown-by code before now m s h =
+      (h.0, subst (In h.0) (sym m.1) (In-left h.0 before m.0 h.1), grown-at code h.0 s h.2)
+
   -- the first places are as they were
   pub grown-back : (i : ℕ) (s : State) → i < length old → slice_get (states new) i ≡ Some s
       → slice_get (states old) i ≡ Some s
@@ -94,7 +110,6 @@ module _ (old new : List Visit) (g : Grows old new) where
     earlier = h.earlier;
     parent = h.parent;
     stands = grown-get came.parent h.parent h.stands;
-    goes = h.goes;
     leads = h.leads;
   }
 
@@ -104,13 +119,15 @@ pub pushed-grows : (old new : List Visit) (s : State) (came : Option Came) → H
 pushed-grows old new s came p = (p.0 ∷ [], p.1)
 
 module _ (code : Code) (old new : List Visit) (s : State) (came : Option Came) (p : HasPushed old new s came) where
-  pub pushed-in : In (silent s) (states new)
-  pushed-in =
-      subst (λ (vs : List Visit). In (silent s) (states vs)) (sym p.1)
-      (subst (In (silent s)) (sym (states-append old (p.0 ∷ [])))
-      (In-right (silent s) (states old) (states (p.0 ∷ [])) (inl (ap silent (sym p.2)))))
+  pub pushed-at : slice_get (states new) (length old) ≡ Some (silent s)
+  pushed-at =
+      ap (λ (vs : List Visit). slice_get (states vs) (length old)) p.1
+      ∙ ap (λ (xs : List State). slice_get xs (length old)) (states-append old (p.0 ∷ []))
+      ∙ ap (slice_get (states old ++ silent p.0.state ∷ [])) (sym (states-length old))
+      ∙ get-last (states old) (silent p.0.state)
+      ∙ ap (λ (v : State). Some (silent v)) p.2
 
-  -- a new visit of the state after a turn of an earlier one, or of the opening state
+  -- a new visit of a state to which turns lead from an earlier one, or of the opening state
   module _ (from : IsFrom code old (length old) (silent s) came) (well : IsWell (silent s)) where
     from-new : (at : ℕ) (v : Visit) → (slice_get old at ≡ Some v) ⊎ ((at ≡ length old) × (v ≡ p.0))
         → ((v : Visit) → slice_get old at ≡ Some v → IsFrom code old at (silent v.state) v.came)
@@ -149,35 +166,49 @@ visits-opened code new s is p well =
     let from : silent s ≡ start code = ap silent is in
     let good : IsWell (silent s) = subst IsWell (sym from) well in
     record {
-      opening = subst (λ (t : State). In t (states new)) from (pushed-in code [] new s None p);
+      opening = subst (λ (t : State). In t (states new)) from
+          (In-slice_get (states new) 0 (silent s) (pushed-at code [] new s None p));
       from = from-pushed code [] new s None p from good (λ at v h. cc);
       well = well-pushed code [] new s None p from good (λ t i. absurd i);
     }
 
 -- ---- one more state
 
-module _ (code : Code) (t : State) (number : ℕ) (s : State) (is : s ≡ after code t number) where
+-- a turn and frame-local ones after it lead to this state
+module _ (code : Code) (t : State) (number : ℕ) (s : State) (numbers : List ℕ)
+    (taken : HasTaken code t number s numbers) where
   abbrev u : State
   u = after code t number
 
-  quiet : silent s ≡ u
-  quiet = ap silent is
+  quiet : silent s ≡ after_all code u taken.more
+  quiet = ap silent taken.led ∙ silent-all code taken.more u refl
+
+  -- the edge to it
+  module _ (old new : List Visit) (grows : Grows old new) (are : AreVisits code new) (e : Edge)
+      (stands : slice_get (states new) e.to ≡ Some (silent s)) (turns : e.turns ≡ length numbers) where
+    settles : SettlesAt code (states new) e u
+    settles = (taken.more, ap length (sym taken.are) ∙ sym turns, taken.local, stands ∙ ap Some quiet)
+
+    pub added-by : (before now : List Edge) → now ≡ before ++ e ∷ [] → HasAdded code old new before now u
+    added-by before now adds = record { grows = grows; visits = are; edge = e; adds = adds; has = settles }
 
   quiet-well : IsWell s → IsWell (silent s)
   quiet-well well goes = ((well goes).0, silent-dead s ∙ (well goes).1)
 
+  leads : IsPlain s → LeadsTo code t numbers (silent s)
+  leads plain = (ap (after_all code t) taken.are ∙ sym quiet, taken.goes plain)
+
   -- it is visited now, from the visit at this place
-  pub added-new : (old new : List Visit) (at : ℕ) → AreVisits code old → slice_get (states old) at ≡ Some t
-      → ending t ≡ None → IsWell s → HasPushed old new s (Some (record { parent = at; number = number }))
-      → HasAdded code old new u
-  added-new old new at are h goes well p =
-      let came : Option Came = Some (record { parent = at; number = number }) in
+  pub added-visits : (old new : List Visit) (at : ℕ) → AreVisits code old → slice_get (states old) at ≡ Some t
+      → IsWell s → HasPushed old new s (Some (record { parent = at; numbers = numbers })) → AreVisits code new
+  added-visits old new at are h well p =
+      let came : Option Came = Some (record { parent = at; numbers = numbers }) in
       let below = get-within (states old) at t h in
       let same = states-length old in
-      let next : IsNext code old (length old) (silent s) (record { parent = at; number = number }) =
-      record { earlier = omega (arith, below, same); parent = t; stands = h; goes = goes; leads = quiet } in
-      record {
-        grows = pushed-grows old new s came p;
-        visits = visits-pushed code old new s came p next (quiet-well well) are;
-        has = subst (λ (v : State). In v (states new)) quiet (pushed-in code old new s came p);
-      }
+      let next : IsNext code old (length old) (silent s) (record { parent = at; numbers = numbers }) = record {
+        earlier = omega (arith, below, same);
+        parent = t;
+        stands = h;
+        leads = leads (λ goes. (well goes).0);
+      } in
+      visits-pushed code old new s came p next (quiet-well well) are

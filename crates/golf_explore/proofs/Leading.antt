@@ -1,19 +1,25 @@
 -- What the turns of one visit add to the list.
 -- For: `add_choices`, `add_places` and `expand`, src/expanding.rt; `HasTurned` and `HasExpanded`, specs/Visiting.antt
 -- By: the facts of one more turn; no induction over the list
-use Rattle.std.proofs.Common.{◌≡◌, ℕ, zero, suc, ◌+◌, ◌*◌, ◌<◌, true, false, List, length, Some, None, is_some, get_or}
-use Rattle.std.proofs.Common.{slice_get, ◌⊎◌, inl, inr, refl, sym, ap, ◌∙◌, subst, arith}
+use Rattle.std.proofs.Common.{◌≡◌, ℕ, zero, suc, ◌+◌, ◌*◌, ◌<◌, true, false, List, [], ◌∷◌, ◌++◌, length, Some, None}
+use Rattle.std.proofs.Common.{is_some, get_or, slice_get, ◌⊎◌, inl, inr, refl, sym, ap, ◌∙◌, subst, arith, append-nil}
+use Rattle.std.proofs.Common.{append_assoc, length-append}
 use Rattle.std.proofs.lemmas.Option.{slice_get-get_or}
 use Rattle.golf_theory.specs.Membership.{In}
+use Rattle.golf_theory.proofs.Lists.{In-right}
 use Rattle.golf_data.specs.declared.code.Code.{Code}
 use Rattle.golf_model.specs.State.{State, runnable, ending, start}
-use Rattle.golf_explore_laws.specs.Closed.{silent, after_turn, turn_last_choice, IsTurn}
+use Rattle.golf_explore_laws.specs.After.{silent, after, after_all}
+use Rattle.golf_explore_laws.specs.Closed.{after_turn, turn_last_choice, IsTurn}
+use Rattle.golf_explore.specs.declared.visits.Edge.{Edge}
 use Rattle.golf_explore.specs.declared.visits.Visit.{Visit}
-use Rattle.golf_explore.specs.Visiting.{states, after, after_all, AreVisits, IsPathTo, IsPathFor, Grows, HasAdded}
-use Rattle.golf_explore.specs.Visiting.{HasTurned, HasExpanded, HasVisited, HasChoices, IsDone, AreDone}
-use Rattle.golf_explore.proofs.Growing.{grows-same, grows-trans, grown-in, grown-get, grown-back, get-states}
+use Rattle.golf_explore.specs.Ranking.{SettlesBy}
+use Rattle.golf_explore.specs.Visiting.{states, AreVisits, IsPathTo, IsPathFor, Grows, HasAdded}
+use Rattle.golf_explore.specs.Visiting.{HasEdges, HasTurned, HasExpanded, HasVisited, HasChoices, IsDone, AreDone}
+use Rattle.golf_explore.proofs.Growing.{grows-same, grows-trans, grown-by, grown-get, grown-back, get-states}
+use Rattle.golf_explore.proofs.Growing.{get-within, get-pushed}
 
-below-or-last : (k n : ℕ) → k < suc n → (k < n) ⊎ (k ≡ n)
+pub below-or-last : (k n : ℕ) → k < suc n → (k < n) ⊎ (k ≡ n)
 below-or-last zero zero l = inr refl
 below-or-last zero (suc n) l = inl (omega arith)
 below-or-last (suc k) zero l = absurd (omega (arith, l))
@@ -31,64 +37,75 @@ path-grown code old new at path g p = record {
   on = p.on;
 }
 
+pub edges-same : (es : List Edge) → HasEdges es es
+edges-same es = ([], sym (append-nil es))
+
 module _ (code : Code) (old : List Visit) (s : State) where
   -- ---- choices at a place
 
-  pub turned-none : (place count : ℕ) → AreVisits code old → HasTurned code old old s place count 0
-  turned-none place count are = record {
+  pub turned-none : (es : List Edge) (place count : ℕ) → AreVisits code old
+      → HasTurned code old old es es s place count 0
+  turned-none es place count are = record {
     grows = grows-same old;
     visits = are;
+    edges = edges-same es;
     has = λ choice below. absurd (omega (arith, below));
   }
 
-  more-has : (mid new : List Visit) (place count choice number : ℕ) → HasTurned code old mid s place count choice
-      → HasAdded code mid new (after code s number) → number ≡ choice * count + place
-      → (k : ℕ) → (k < choice) ⊎ (k ≡ choice) → In (after code s (k * count + place)) (states new)
-  more-has mid new place count choice number t a is k (inl below) =
-      grown-in mid new a.grows (after code s (k * count + place)) (t.has k below)
-  more-has mid new place count choice number t a is k (inr last) =
-      subst (λ n. In (after code s n) (states new)) (is ∙ ap (λ c. c * count + place) (sym last)) a.has
+  module _ (mid new : List Visit) (before at now : List Edge) (place count choice number : ℕ)
+      (t : HasTurned code old mid before at s place count choice)
+      (a : HasAdded code mid new at now (after code s number)) (is : number ≡ choice * count + place) where
+    more-has : (k : ℕ) → (k < choice) ⊎ (k ≡ choice)
+        → SettlesBy code (states new) now (after code s (k * count + place))
+    more-has k (inl below) = grown-by mid new a.grows code at now (a.edge ∷ [], a.adds)
+        (after code s (k * count + place)) (t.has k below)
+    more-has k (inr last) =
+        subst (λ n. SettlesBy code (states new) now (after code s n)) (is ∙ ap (λ c. c * count + place) (sym last))
+        (a.edge, subst (In a.edge) (sym a.adds) (In-right a.edge at (a.edge ∷ []) (inl refl)), a.has)
 
-  pub turned-more : (mid new : List Visit) (place count choice number : ℕ) → HasTurned code old mid s place count choice
-      → HasAdded code mid new (after code s number) → number ≡ choice * count + place
-      → HasTurned code old new s place count (choice + 1)
-  turned-more mid new place count choice number t a is = record {
-    grows = grows-trans old mid new t.grows a.grows;
-    visits = a.visits;
-    has = λ k below. more-has mid new place count choice number t a is k
-        (below-or-last k choice (omega (arith, below)));
-  }
+    pub turned-more : HasTurned code old new before now s place count (choice + 1)
+    turned-more = record {
+      grows = grows-trans old mid new t.grows a.grows;
+      visits = a.visits;
+      edges = (
+        t.edges.0 ++ a.edge ∷ [],
+        a.adds ∙ ap (λ (es : List Edge). es ++ a.edge ∷ []) t.edges.1 ∙ append_assoc before t.edges.0 (a.edge ∷ []),
+      );
+      has = λ k below. more-has k (below-or-last k choice (omega (arith, below)));
+    }
 
   -- ---- places
 
-  -- the turns at the places below this one lead into the list
-  abbrev pub HasPlaces : List Visit → ℕ → Type 0
-  HasPlaces new count = (place choice : ℕ) → place < count → IsTurn code s place choice
-      → In (after_turn code s place choice) (states new)
+  -- the states after the turns at the places below this one settle in the list
+  abbrev pub HasPlaces : List Visit → List Edge → ℕ → Type 0
+  HasPlaces new es count = (place choice : ℕ) → place < count → IsTurn code s place choice
+      → SettlesBy code (states new) es (after_turn code s place choice)
 
-  more-places : (mid new : List Visit) (place choices : ℕ) → Grows mid new → HasPlaces mid place
-      → ((choice : ℕ) → choice < choices → In (after code s (choice * length (runnable s) + place)) (states new))
-      → turn_last_choice code s (slice_get (runnable s) place) < choices
-      → (k choice : ℕ) → (k < place) ⊎ (k ≡ place) → IsTurn code s k choice
-      → In (after_turn code s k choice) (states new)
-  more-places mid new place choices g were has last k choice (inl below) t =
-      grown-in mid new g (after_turn code s k choice) (were k choice below t)
-  more-places mid new place choices g were has last k choice (inr is) t =
-      let u = subst (λ p. IsTurn code s p choice) is t in
-      let up = u.1 in
-      subst (λ p. In (after_turn code s p choice) (states new)) (sym is) (has choice (omega (arith, up, last)))
+  module _ (mid new : List Visit) (at now : List Edge) (place choices : ℕ) (were : HasPlaces mid at place)
+      (last : turn_last_choice code s (slice_get (runnable s) place) < choices) where
+    more-places : Grows mid new → HasEdges at now
+        → ((choice : ℕ) → choice < choices
+        → SettlesBy code (states new) now (after code s (choice * length (runnable s) + place)))
+        → (k choice : ℕ) → (k < place) ⊎ (k ≡ place) → IsTurn code s k choice
+        → SettlesBy code (states new) now (after_turn code s k choice)
+    more-places g m has k choice (inl below) t =
+        grown-by mid new g code at now m (after_turn code s k choice) (were k choice below t)
+    more-places g m has k choice (inr is) t =
+        let u = subst (λ p. IsTurn code s p choice) is t in
+        let up = u.1 in
+        subst (λ p. SettlesBy code (states new) now (after_turn code s p choice)) (sym is)
+        (has choice (omega (arith, up, last)))
 
-  pub places-more : (mid new : List Visit) (place count choices : ℕ) → HasPlaces mid place
-      → HasTurned code mid new s place count choices → count ≡ length (runnable s)
-      → turn_last_choice code s (slice_get (runnable s) place) < choices → HasPlaces new (place + 1)
-  places-more mid new place count choices were t is last k choice below =
-      more-places mid new place choices t.grows were
-      (λ c b. subst (λ n. In (after code s (c * n + place)) (states new)) is (t.has c b)) last k choice
-      (below-or-last k place (omega (arith, below)))
+    pub places-more : (count : ℕ) → HasTurned code mid new at now s place count choices → count ≡ length (runnable s)
+        → HasPlaces new now (place + 1)
+    places-more count t is k choice below =
+        more-places t.grows t.edges
+        (λ c b. subst (λ n. SettlesBy code (states new) now (after code s (c * n + place))) is (t.has c b)) k choice
+        (below-or-last k place (omega (arith, below)))
 
-  pub expanded : (new : List Visit) (count : ℕ) → Grows old new → AreVisits code new → HasPlaces new count
-      → count ≡ length (runnable s) → HasExpanded code old new s
-  expanded new count g are has all = record {
+  pub expanded : (new : List Visit) (es : List Edge) (count : ℕ) → Grows old new → AreVisits code new
+      → HasPlaces new es count → count ≡ length (runnable s) → HasExpanded code old new es s
+  expanded new es count g are has all = record {
     grows = g;
     visits = are;
     done = λ goes place choice t. let below = t.0 in has place choice (omega (arith, below, all)) t;
@@ -105,10 +122,13 @@ module _ (code : Code) (old : List Visit) (at : ℕ) (v : Visit) (got : slice_ge
   stands : (s : State) → slice_get (states old) at ≡ Some s → silent v.state ≡ s
   stands s h = let e : Some (silent v.state) ≡ Some s = sym (get-states old at v got) ∙ h in cc
 
-  pub visited-end : AreVisits code old → is_some (ending v.state) ≡ true → HasVisited code old old at
-  visited-end are ends = record {
+  pub visited-end : AreVisits code old → is_some (ending v.state) ≡ true → (before now : List (List Edge))
+      → now ≡ before ++ [] ∷ [] → HasVisited code old old before now at
+  visited-end are ends before now adds = record {
     grows = grows-same old;
     visits = are;
+    ways = [];
+    adds = adds;
     done = λ s h goes. let e : is_some (ending v.state) ≡ false = ap is_some (ap ending (stands s h) ∙ goes) in let f =
         sym ends ∙ e in cc;
   }
@@ -129,24 +149,39 @@ module _ (code : Code) (old : List Visit) (at : ℕ) (v : Visit) (got : slice_ge
       (record { count = h.count; each = h.each })
 
   pub visited-all : AreVisits code old → (path : List ℕ) → IsPathTo old at path → (new : List Visit)
-      → HasExpanded code old new (after_all code (start code) path) → HasVisited code old new at
-  visited-all are path p new e = record {
+      → (ways : List Edge) → HasExpanded code old new ways (after_all code (start code) path)
+      → (before now : List (List Edge)) → now ≡ before ++ ways ∷ [] → HasVisited code old new before now at
+  visited-all are path p new ways e before now adds = record {
     grows = e.grows;
     visits = e.visits;
-    done = λ s h. subst (λ (t : State). IsDone code (states new) t) (path-leads are path p ∙ stands s h) e.done;
+    ways = ways;
+    adds = adds;
+    done = λ s h. subst (λ (t : State). IsDone code (states new) ways t) (path-leads are path p ∙ stands s h) e.done;
   }
 
 -- ---- the visits that are done
 
-module _ (code : Code) (mid new : List Visit) (at : ℕ) (within : at < length mid) (more : HasVisited code mid new at)
-    (were : AreDone code (states mid) at) where
-  done-at : (k : ℕ) (s : State) → (k < at) ⊎ (k ≡ at) → slice_get (states new) k ≡ Some s → IsDone code (states new) s
-  done-at k s (inl below) h goes place choice t =
-      grown-in mid new more.grows (after_turn code s place choice)
-      (were k s below (grown-back mid new more.grows k s (omega (arith, below, within)) h) goes place choice t)
-  done-at k s (inr is) h goes place choice t =
-      more.done s (grown-back mid new more.grows at s within (ap (slice_get (states new)) (sym is) ∙ h)) goes place
-      choice t
+module _ (code : Code) (mid new : List Visit) (before now : List (List Edge)) (at : ℕ) (within : at < length mid)
+    (more : HasVisited code mid new before now at) (count : length before ≡ at)
+    (were : AreDone code (states mid) before) where
+  done-at : (k : ℕ) (s : State) (es : List Edge)
+      → (slice_get before k ≡ Some es) ⊎ ((k ≡ length before) × (es ≡ more.ways)) → slice_get (states new) k ≡ Some s
+      → IsDone code (states new) es s
+  done-at k s es (inl got) h goes place choice t =
+      let below = get-within before k es got in
+      grown-by mid new more.grows code es es (edges-same es) (after_turn code s place choice)
+      (were k s es got (grown-back mid new more.grows k s (omega (arith, below, count, within)) h) goes place choice t)
+  done-at k s es (inr last) h goes place choice t =
+      let here : slice_get (states new) at ≡ Some s = ap (slice_get (states new)) (sym (last.0 ∙ count)) ∙ h in
+      subst (λ ws. IsDone code (states new) ws s) (sym last.1)
+      (more.done s (grown-back mid new more.grows at s within here)) goes place choice t
 
-  pub done-more : AreDone code (states new) (at + 1)
-  done-more k s below h = done-at k s (below-or-last k at (omega (arith, below))) h
+  pub done-more : AreDone code (states new) now
+  done-more k s es got h = done-at k s es
+      (get-pushed before more.ways k es (sym (ap (λ (xs : List (List Edge)). slice_get xs k) more.adds) ∙ got)) h
+
+  pub count-more : length now ≡ at + 1
+  count-more =
+      let a = ap length more.adds in
+      let b = length-append before (more.ways ∷ []) in
+      omega (arith, a, b, count)

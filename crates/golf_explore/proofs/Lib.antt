@@ -1,7 +1,9 @@
 pub mod Turns
+pub mod Settled
 pub mod Growing
 pub mod Parents
 pub mod DeadFlags
-pub mod Searched
 pub mod Leading
 mod Seekings
+pub mod Falling
+pub mod Searched

@@ -3,8 +3,7 @@
 -- specs/Telling.antt
 -- By: the laws of closed lists, and induction over the list of visits
 use Rattle.std.proofs.Common.{◌≡◌, ℕ, zero, suc, ◌<◌, List, [], ◌∷◌, ◌++◌, length, Bool, true, false, Option, Some}
-use Rattle.std.proofs.Common.{None}
-use Rattle.std.proofs.Common.{slice_get, inl, inr, refl, sym, ap, ◌∙◌, subst, arith}
+use Rattle.std.proofs.Common.{None, slice_get, inl, inr, refl, sym, ap, ◌∙◌, subst, arith}
 use Rattle.std.proofs.lemmas.Bool.{or_parts}
 use Rattle.golf_theory.specs.Membership.{In}
 use Rattle.golf_theory.proofs.Lists.{In-slice_get}
@@ -13,24 +12,23 @@ use Rattle.golf_data.specs.declared.code.Code.{Code}
 use Rattle.golf_data.specs.declared.goroutine.Ending.{Ending}
 use Rattle.golf_model.specs.State.{State, ending, start}
 use Rattle.golf_model.specs.Living.{live_list}
-use Rattle.golf_explore_laws.specs.Closed.{silent, IsPlain, IsClosed, NoneDead, NoneEnds}
+use Rattle.golf_explore_laws.specs.After.{silent, after_all}
+use Rattle.golf_explore_laws.specs.Closed.{after_turn, IsTurn, SettlesIn, IsClosed, NoneDead, NoneEnds}
 use Rattle.golf_explore_laws.specs.Laws.{is_panic, is_asleep}
 use Rattle.golf_explore_laws.proofs.MainLaws.{closed_lists_never_leak, closed_lists_never_report}
 use Rattle.golf_explore_laws.proofs.MainLaws.{closed_lists_report_nobody, closed_lists_never_end}
 use Rattle.golf_explore.specs.declared.exploring.Explored.{Explored}
 use Rattle.golf_explore.specs.declared.exploring.Visited.{Visited}
 use Rattle.golf_explore.specs.declared.visits.Came.{Came}
+use Rattle.golf_explore.specs.declared.visits.Edge.{Edge}
 use Rattle.golf_explore.specs.declared.visits.Visit.{Visit}
-use Rattle.golf_explore.specs.Visiting.{states, after, after_all, IsFrom, IsWell, AreVisits, LeadsTo, AreDone, ends_by}
+use Rattle.golf_explore.specs.Ranking.{HaveRanks}
+use Rattle.golf_explore.specs.Visiting.{states, IsFrom, IsWell, AreVisits, LeadsTo, AreDone, ends_by}
 use Rattle.golf_explore.specs.Visiting.{has_ended_by}
-use Rattle.golf_explore.specs.Telling.{run_of, some_ended, CanEnd, Decides, Tells, HasTold}
+use Rattle.golf_explore.specs.Telling.{run_of, some_ended, CanEnd, Decides, EndsIf, Tells, HasTold}
 use Rattle.golf_explore.proofs.Growing.{states-length, get-states}
-use Rattle.golf_explore.proofs.Turns.{all-append, goes-append, run-goes}
-
-In-get : {X : Type 0} (xs : List X) (x : X) → In x xs → (i : ℕ) × (i < length xs) × (slice_get xs i ≡ Some x)
-In-get [] x h = absurd h
-In-get (y ∷ xs) x (inl e) = (0, omega arith, ap Some (sym e))
-In-get (y ∷ xs) x (inr h) = let r = In-get xs x h in let l = r.1 in (suc r.0, omega (arith, l), r.2)
+use Rattle.golf_explore.proofs.Falling.{In-get, get-there, always-ends}
+use Rattle.golf_explore.proofs.Turns.{leads-append, run-goes}
 
 -- ---- the turns that lead to a visit
 
@@ -48,26 +46,17 @@ module _ (code : Code) (vs : List Visit) (are : AreVisits code vs) where
 
   -- they lead to a visit if they lead to all that stand before it
   path-by : (at : ℕ) (t : State) → ((k : ℕ) (s : State) → k < at → slice_get (states vs) k ≡ Some s → IsLed s)
-      → In t (states vs) → (came : Option Came) → IsFrom code vs at t came → IsLed t
-  path-by at t before i None from = ([], (sym from, tt))
-  path-by at t before i (Some came) from =
+      → (came : Option Came) → IsFrom code vs at t came → IsLed t
+  path-by at t before None from = ([], (sym from, tt))
+  path-by at t before (Some came) from =
       let p = before came.parent from.parent from.earlier from.stands in
-      let led = p.1.0 in
-      let is : t ≡ after code (after_all code (start code) p.0) came.number = from.leads
-      ∙ ap (λ (s : State). after code s came.number) (sym led) in (
-        p.0 ++ came.number ∷ [],
-        (
-          all-append code p.0 (start code) came.number ∙ sym is,
-          goes-append code p.0 (start code) came.number p.1.1 (ap ending led ∙ from.goes)
-              (subst IsPlain is (λ goes. (are.well t i goes).0)),
-        ),
-      )
+      (p.0 ++ came.numbers, leads-append code (start code) from.parent t p.0 came.numbers p.1 from.leads)
 
   path-to : (n at : ℕ) (t : State) → at < n → slice_get (states vs) at ≡ Some t → IsLed t
   path-to zero at t l h = absurd (omega (arith, l))
   path-to (suc n) at t l h =
       let v = visit-at vs at t h in
-      path-by at t (λ k s below g. path-to n k s (omega (arith, below, l)) g) (In-slice_get (states vs) at t h) v.0.came
+      path-by at t (λ k s below g. path-to n k s (omega (arith, below, l)) g) v.0.came
       (subst (λ s. IsFrom code vs at s v.0.came) v.2 (are.from at v.0 v.1))
 
   -- ---- endings
@@ -94,30 +83,45 @@ module _ (code : Code) (vs : List Visit) (are : AreVisits code vs) where
       let r = from_any_of (λ (v : Visit). has_ended_by is_one v.state) vs (sym is) in visit-ends is_one r.0 r.1 r.2
   decides is_one closed false is = closed_lists_never_end code (states vs) is_one closed (none-ends is_one vs (sym is))
 
-module _ (code : Code) (vs : List Visit) (count : ℕ) (are : AreVisits code vs) (done : AreDone code (states vs) count)
-    (all : count ≡ length vs) where
+module _ (code : Code) (vs : List Visit) (edges : List (List Edge)) (are : AreVisits code vs)
+    (done : AreDone code (states vs) edges) (all : length edges ≡ length vs) where
+  -- the state after a turn of a visit settles in the list by an edge
+  settles : (at : ℕ) (s : State) → at < length edges → slice_get (states vs) at ≡ Some s → ending s ≡ None
+      → (place choice : ℕ) → IsTurn code s place choice → SettlesIn code (states vs) (after_turn code s place choice)
+  settles at s within got goes place choice t =
+      let es = get-there edges at within in
+      let d = done at s es.0 es.1 got goes place choice t in
+      let to = d.2 in
+      (to.0, to.2, In-slice_get (states vs) d.0.to (after_all code (after_turn code s place choice) to.0) to.3)
+
   closed : IsClosed code (states vs)
   closed = record {
-    opening = are.opening;
+    opening = ([], tt, are.opening);
     plain = λ s i goes. (are.well s i goes).0;
     turns = λ s i goes place choice t.
         let r = In-get (states vs) s i in
         let l = r.1 in
         let e = states-length vs in
-        done r.0 s (omega (arith, l, e, all)) r.2 goes place choice t;
+        settles r.0 s (omega (arith, l, e, all)) r.2 goes place choice t;
   }
 
   alive : NoneDead (states vs)
   alive s i goes = (are.well s i goes).1
 
-  pub all-visited : (told : Visited) → HasTold vs count told → Tells code (Explored.AllVisited told)
-  all-visited told h = (
+  ends-if : (ends : Bool) → (ends ≡ true → HaveRanks edges) → EndsIf code ends
+  ends-if true ranks = let have = ranks refl in always-ends code vs edges are done all have.0 have.1
+  ends-if false ranks = tt
+
+  pub all-visited : (count : ℕ) (ends : Bool) (told : Visited) → count ≡ length vs → (ends ≡ true → HaveRanks edges)
+      → HasTold vs count ends told → Tells code (Explored.AllVisited told)
+  all-visited count ends told counted ranks h = (
     closed_lists_never_leak code (states vs) closed alive,
     closed_lists_never_report code (states vs) closed alive,
     closed_lists_report_nobody code (states vs) closed alive,
-    (states vs, closed, states-length vs ∙ sym all ∙ sym h.states),
+    (states vs, closed, states-length vs ∙ sym counted ∙ sym h.states),
     decides code vs are is_panic closed told.panics h.panics,
     decides code vs are is_asleep closed told.sleeps h.sleeps,
+    ends-if told.ends (λ yes. ranks (sym h.ends ∙ yes)),
   )
 
 pub opening-well : (code : Code) → IsWell (start code)

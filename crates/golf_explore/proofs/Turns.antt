@@ -1,19 +1,17 @@
 -- Turns one after another, and the run that they are.
--- For: `replay`, src/replaying.rt; `judge`, src/expanding.rt; `after_all` and `GoesOn`, specs/Visiting.antt
+-- For: `replay`, src/replaying.rt; `add`, src/expanding.rt; `GoesOn` and `LeadsTo`, specs/Visiting.antt
 -- By: induction over the list of numbers
 use Rattle.std.proofs.Common.{◌≡◌, ℕ, zero, suc, ◌+◌, List, [], ◌∷◌, ◌++◌, map, take, Bool, true, false, Option, Some}
 use Rattle.std.proofs.Common.{None, is_some, slice_get, refl, sym, ap, ◌∙◌, subst, arith}
 use Rattle.golf_data.specs.declared.code.Code.{Code}
-use Rattle.golf_model.specs.State.{State, not_empty, ending, start}
+use Rattle.golf_model.specs.State.{State, not_empty, ending}
 use Rattle.golf_data.specs.declared.goroutine.Ending.{Ending}
 use Rattle.golf_model.specs.Turn.{step}
-use Rattle.golf_model.specs.Living.{dead}
 use Rattle.golf_model.specs.Running.{Event, run}
-use Rattle.golf_explore_laws.specs.Closed.{silent, IsPlain}
-use Rattle.golf_explore_laws.proofs.Visiting.{silent-step, silent-dead, turn-happens}
-use Rattle.golf_explore.specs.declared.exploring.Explored.{Explored}
-use Rattle.golf_explore.specs.Visiting.{after, after_all, GoesOn}
-use Rattle.golf_explore.specs.Telling.{run_of, Tells}
+use Rattle.golf_explore_laws.specs.After.{silent, after, after_all}
+use Rattle.golf_explore_laws.specs.Closed.{IsPlain}
+use Rattle.golf_explore_laws.proofs.Visiting.{silent-step, turn-happens}
+use Rattle.golf_explore.specs.Visiting.{GoesOn, LeadsTo}
 
 module _ (code : Code) where
   all-more : (ns : List ℕ) (s : State) (i x : ℕ) → slice_get ns i ≡ Some x
@@ -35,17 +33,23 @@ module _ (code : Code) where
   goes-at (n ∷ ns) s zero x g h = g.0
   goes-at (n ∷ ns) s (suc i) x g h = goes-at ns (after code s n) i x g.2 h
 
-  -- ---- one more turn
+  -- ---- more turns
 
-  pub all-append : (ns : List ℕ) (s : State) (n : ℕ)
-      → after_all code s (ns ++ n ∷ []) ≡ after code (after_all code s ns) n
-  all-append [] s n = refl
-  all-append (m ∷ ns) s n = all-append ns (after code s m) n
+  pub all-append : (ns ms : List ℕ) (s : State) → after_all code s (ns ++ ms) ≡ after_all code (after_all code s ns) ms
+  all-append [] ms s = refl
+  all-append (n ∷ ns) ms s = all-append ns ms (after code s n)
 
-  pub goes-append : (ns : List ℕ) (s : State) (n : ℕ) → GoesOn code s ns → ending (after_all code s ns) ≡ None
-      → IsPlain (after code (after_all code s ns) n) → GoesOn code s (ns ++ n ∷ [])
-  goes-append [] s n g goes plain = (goes, plain, tt)
-  goes-append (m ∷ ns) s n g goes plain = (g.0, g.1, goes-append ns (after code s m) n g.2 goes plain)
+  pub goes-append : (ns ms : List ℕ) (s : State) → GoesOn code s ns → GoesOn code (after_all code s ns) ms
+      → GoesOn code s (ns ++ ms)
+  goes-append [] ms s g h = h
+  goes-append (n ∷ ns) ms s g h = (g.0, g.1, goes-append ns ms (after code s n) g.2 h)
+
+  pub leads-append : (s t u : State) (ns ms : List ℕ) → LeadsTo code s ns t → LeadsTo code t ms u
+      → LeadsTo code s (ns ++ ms) u
+  leads-append s t u ns ms p q = (
+    all-append ns ms s ∙ ap (λ (v : State). after_all code v ms) p.0 ∙ q.0,
+    goes-append ns ms s p.1 (subst (λ (v : State). GoesOn code v ms) (sym p.0) q.1),
+  )
 
   -- ---- as a run
 
@@ -59,17 +63,6 @@ module _ (code : Code) where
       ap (λ (u : State). silent (run code u (map Event.Turn ns))) (sym (turn-happens code s g.0 n (plain-step s n g.1)))
       ∙ run-goes ns (step code s n) (subst (λ (u : State). GoesOn code u ns) (sym (silent-step code s n)) g.2)
       ∙ ap (λ (u : State). after_all code u ns) (silent-step code s n)
-
-  -- a turn of a path leads to a state with a dead goroutine
-  pub leak-tells : (path more : List ℕ) (n : ℕ) (s : State) → GoesOn code (start code) path
-      → ending (after_all code (start code) path) ≡ None → s ≡ after code (after_all code (start code) path) n
-      → ending s ≡ None → IsPlain s → (dead s ≡ [] → ⊥) → more ≡ path ++ n ∷ [] → Tells code (Explored.Leak more)
-  leak-tells path more n s g goes is on plain dies longer =
-      let ran : silent (run_of code (path ++ n ∷ [])) ≡ s =
-      run-goes (path ++ n ∷ []) (start code) (goes-append path (start code) n g goes (subst IsPlain is plain))
-      ∙ all-append path (start code) n ∙ sym is in
-      subst (λ (ns : List ℕ). Tells code (Explored.Leak ns)) (sym longer)
-      (ap ending ran ∙ on, λ none. dies (sym (ap dead ran) ∙ silent-dead (run_of code (path ++ n ∷ [])) ∙ none))
 
 -- ---- what tests say
 

@@ -4,12 +4,13 @@ use Rattle.golf_data.specs.declared.code.Code.{Code}
 use Rattle.golf_model.specs.State.{State, ending, start}
 use Rattle.golf_model.specs.Futures.{Leads}
 use Rattle.golf_model.specs.Living.{dead}
+use Rattle.golf_explore_laws.specs.After.{after_all}
 use Rattle.golf_explore_laws.specs.Laws.{is_panic, is_asleep}
 use Rattle.golf_explore.specs.declared.attempting.Reached.{Reached}
 use Rattle.golf_explore.specs.declared.searching.SearchResult.{SearchResult}
 use Rattle.golf_explore.specs.declared.seeking.Sought.{Sought}
 use Rattle.golf_explore.specs.Telling.{run_of}
-use Rattle.golf_explore.specs.Visiting.{after_all, GoesOn, has_ended_by}
+use Rattle.golf_explore.specs.Visiting.{GoesOn, has_ended_by}
 
 -- the state is one that is sought
 abbrev pub IsFound : Sought → State → Type 0

@@ -6,12 +6,14 @@ use Rattle.golf_data.specs.declared.goroutine.Ending.{Ending}
 use Rattle.golf_model.specs.State.{State, not_empty, ending, start}
 use Rattle.golf_model.specs.Living.{dead}
 use Rattle.golf_model.specs.Running.{Event, run}
+use Rattle.golf_explore_laws.specs.After.{after_all}
 use Rattle.golf_explore_laws.specs.Closed.{IsClosed}
 use Rattle.golf_explore_laws.specs.Laws.{is_panic, is_asleep, NeverEnds, NeverLeaks, NeverReports, ReportsNobody}
+use Rattle.golf_explore_laws.specs.Laws.{AlwaysEnds}
 use Rattle.golf_explore.specs.declared.exploring.Explored.{Explored}
 use Rattle.golf_explore.specs.declared.exploring.Visited.{Visited}
 use Rattle.golf_explore.specs.declared.visits.Visit.{Visit}
-use Rattle.golf_explore.specs.Visiting.{after_all, has_ended_by}
+use Rattle.golf_explore.specs.Visiting.{has_ended_by}
 
 -- the state after the turns of these numbers, with the collections that instructions ask for
 abbrev pub run_of : Code → List ℕ → State
@@ -30,6 +32,11 @@ abbrev pub Decides : (Ending → Bool) → Code → Bool → Type 0
 Decides is_one code true = CanEnd is_one code
 Decides is_one code false = NeverEnds is_one code
 
+-- the flag is true only if there is a number of turns after which each run has an ending
+abbrev pub EndsIf : Code → Bool → Type 0
+EndsIf code true = AlwaysEnds code
+EndsIf code false = Unit {0}
+
 -- after some turns an object has a finaliser
 abbrev pub GivesFinaliser : Code → Type 0
 GivesFinaliser code = (numbers : List ℕ) × (not_empty (after_all code (start code) numbers).finalisers ≡ true)
@@ -38,19 +45,21 @@ GivesFinaliser code = (numbers : List ℕ) × (not_empty (after_all code (start 
 abbrev pub some_ended : (Ending → Bool) → List Visit → Bool
 some_ended is_one visits = any_of (λ v. has_ended_by is_one v.state) visits
 
--- the count of the visits, and whether some have ended by a panic, and some with all goroutines asleep
-pub record HasTold (visits : List Visit) (count : ℕ) (told : Visited) : Type 0 where
+-- the count of the visits, whether some have ended by a panic, and some with all goroutines asleep, and whether they
+-- have ranks
+pub record HasTold (visits : List Visit) (count : ℕ) (ranked : Bool) (told : Visited) : Type 0 where
   pub states : told.states ≡ count
   pub panics : told.panics ≡ some_ended is_panic visits
   pub sleeps : told.sleeps ≡ some_ended is_asleep visits
+  pub ends : told.ends ≡ ranked
 
 -- `AllVisited`: no run leaks, the states are counted, and the flags say whether a run panics and whether one falls
--- asleep. `Leak`: the run of these turns has no ending, and has a dead goroutine. `Finalisers`: some run gives an
--- object one. `TooMany`: it says nothing.
+-- asleep; if the third flag is true, each run ends. `Leak`: the run of these turns has no ending, and has a dead
+-- goroutine. `Finalisers`: some run gives an object one. `TooMany`: it says nothing.
 abbrev pub Tells : Code → Explored → Type 0
 Tells code (Explored.AllVisited told) =
     NeverLeaks code × NeverReports code × ReportsNobody code × HasClosed code told.states
-    × Decides is_panic code told.panics × Decides is_asleep code told.sleeps
+    × Decides is_panic code told.panics × Decides is_asleep code told.sleeps × EndsIf code told.ends
 Tells code (Explored.Leak numbers) = (ending (run_of code numbers) ≡ None) × (dead (run_of code numbers) ≡ [] → ⊥)
 Tells code Explored.Finalisers = GivesFinaliser code
 Tells code Explored.TooMany = Unit {0}

@@ -5,11 +5,13 @@ use Rattle.golf_theory.specs.Membership.{In}
 use Rattle.golf_data.specs.declared.code.Code.{Code}
 use Rattle.golf_data.specs.declared.goroutine.Ending.{Ending}
 use Rattle.golf_model.specs.State.{State, runnable, ending, start}
-use Rattle.golf_model.specs.Turn.{step}
 use Rattle.golf_model.specs.Living.{dead}
-use Rattle.golf_explore_laws.specs.Closed.{silent, after_turn, turn_last_choice, IsTurn, IsPlain}
+use Rattle.golf_explore_laws.specs.After.{silent, after, after_all}
+use Rattle.golf_explore_laws.specs.Closed.{after_turn, turn_last_choice, IsTurn, IsPlain}
 use Rattle.golf_explore.specs.declared.visits.Came.{Came}
+use Rattle.golf_explore.specs.declared.visits.Edge.{Edge}
 use Rattle.golf_explore.specs.declared.visits.Visit.{Visit}
+use Rattle.golf_explore.specs.Ranking.{SettlesAt, SettlesBy}
 
 -- the visited states
 abbrev pub states : List Visit → List State
@@ -17,31 +19,25 @@ states visits = map (λ v. silent v.state) visits
 
 -- ---- turns one after another
 
--- the state after the turn of this number
-abbrev pub after : Code → State → ℕ → State
-after code s number = silent (step code s number)
-
--- the state after the turns of these numbers
-abbrev pub after_all : Code → State → List ℕ → State
-after_all code s [] = s
-after_all code s (n ∷ ns) = after_all code (after code s n) ns
-
 -- each of these turns begins in a state without an ending, and reaches a plain state
 abbrev pub GoesOn : Code → State → List ℕ → Type 0
 GoesOn code s [] = Unit {0}
 GoesOn code s (n ∷ ns) = (ending s ≡ None) × IsPlain (after code s n) × GoesOn code (after code s n) ns
 
+-- the turns of these numbers lead from the first state to the second
+abbrev pub LeadsTo : Code → State → List ℕ → State → Type 0
+LeadsTo code s ns t = (after_all code s ns ≡ t) × GoesOn code s ns
+
 -- ---- visits
 
--- the state is the one after a turn of an earlier visit
+-- turns lead to the state from an earlier visit
 pub record IsNext (code : Code) (visits : List Visit) (at : ℕ) (s : State) (came : Came) : Type 0 where
   pub earlier : came.parent < at
   pub parent : State
   pub stands : slice_get (states visits) came.parent ≡ Some parent
-  pub goes : ending parent ≡ None
-  pub leads : s ≡ after code parent came.number
+  pub leads : LeadsTo code parent came.numbers s
 
--- the visit at this place is of the opening state, or of the state after a turn of an earlier visit
+-- the visit at this place is of the opening state, or turns lead to it from an earlier visit
 abbrev pub IsFrom : Code → List Visit → ℕ → State → Option Came → Type 0
 IsFrom code visits at s None = s ≡ start code
 IsFrom code visits at s (Some came) = IsNext code visits at s came
@@ -70,10 +66,6 @@ abbrev pub ParentsBelow : List Visit → Type 0
 ParentsBelow visits = (at : ℕ) (v : Visit) (came : Came) → slice_get visits at ≡ Some v → v.came ≡ Some came
     → came.parent < at
 
--- the turns of these numbers lead from the first state to the second
-abbrev pub LeadsTo : Code → State → List ℕ → State → Type 0
-LeadsTo code s ns t = (after_all code s ns ≡ t) × GoesOn code s ns
-
 -- the turns of these numbers lead from one visit to another
 abbrev pub Joins : List Visit → ℕ → List ℕ → ℕ → Type 0
 Joins visits here ns at = (code : Code) → AreVisits code visits → (s t : State)
@@ -90,6 +82,13 @@ pub record IsPathFor (code : Code) (visits : List Visit) (at : ℕ) (path : List
   pub stands : slice_get (states visits) at ≡ Some (after_all code (start code) path)
   pub on : ending (after_all code (start code) path) ≡ None
 
+-- These turns lead from the opening state to this one. There is at least one. If this state is plain, so is each state
+-- on the way.
+pub record IsTrail (code : Code) (numbers : List ℕ) (s : State) : Type 0 where
+  pub led : s ≡ after_all code (start code) numbers
+  pub goes : IsPlain s → GoesOn code (start code) numbers
+  pub some : 0 < length numbers
+
 -- ---- a search in progress
 
 -- a visit of this state, by this turn, was added at the end
@@ -100,39 +99,50 @@ HasPushed old new s came = (v : Visit) × (new ≡ old ++ v ∷ []) × (v.state 
 abbrev pub Grows : List Visit → List Visit → Type 0
 Grows old new = (more : List Visit) × (new ≡ old ++ more)
 
--- the list has grown and has the state
-pub record HasAdded (code : Code) (old new : List Visit) (s : State) : Type 0 where
+-- edges were added, and only at the end
+abbrev pub HasEdges : List Edge → List Edge → Type 0
+HasEdges before now = (more : List Edge) × (now ≡ before ++ more)
+
+-- the list has grown, and the state settles in it by an edge that was added
+pub record HasAdded (code : Code) (old new : List Visit) (before now : List Edge) (s : State) : Type 0 where
   pub grows : Grows old new
   pub visits : AreVisits code new
-  pub has : In s (states new)
+  pub edge : Edge
+  pub adds : now ≡ before ++ edge ∷ []
+  pub has : SettlesAt code (states new) edge s
 
--- The list has grown. It has the states after the turns of the goroutine at this place by the choices below `choices`.
--- The number of goroutines that can run is `count`.
-pub record HasTurned (code : Code) (old new : List Visit) (s : State) (place count choices : ℕ) : Type 0 where
+-- The list has grown, and so have the edges. By them the states after the turns of the goroutine at this place by the
+-- choices below `choices` settle in the list. The number of goroutines that can run is `count`.
+pub record HasTurned (code : Code) (old new : List Visit) (before now : List Edge) (s : State)
+    (place count choices : ℕ) : Type 0 where
   pub grows : Grows old new
   pub visits : AreVisits code new
-  pub has : (choice : ℕ) → choice < choices → In (after code s (choice * count + place)) (states new)
+  pub edges : HasEdges before now
+  pub has : (choice : ℕ) → choice < choices → SettlesBy code (states new) now (after code s (choice * count + place))
 
--- each turn of the state reaches a listed state
-abbrev pub IsDone : Code → List State → State → Type 0
-IsDone code visited s = ending s ≡ None → (place choice : ℕ) → IsTurn code s place choice
-    → In (after_turn code s place choice) visited
+-- the state after each turn of this state settles in the list by one of these edges
+abbrev pub IsDone : Code → List State → List Edge → State → Type 0
+IsDone code visited es s = ending s ≡ None → (place choice : ℕ) → IsTurn code s place choice
+    → SettlesBy code visited es (after_turn code s place choice)
 
--- this holds for each of the first `count` states of the list
-abbrev pub AreDone : Code → List State → ℕ → Type 0
-AreDone code visited count = (at : ℕ) (s : State) → at < count → slice_get visited at ≡ Some s → IsDone code visited s
+-- this holds for each state that has edges
+abbrev pub AreDone : Code → List State → List (List Edge) → Type 0
+AreDone code visited edges = (at : ℕ) (s : State) (es : List Edge) → slice_get edges at ≡ Some es
+    → slice_get visited at ≡ Some s → IsDone code visited es s
 
--- the list has grown, and has the state after each turn of this state
-pub record HasExpanded (code : Code) (old new : List Visit) (s : State) : Type 0 where
+-- the list has grown, and by these edges the state after each turn of this state settles in it
+pub record HasExpanded (code : Code) (old new : List Visit) (es : List Edge) (s : State) : Type 0 where
   pub grows : Grows old new
   pub visits : AreVisits code new
-  pub done : IsDone code (states new) s
+  pub done : IsDone code (states new) es s
 
--- the list has grown, and has the state after each turn of the visit at this place
-pub record HasVisited (code : Code) (old new : List Visit) (at : ℕ) : Type 0 where
+-- the list has grown, and by edges that were added the state after each turn of the visit at this place settles in it
+pub record HasVisited (code : Code) (old new : List Visit) (before now : List (List Edge)) (at : ℕ) : Type 0 where
   pub grows : Grows old new
   pub visits : AreVisits code new
-  pub done : (s : State) → slice_get (states old) at ≡ Some s → IsDone code (states new) s
+  pub ways : List Edge
+  pub adds : now ≡ before ++ ways ∷ []
+  pub done : (s : State) → slice_get (states old) at ≡ Some s → IsDone code (states new) ways s
 
 -- for each goroutine that can run a number above its last choice
 pub record HasChoices (code : Code) (s : State) (choices : List ℕ) : Type 0 where

@@ -1,13 +1,14 @@
 //! Visits the states after the turns of one visit.
 //!
-//! The state of a visit is made anew before each of its turns.
+//! The state of a visit is made anew before each of its turns. Frame-local turns follow a turn.
 
-ghost use Rattle.std.specs.Prelude.{◌≡◌, ◌<◌, ◌≤◌, ◌+◌, ◌*◌, ◌∷◌, ◌++◌, [], length, IfOk, IfSome, Some, None};
+ghost use Rattle.std.specs.Prelude.{◌≡◌, ◌<◌, ◌≤◌, ◌+◌, ◌*◌, ◌++◌, length, IfOk, IfSome, Some, None};
 ghost use Rattle.std.specs.Prelude.{slice_get, ℕ};
 ghost use Rattle.golf_data.specs.Places.{HasPlaces};
 ghost use Rattle.golf_model.specs.State.{State, ending, start as start_of};
 ghost use Rattle.golf_model.specs.Presence.{IsWhole};
-ghost use Rattle.golf_explore.specs.Visiting.{states, after, after_all, GoesOn, IsWell, AreVisits, HasAdded, HasTurned};
+ghost use Rattle.golf_explore_laws.specs.After.{after, after_all};
+ghost use Rattle.golf_explore.specs.Visiting.{states, GoesOn, IsWell, IsTrail, AreVisits, HasAdded, HasTurned};
 ghost use Rattle.golf_explore.specs.Visiting.{HasExpanded, HasVisited, HasChoices, IsPathFor};
 ghost use Rattle.golf_explore.specs.Telling.{Unless};
 
@@ -15,36 +16,29 @@ use crate::choices::choices;
 use crate::dying::has_dead;
 use crate::exploring::Explored;
 use crate::hashing::hash_of;
-use crate::paths::path_to;
-use crate::replaying::{replay, take};
-use crate::visits::{Came, Visits};
+use crate::paths::{joined, path_to};
+use crate::replaying::replay;
+use crate::seeking::Sought;
+use crate::settling::take_and_settle;
+use crate::shortening::shortened;
+use crate::visits::{Came, Edge, Visits};
 use golf_base::{List, Memory};
 use golf_data::Code;
 use golf_state::State;
 use std::alloc::Global;
 
-/// Returns these numbers, and one more at the end.
-pub(crate) fn longer(alloc: Global, numbers: &[u64], number: u64) -> Result<List<u64>, Memory>
-    ensures { IfOk result (λ more. more ≡ numbers.now ++ number ∷ []) }
-{
-    let mut more = List::new(alloc);
-    more.extend_from_slice(numbers)?;
-    more.push(number)?;
-    Ok(more)
-}
-
-// Whether the search ends at the state after the turns of a path and one more turn. `None` if it goes on.
+// Whether the search ends at the state that the turns of a path and then these turns reach. `None` if it goes on. The
+// turns of a leak are made fewer.
 fn judge(
     alloc: Global,
     code: &Code,
     state: &State,
     path: &[u64],
-    number: u64,
+    numbers: &[u64],
 ) -> Result<Option<Explored>, Memory>
+    requires places { HasPlaces code.now }
     requires whole { IsWhole state.now }
-    requires goes { GoesOn code.now (start_of code.now) path.now }
-    requires on { ending (after_all code.now (start_of code.now) path.now) ≡ None }
-    requires state { state.now ≡ after code.now (after_all code.now (start_of code.now) path.now) number }
+    requires trail { IsTrail code.now (path.now ++ numbers.now) state.now }
     ensures { IfOk result (Unless code.now (IsWell state.now)) }
 {
     if state.ending().is_some() {
@@ -54,7 +48,9 @@ fn judge(
         return Ok(Some(Explored::Finalisers));
     }
     if has_dead(alloc, state)? {
-        return Ok(Some(Explored::Leak(longer(alloc, path, number)?)));
+        let turns = joined(alloc, path, numbers)?;
+        let fewer = shortened(alloc, code, Sought::Leak, turns)?;
+        return Ok(Some(Explored::Leak(fewer)));
     }
     Ok(None)
 }
@@ -66,40 +62,48 @@ struct Origin<'a> {
     at: u32,
     // The turns that lead to it.
     path: &'a [u64],
+    // How many goroutines can run.
+    count: u64,
     // The most visits that the search makes.
     most: u32,
 }
 
-// Visits the state after a turn of a visit, unless it was visited already.
+// Visits the state after a turn of a visit and frame-local turns, unless it was visited already. Adds the edge to it.
 fn add(
     alloc: Global,
     code: &Code,
     visits: &mut Visits,
+    edges: &mut List<Edge>,
     origin: Origin<'_>,
     number: u64,
 ) -> Result<Option<Explored>, Memory>
     requires places { HasPlaces code.now }
     requires visits { AreVisits code.now visits.old.list }
     requires path { IsPathFor code.now visits.old.list origin.at origin.path.now }
-    ensures { IfOk result (Unless code.now (HasAdded code.now visits.old.list visits.new.list (after code.now (after_all code.now (start_of code.now) origin.entry.path.now) number))) }
+    ensures { IfOk result (Unless code.now (HasAdded code.now visits.old.list visits.new.list edges.old edges.new (after code.now (after_all code.now (start_of code.now) origin.entry.path.now) number))) }
 {
     let mut state = replay(alloc, code, origin.path)?;
-    take(alloc, code, &mut state, number)?;
+    let numbers = take_and_settle(alloc, code, &mut state, number)?;
     let hash = hash_of(alloc, &state)?;
-    if visits.contains(alloc, &state, hash)? {
+    let turns = numbers.len() as u64;
+    if let Some(to) = visits.find(alloc, &state, hash)? {
+        edges.push(Edge { to, turns })?;
         return Ok(None);
     }
-    if let Some(explored) = judge(alloc, code, &state, origin.path, number)? {
+    if let Some(explored) = judge(alloc, code, &state, origin.path, numbers.as_slice())? {
         return Ok(Some(explored));
     }
-    if visits.list.len() >= origin.most as usize {
+    let place = visits.list.len();
+    if place >= origin.most as usize {
         return Ok(Some(Explored::TooMany));
     }
+    let to = place as u32;
     let came = Came {
         parent: origin.at,
-        number,
+        numbers,
     };
     visits.push(state, Some(came), hash)?;
+    edges.push(Edge { to, turns })?;
     Ok(None)
 }
 
@@ -117,21 +121,21 @@ fn add_choices(
     alloc: Global,
     code: &Code,
     visits: &mut Visits,
+    edges: &mut List<Edge>,
     origin: Origin<'_>,
     place: u64,
-    count: u64,
     choices: u64,
 ) -> Result<Option<Explored>, Memory>
     requires places { HasPlaces code.now }
     requires visits { AreVisits code.now visits.old.list }
     requires path { IsPathFor code.now visits.old.list origin.at origin.path.now }
-    ensures { IfOk result (Unless code.now (HasTurned code.now visits.old.list visits.new.list (after_all code.now (start_of code.now) origin.entry.path.now) place count choices)) }
+    ensures { IfOk result (Unless code.now (HasTurned code.now visits.old.list visits.new.list edges.old edges.new (after_all code.now (start_of code.now) origin.entry.path.now) place origin.entry.count choices)) }
 {
     for choice in 0..choices {
-        let Some(number) = number_of(place, choice, count) else {
+        let Some(number) = number_of(place, choice, origin.count) else {
             return Ok(Some(Explored::TooMany));
         };
-        if let Some(explored) = add(alloc, code, visits, origin, number)? {
+        if let Some(explored) = add(alloc, code, visits, edges, origin, number)? {
             return Ok(Some(explored));
         }
     }
@@ -143,6 +147,7 @@ fn add_places(
     alloc: Global,
     code: &Code,
     visits: &mut Visits,
+    edges: &mut List<Edge>,
     origin: Origin<'_>,
     choices: &[u64],
 ) -> Result<Option<Explored>, Memory>
@@ -150,34 +155,37 @@ fn add_places(
     requires visits { AreVisits code.now visits.old.list }
     requires path { IsPathFor code.now visits.old.list origin.at origin.path.now }
     requires choices { HasChoices code.now (after_all code.now (start_of code.now) origin.path.now) choices.now }
-    ensures { IfOk result (Unless code.now (HasExpanded code.now visits.old.list visits.new.list (after_all code.now (start_of code.now) origin.entry.path.now))) }
+    requires count { origin.count ≡ length choices.now }
+    ensures { IfOk result (Unless code.now (HasExpanded code.now visits.old.list visits.new.list edges.new (after_all code.now (start_of code.now) origin.entry.path.now))) }
 {
-    let count = choices.len() as u64;
     for place in 0..choices.len() {
         let here = place as u64;
         let more = choices[place];
-        if let Some(explored) = add_choices(alloc, code, visits, origin, here, count, more)? {
+        if let Some(explored) = add_choices(alloc, code, visits, edges, origin, here, more)? {
             return Ok(Some(explored));
         }
     }
     Ok(None)
 }
 
-/// Visits those states after the turns of a visit that were not visited already.
+/// Visits those states after the turns of a visit that were not visited already. Adds the edges of the visit.
 pub(crate) fn expand(
     alloc: Global,
     code: &Code,
     visits: &mut Visits,
+    edges: &mut List<List<Edge>>,
     most: u32,
     at: u32,
 ) -> Result<Option<Explored>, Memory>
     requires places { HasPlaces code.now }
     requires visits { AreVisits code.now visits.old.list }
     requires at { at < length visits.old.list }
-    ensures { IfOk result (Unless code.now (HasVisited code.now visits.old.list visits.new.list at)) }
+    ensures { IfOk result (Unless code.now (HasVisited code.now visits.old.list visits.new.list edges.old edges.new at)) }
 {
     let state = &visits.list.as_slice()[at as usize].state;
+    let mut ways = List::new(alloc);
     if state.ending().is_some() {
+        edges.push(ways)?;
         return Ok(None);
     }
     let choices = choices(alloc, code, state)?;
@@ -186,10 +194,19 @@ pub(crate) fn expand(
     let origin = Origin {
         at,
         path: turns,
+        count: choices.len() as u64,
         most,
     };
-    if let Some(explored) = add_places(alloc, code, visits, origin, choices.as_slice())? {
+    if let Some(explored) = add_places(
+        alloc,
+        code,
+        visits,
+        &mut ways,
+        origin,
+        choices.as_slice(),
+    )? {
         return Ok(Some(explored));
     }
+    edges.push(ways)?;
     Ok(None)
 }

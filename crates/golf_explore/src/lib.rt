@@ -3,9 +3,12 @@
 //! - `explore`: looks for a dead goroutine in all schedules.
 //! - `search`: looks for a leak, a panic or a sleep by a rising number of preemptions.
 //!
-//! A search visits each state that turns reach once. A visit keeps its state, and the turn that led to
-//! it from an earlier visit. No state is copied: the turns of its path make it anew, and one more turn
-//! leads on from it. States are compared exactly. Hashes only find the states to compare.
+//! A search visits a state once. A visit keeps its state, and the turns that led to it from an earlier visit. No state
+//! is copied: the turns of its path make it anew, and one more turn leads on from it. States are compared exactly.
+//! Hashes only find the states to compare.
+//!
+//! `explore` does not visit each state that turns reach. After a turn it takes frame-local turns at once, and visits
+//! only the state after them. What it says holds for each state.
 #![tactic(auto)]
 
 mod attempting;
@@ -16,9 +19,11 @@ mod expanding;
 mod exploring;
 mod hashing;
 mod paths;
+mod ranking;
 mod replaying;
 mod searching;
 mod seeking;
+mod settling;
 mod shortening;
 mod visits;
 

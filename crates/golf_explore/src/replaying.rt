@@ -4,7 +4,8 @@ ghost use Rattle.std.specs.Prelude.{◌≡◌, None, IfOk, OnOk};
 ghost use Rattle.golf_data.specs.Places.{HasPlaces};
 ghost use Rattle.golf_model.specs.State.{ending, start as start_of};
 ghost use Rattle.golf_model.specs.Futures.{Leads};
-ghost use Rattle.golf_explore.specs.Visiting.{after, after_all, GoesOn};
+ghost use Rattle.golf_explore_laws.specs.After.{after, after_all};
+ghost use Rattle.golf_explore.specs.Visiting.{GoesOn};
 
 use golf_base::Memory;
 use golf_data::Code;

@@ -3,7 +3,7 @@
 //! First come the schedules without a preemption, then those with one, and so on. The nearest states come first. Only
 //! the order in which states are visited, and so the running time, rests on the lists of a search.
 
-ghost use Rattle.std.specs.Prelude.{◌<◌, IfOk, IfSome};
+ghost use Rattle.std.specs.Prelude.{◌≡◌, ◌<◌, ◌∷◌, ◌++◌, [], IfOk, IfSome};
 ghost use Rattle.golf_data.specs.Places.{HasPlaces};
 ghost use Rattle.golf_data.specs.declared.code.Code.{Code as CodeOf};
 ghost use Rattle.golf_explore.specs.declared.seeking.Sought.{Sought as SoughtOf};
@@ -11,8 +11,9 @@ ghost use Rattle.golf_explore.specs.Seeking.{Finds};
 
 use crate::attempting::{Reached, attempt, can_run};
 use crate::choices::choices;
-use crate::expanding::{longer, number_of};
+use crate::expanding::number_of;
 use crate::hashing::hash_of;
+use crate::paths::add_backwards;
 use crate::seeking::{Sought, is_found};
 use crate::shortening::shortened;
 use crate::visits::{Came, Visit, Visits};
@@ -108,10 +109,10 @@ fn goes_on(state: &State, last: Option<GoroutineId>) -> bool {
 }
 
 // The turn that led to a visit, if it began in an earlier one.
-fn came_to(visits: &[Visit], at: u32) -> Option<Came>
-    ensures { IfSome result (λ came. came.parent < at) }
+fn came_to(visits: &[Visit], at: u32) -> Option<&Came>
+    ensures { IfSome result (λ came. came.now.parent < at) }
 {
-    let came = visits.get(at as usize)?.came?;
+    let came = visits.get(at as usize)?.came.as_ref()?;
     if came.parent < at { Some(came) } else { None }
 }
 
@@ -120,11 +121,28 @@ fn numbers_to(alloc: Global, visits: &[Visit], at: u32) -> Result<List<u64>, Mem
     let mut numbers = Vec::new(alloc);
     let mut here = at;
     while let Some(came) = came_to(visits, here) {
-        numbers.push(came.number)?;
+        add_backwards(&mut numbers, came.numbers.as_slice())?;
         here = came.parent;
     }
     numbers.reverse();
     Ok(List::from_vec(numbers))
+}
+
+// These numbers, and one more at the end.
+fn longer(alloc: Global, numbers: &[u64], number: u64) -> Result<List<u64>, Memory>
+    ensures { IfOk result (λ more. more ≡ numbers.now ++ number ∷ []) }
+{
+    let mut more = List::new(alloc);
+    more.extend_from_slice(numbers)?;
+    more.push(number)?;
+    Ok(more)
+}
+
+// The turn of this number, from the visit at this place.
+fn came_by(alloc: Global, parent: u32, number: u64) -> Result<Came, Memory> {
+    let mut numbers = List::new(alloc);
+    numbers.push(number)?;
+    Ok(Came { parent, numbers })
 }
 
 impl Frontier {
@@ -146,24 +164,26 @@ impl Frontier {
         })
     }
 
-    // Keeps a state without an ending, unless it was visited already.
+    // Keeps a state without an ending, unless it was visited already. The turn of this number led to it.
     fn keep(
         &mut self,
         alloc: Global,
         most: u32,
         reached: Reached,
-        came: Came,
+        parent: u32,
+        number: u64,
     ) -> Result<Option<SearchResult>, Memory>
         ensures { (code : CodeOf) (sought : SoughtOf) → IfOk result (λ searched. IfSome searched (Finds code sought)) }
     {
         let hash = hash_with(hash_of(alloc, &reached.state)?, reached.runner);
-        if self.visits.contains(alloc, &reached.state, hash)? {
+        if self.visits.find(alloc, &reached.state, hash)?.is_some() {
             return Ok(None);
         }
         let place = self.visits.list.len();
         if place >= most as usize {
             return Ok(Some(SearchResult::TooMany));
         }
+        let came = came_by(alloc, parent, number)?;
         self.visits.push(reached.state, Some(came), hash)?;
         self.runners.push(reached.runner)?;
         self.here.push(place as u32)?;
@@ -176,13 +196,14 @@ impl Frontier {
         alloc: Global,
         code: &Code,
         aim: Aim,
-        came: Came,
+        parent: u32,
+        number: u64,
         path: &[u64],
     ) -> Result<Option<SearchResult>, Memory>
         requires { HasPlaces code.now }
         ensures { IfOk result (λ searched. IfSome searched (Finds code.now aim.sought)) }
     {
-        let numbers = longer(alloc, path, came.number)?;
+        let numbers = longer(alloc, path, number)?;
         let Some(reached) = attempt(alloc, code, numbers.as_slice())? else {
             return Ok(Some(SearchResult::Finalisers));
         };
@@ -192,7 +213,7 @@ impl Frontier {
         if reached.state.ending().is_some() {
             return Ok(None);
         }
-        self.keep(alloc, aim.states, reached, came)
+        self.keep(alloc, aim.states, reached, parent, number)
     }
 
     // Looks at turns of a visit: those that need no preemption, or the others.
@@ -222,11 +243,7 @@ impl Frontier {
         }
         let path = numbers_to(alloc, self.visits.list.as_slice(), at)?;
         for number in turns.as_slice() {
-            let came = Came {
-                parent: at,
-                number: *number,
-            };
-            if let Some(searched) = self.visit(alloc, code, aim, came, path.as_slice())? {
+            if let Some(searched) = self.visit(alloc, code, aim, at, *number, path.as_slice())? {
                 return Ok(Some(searched));
             }
         }

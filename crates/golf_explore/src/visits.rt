@@ -2,29 +2,37 @@
 //!
 //! A row of the table has the visits with the same upper bits of the hash, the latest one first.
 
-ghost use Rattle.std.specs.Prelude.{◌≡◌, [], ◌<◌, ◌^◌, true, length, IfOk, OnOk};
-ghost use Rattle.golf_theory.specs.Membership.{In};
-ghost use Rattle.golf_explore_laws.specs.Closed.{silent};
+ghost use Rattle.std.specs.Prelude.{◌≡◌, [], ◌<◌, ◌^◌, Some, length, slice_get, IfOk, IfSome, OnOk};
+ghost use Rattle.golf_explore_laws.specs.After.{silent};
 ghost use Rattle.golf_explore.specs.Visiting.{states, HasPushed};
 
 use golf_base::{List, Memory};
 use golf_state::State;
 use std::alloc::Global;
 
-/// The turn that led to a visit.
-#[derive(Clone, Copy)]
+/// The turns that led to a visit from an earlier one.
+#[derive(Drop)]
 pub(crate) struct Came {
-    /// The place of the visit in which the turn began.
+    /// The place of the visit in which the first turn began.
     pub(crate) parent: u32,
-    /// The number of the turn.
-    pub(crate) number: u64,
+    /// The numbers of the turns.
+    pub(crate) numbers: List<u64>,
+}
+
+/// The way of a turn of a visit to the visit of the state after it.
+#[derive(Clone, Copy, Debug, PartialEq, Eq)]
+pub(crate) struct Edge {
+    /// The place of the visit that it leads to.
+    pub(crate) to: u32,
+    /// How many turns it has: the turn itself, and the frame-local ones after it.
+    pub(crate) turns: u64,
 }
 
 /// A visited state.
 #[derive(Drop)]
 pub(crate) struct Visit {
     pub(crate) state: State,
-    /// The turn that led to it, or `None` for the opening state.
+    /// The turns that led to it, or `None` for the opening state.
     pub(crate) came: Option<Came>,
     /// The hash of the state.
     pub(crate) hash: u64,
@@ -68,21 +76,26 @@ impl Visits {
         self.rows.as_slice().get(row).copied().unwrap_or(u32::MAX)
     }
 
-    /// Returns whether the state was visited. The hash is its own. Output is not compared.
-    pub(crate) fn contains(&self, alloc: Global, state: &State, hash: u64) -> Result<bool, Memory>
-        ensures { IfOk result (λ found. found ≡ true → In (silent state.now) (states self.now.list)) }
+    /// Returns the place of the visit of the state, or `None`. The hash is its own. Output is not compared.
+    pub(crate) fn find(
+        &self,
+        alloc: Global,
+        state: &State,
+        hash: u64,
+    ) -> Result<Option<u32>, Memory>
+        ensures { IfOk result (λ found. IfSome found (λ at. slice_get (states self.now.list) at ≡ Some (silent state.now))) }
     {
         let mut at = self.last_of(row_of(hash));
         for _ in 0..self.list.len() {
             let Some(visit) = self.list.as_slice().get(at as usize) else {
-                return Ok(false);
+                return Ok(None);
             };
             if visit.hash == hash && visit.state.is(state, alloc)? {
-                return Ok(true);
+                return Ok(Some(at));
             }
             at = visit.before;
         }
-        Ok(false)
+        Ok(None)
     }
 
     /// Adds a visit at the end.

@@ -1,5 +1,5 @@
 -- The lines of the program that looks at every schedule (profile).
-use Rattle.std.specs.Prelude.{ℕ, ◌+◌, ◌/◌, Bool, true, false, if◌then◌else◌, List, ◌++◌, length, Some, None, nat_le, codes}
+use Rattle.std.specs.Prelude.{ℕ, ◌+◌, ◌/◌, Bool, true, false, if◌then◌else◌, List, [], ◌++◌, length, Some, None, nat_le, codes}
 use Rattle.std.specs.Prelude.{decimal}
 use Rattle.golf_explore.specs.declared.exploring.Visited.{Visited}
 use Rattle.golf_command_words.specs.Values.{most_choices}
@@ -34,9 +34,15 @@ sleeps_text false = codes "never all asleep\n"
 abbrev pub every_line : ℕ → List ℕ
 every_line states = codes "every schedule: " ++ (decimal states ++ codes " states, no leak\n")
 
--- no run leaks, and whether some run ends by a panic or with all asleep
+-- that each run ends; nothing is said if this was not found
+abbrev pub ends_text : Bool → List ℕ
+ends_text true = codes "always ends\n"
+ends_text false = []
+
+-- no run leaks, whether some run ends by a panic or with all asleep, and that each run ends
 abbrev pub visited_text : Visited → List ℕ
-visited_text told = (every_line told.states ++ panics_text told.panics) ++ sleeps_text told.sleeps
+visited_text told = ((every_line told.states ++ panics_text told.panics) ++ sleeps_text told.sleeps)
+    ++ ends_text told.ends
 
 -- ---- a leak
 

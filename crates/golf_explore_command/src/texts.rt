@@ -2,6 +2,7 @@
 
 ghost use Rattle.std.specs.Prelude.{◌≡◌, ◌++◌, IfOk};
 ghost use Rattle.golf_explore_command.specs.Texts.{
+  ends_text,
   panics_text,
   sleeps_text,
   end_line as end_line_of,
@@ -59,6 +60,13 @@ fn sleeps_line(sleeps: bool) -> &'static str
     }
 }
 
+// The line that says that each run ends, or nothing.
+fn ends_line(ends: bool) -> &'static str
+    ensures { result.now ≡ ends_text ends }
+{
+    if ends { "always ends\n" } else { "" }
+}
+
 /// Returns the lines of a code whose states were all visited, and none of which has a dead goroutine.
 pub(crate) fn visited_text(alloc: Global, told: Visited) -> Result<List<u8>, Memory>
     ensures { IfOk result (λ text. text ≡ visited_text_of told) }
@@ -68,6 +76,7 @@ pub(crate) fn visited_text(alloc: Global, told: Visited) -> Result<List<u8>, Mem
     let mut text = list_of(alloc, line.as_bytes())?;
     text.extend_from_slice(panics_line(told.panics).as_bytes())?;
     text.extend_from_slice(sleeps_line(told.sleeps).as_bytes())?;
+    text.extend_from_slice(ends_line(told.ends).as_bytes())?;
     Ok(text)
 }
 

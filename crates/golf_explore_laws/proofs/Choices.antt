@@ -66,12 +66,15 @@ offers-length (k ∷ cases) operands t h =
 
 -- ---- one of the ready cases
 
--- a choice, counted round, is one of those below the number of ready cases
 plain-sum : (n k : ℕ) → k ≡ 0 * n + k
 plain-sum n k = omega arith
 
+pub mod-within : (k n : ℕ) → k < n → k % n ≡ k
+mod-within k n l = ap (λ i. i % n) (plain-sum n k) ∙ mod-mul-add 0 n k l
+
+-- a choice, counted round, is one of those below the number of ready cases
 round : (n choice : ℕ) → 0 < n → choice % n % n ≡ choice % n
-round n choice l = ap (λ k. k % n) (plain-sum n (choice % n)) ∙ mod-mul-add 0 n (choice % n) (mod_below choice n l)
+round n choice l = mod-within (choice % n) n (mod_below choice n l)
 
 chosen-first : (xs : List Offer) (choice last : ℕ) → length xs ≤ suc last → (j : ℕ) × (j ≤ last)
     × (chosen choice xs ≡ chosen j xs)

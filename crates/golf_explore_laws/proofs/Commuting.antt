@@ -31,7 +31,7 @@ none-either : (b : Bool) → cond {A = Option Wait} b None None ≡ None
 none-either true = refl
 none-either false = refl
 
-woken-runs : (how : Waking) (o : ℕ) (r : GoroutineView) → r.mode ≡ Mode.Running → woken_by how o r ≡ r
+pub woken-runs : (how : Waking) (o : ℕ) (r : GoroutineView) → r.mode ≡ Mode.Running → woken_by how o r ≡ r
 woken-runs (Waking.Closing zero) o r e = ap (λ m. closed_on zero (wait_on o (waits_of m)) r) e
 woken-runs Waking.AtZero o r e = ap (λ m. released_by (wait_for o Side.Group (waits_of m)) r) e
 woken-runs (Waking.ToReaders below) o r e =

@@ -4,3 +4,4 @@ pub mod Endless
 pub mod Starting
 pub mod Choosing
 pub mod Leaking
+pub mod Swinging

@@ -1,8 +1,13 @@
 pub mod Choices
 pub mod Visiting
 pub mod Reports
-pub mod Ranking
 pub mod LocalTurns
+pub mod LocalKeeps
 pub mod Commuting
+pub mod Others
+pub mod Exchanging
+pub mod Following
+pub mod Settling
+pub mod Ranking
 pub mod MainLaws
 pub mod Examples

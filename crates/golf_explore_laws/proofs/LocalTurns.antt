@@ -113,11 +113,11 @@ local-collects : (i : Instr) → is_local i ≡ true → is_collection i ≡ fal
 local-collects Instr.Collect h = cc
 local-collects _ h = refl
 
-or-true : (b : Bool) → (b || true) ≡ true
+pub or-true : (b : Bool) → (b || true) ≡ true
 or-true true = refl
 or-true false = refl
 
-some-same : (m : Option GoroutineView) (x y : GoroutineView) → m ≡ Some x → m ≡ Some y → x ≡ y
+pub some-same : (m : Option GoroutineView) (x y : GoroutineView) → m ≡ Some x → m ≡ Some y → x ≡ y
 some-same m x y h k = let e : Some x ≡ Some y = sym h ∙ k in cc
 
 module _ (code : Code) (g : ℕ) (r : GoroutineView) (is : IsLocal code r) where
@@ -188,7 +188,16 @@ module _ (code : Code) (g : ℕ) (r : GoroutineView) (is : IsLocal code r) where
       (λ y i. let same : y ≡ r = some-same (find g s.goroutines) y r (find-Entry s.goroutines g y rises i) found in ap
       (can_run s.queue g) same ∙ runs-still s x.0)
 
+  runs-after : (x : StandsAlone a cs) (q : GoroutineView) → became x ≡ Some q → q.mode ≡ Mode.Running
+  runs-after (inl e) q h = cc
+  runs-after (inr x) q h = let same : with x.0 ≡ q = cc in ap (λ (z : GoroutineView). z.mode) (sym same)
+
 pub local-turns : LocalTurns
 local-turns code g r is =
     let x = (local-instructions code is.line.instr is.local (a code g r is) 0 0 (start code) (start code)).1 in
-    record { after = became code g r is x; steps = steps-by code g r is x; same = same-by code g r is x }
+    record {
+      after = became code g r is x;
+      runs = runs-after code g r is x;
+      steps = steps-by code g r is x;
+      same = same-by code g r is x;
+    }

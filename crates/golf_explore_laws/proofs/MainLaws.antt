@@ -6,7 +6,7 @@ use Rattle.golf_explore_laws.specs.Laws.{ClosedListsNeverReport, ClosedListsRepo
 use Rattle.golf_explore_laws.specs.Laws.{ClosedListsNeverPanic, ClosedListsNeverSleep, RankedListsEnd}
 use Rattle.golf_explore_laws.specs.Laws.{RankedListsAlwaysEnd}
 use Rattle.golf_explore_laws.proofs.Choices.{turn-by-choice}
-use Rattle.golf_explore_laws.proofs.Visiting.{never-leaks, never-reports, never-ends}
+use Rattle.golf_explore_laws.proofs.Settling.{never-leaks, never-reports, never-ends}
 use Rattle.golf_explore_laws.proofs.Reports.{reports-nobody}
 use Rattle.golf_explore_laws.proofs.Ranking.{ends-within}
 

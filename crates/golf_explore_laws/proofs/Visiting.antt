@@ -1,16 +1,15 @@
--- Each state of each run is in a list of states that no turn leaves, output apart.
--- For: the laws of closed lists, src/lib.rt; `IsClosed`, specs/Closed.antt
+-- What holds in each state of each run; output and collections change nothing in a plain state.
+-- For: the laws of closed lists, src/lib.rt; `IsPlain`, specs/Closed.antt
 -- By: induction over the list of events
-use Rattle.std.proofs.Common.{◌≡◌, ℕ, ◌%◌, Bool, true, false, not, List, [], ◌∷◌, ◌++◌, length, Option, Some, None}
-use Rattle.std.proofs.Common.{is_some, inl, inr, refl, sym, ap, ◌∙◌, subst, append-nil}
-use Rattle.std.proofs.lemmas.Nat.{mod_below}
+use Rattle.std.proofs.Common.{◌≡◌, ℕ, Bool, true, false, not, List, [], ◌∷◌, ◌++◌, Option, Some, None, is_some, inl}
+use Rattle.std.proofs.Common.{inr, refl, sym, ap, ◌∙◌, subst, append-nil}
 use Rattle.golf_theory.specs.Maps.{only, keys_where}
 use Rattle.golf_theory.specs.Membership.{In, is_in}
 use Rattle.golf_theory.proofs.Lists.{In-cases}
 use Rattle.golf_data.specs.declared.code.Code.{Code}
 use Rattle.golf_data.specs.declared.goroutine.Ending.{Ending}
 use Rattle.golf_data.specs.declared.goroutine.Queued.{Queued}
-use Rattle.golf_model.specs.State.{State, runnable, ending, start}
+use Rattle.golf_model.specs.State.{State, ending}
 use Rattle.golf_model.specs.Turn.{step, wants_collection}
 use Rattle.golf_model.specs.Reaching.{reach, sources}
 use Rattle.golf_model.specs.Living.{live_list, is_dead, dead}
@@ -20,9 +19,8 @@ use Rattle.golf_model.specs.Running.{stops_by}
 use Rattle.golf_model_futures.specs.Printing.{prefixed}
 use Rattle.golf_model_futures.proofs.Printing.{step-prefixed}
 use Rattle.golf_model_order.proofs.Collecting.{collecting-goes}
-use Rattle.golf_explore_laws.specs.Closed.{silent, IsPlain, IsClosed, NoneDead, NoneEnds}
-use Rattle.golf_explore_laws.specs.Laws.{NeverLeaks, NeverReports, NeverEnds}
-use Rattle.golf_explore_laws.proofs.Choices.{some-run, turn-by-choice}
+use Rattle.golf_explore_laws.specs.After.{silent}
+use Rattle.golf_explore_laws.specs.Closed.{IsPlain}
 
 -- ---- what each turn and each collection of a state without an ending keeps
 
@@ -119,36 +117,3 @@ module _ (code : Code) (s : State) (goes : ending s ≡ None) where
 
   pub collection-happens : IsPlain s → s ≡ happens code s Event.Collect
   collection-happens plain = sym (collect-plain s (plain goes)) ∙ happens-is Event.Collect
-
--- ---- closed lists
-
-module _ (code : Code) (visited : List State) (closed : IsClosed code visited) where
-  abbrev Visited : State → Type 0
-  Visited s = In (silent s) visited
-
-  visited-step : (s : State) (k : ℕ) → Visited s → ending s ≡ None → Visited (step code s k)
-  visited-step s k i goes =
-      let p = turn-by-choice code (silent s) k goes in
-      subst (λ (t : State). In t visited) (sym (silent-step code s k ∙ ap silent p.2))
-      (closed.turns (silent s) i goes (k % length (runnable s)) p.0
-      (mod_below k (length (runnable s)) (some-run s goes), p.1))
-
-  visited-collect : (s : State) → Visited s → ending s ≡ None → Visited (plain_collect s)
-  visited-collect s i goes = subst Visited (sym (collect-plain s (closed.plain (silent s) i goes))) i
-
-  visited-run : (events : List Event) → Visited (run code (start code) events)
-  visited-run events = run-kept code Visited visited-step visited-collect events (start code) closed.opening
-
-  pub never-ends : (is_one : Ending → Bool) → NoneEnds is_one visited → NeverEnds is_one code
-  never-ends is_one none events e h = none (silent (run code (start code) events)) e (visited-run events) h
-
-  module _ (alive : NoneDead visited) where
-    alive-visited : (s : State) → Visited s → ending s ≡ None → dead s ≡ []
-    alive-visited s i goes = sym (silent-dead s) ∙ alive (silent s) i goes
-
-    pub never-leaks : NeverLeaks code
-    never-leaks events goes = alive-visited (run code (start code) events) (visited-run events) goes
-
-    pub never-reports : NeverReports code
-    never-reports events p h = let r = stops-kept code Visited visited-step visited-collect events
-        (start code) p closed.opening h in alive-visited p r.0 r.1

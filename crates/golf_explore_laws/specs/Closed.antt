@@ -1,4 +1,4 @@
--- Lists of states that no turn leaves. Output is not compared: each listed state has printed nothing.
+-- Lists of states that no turn leaves, if frame-local turns may follow it. Output is not compared.
 use Rattle.std.specs.Prelude.{◌≡◌, ℕ, ◌+◌, ◌-◌, ◌*◌, ◌<◌, ◌≤◌, Bool, false, List, [], ◌∷◌, length, Option, Some, None}
 use Rattle.std.specs.Prelude.{option_and_then, slice_get}
 use Rattle.golf_theory.specs.Maps.{find}
@@ -10,12 +10,10 @@ use Rattle.golf_data.specs.declared.goroutine.Ending.{Ending}
 use Rattle.golf_data.specs.declared.goroutine.Leaving.{Leaving}
 use Rattle.golf_model.specs.Views.{FrameView, GoroutineView}
 use Rattle.golf_model.specs.State.{State, runnable, ending, start}
-use Rattle.golf_model.specs.Turn.{line_at, step}
+use Rattle.golf_model.specs.Turn.{line_at}
 use Rattle.golf_model.specs.Living.{dead}
-
--- the state without its output
-abbrev pub silent : State → State
-silent s = record s { output = [] }
+use Rattle.golf_explore_laws.specs.After.{after, after_all}
+use Rattle.golf_explore_laws.specs.Local.{AreLocalTurns}
 
 -- ---- the turns of a state
 
@@ -56,7 +54,7 @@ IsTurn code s place choice = (place < length (runnable s))
 
 -- the state after that turn, without its output
 abbrev pub after_turn : Code → State → ℕ → ℕ → State
-after_turn code s place choice = silent (step code s (number_at s place choice))
+after_turn code s place choice = after code s (number_at s place choice)
 
 -- ---- closed lists
 
@@ -64,13 +62,17 @@ after_turn code s place choice = silent (step code s (number_at s place choice))
 abbrev pub IsPlain : State → Type 0
 IsPlain s = ending s ≡ None → s.finalisers ≡ []
 
--- the opening state is in the list, each listed state is plain, and each turn of a listed state without an ending
--- reaches a listed state
+-- some frame-local turns, or none, lead from the state to a listed one
+abbrev pub SettlesIn : Code → List State → State → Type 0
+SettlesIn code visited s = (ns : List ℕ) × AreLocalTurns code s ns × In (after_all code s ns) visited
+
+-- the opening state settles in the list, each listed state is plain, and the state after each turn of a listed state
+-- without an ending settles in the list
 pub record IsClosed (code : Code) (visited : List State) : Type 0 where
-  pub opening : In (start code) visited
+  pub opening : SettlesIn code visited (start code)
   pub plain : (s : State) → In s visited → IsPlain s
   pub turns : (s : State) → In s visited → ending s ≡ None → (place choice : ℕ) → IsTurn code s place choice
-      → In (after_turn code s place choice) visited
+      → SettlesIn code visited (after_turn code s place choice)
 
 -- no listed state without an ending has a dead goroutine
 abbrev pub NoneDead : List State → Type 0
@@ -82,10 +84,16 @@ NoneEnds is_one visited = (s : State) (e : Ending) → In s visited → ending s
 
 -- ---- lists with ranks
 
--- each state has a rank, which falls with each turn; the opening state has this rank
+-- some frame-local turns lead from the state to a listed one; their count and its rank are at most this bound
+abbrev pub SettlesBelow : Code → List (State × ℕ) → State → ℕ → Type 0
+SettlesBelow code ranked s most = (ns : List ℕ) × (rank : ℕ) × (length ns + rank ≤ most) × AreLocalTurns code s ns
+    × In (after_all code s ns, rank) ranked
+
+-- each state has a rank, which is above the frame-local turns that follow a turn and the rank that they lead to; the
+-- opening state settles below this bound
 pub record IsRanked (code : Code) (ranked : List (State × ℕ)) (most : ℕ) : Type 0 where
-  pub opening : In (start code, most) ranked
+  pub opening : SettlesBelow code ranked (start code) most
   pub plain : (s : State) (rank : ℕ) → In (s, rank) ranked → IsPlain s
   pub falls : (s : State) (rank : ℕ) → In (s, rank) ranked → ending s ≡ None → (place choice : ℕ)
       → IsTurn code s place choice
-      → (lower : ℕ) × (lower < rank) × In (after_turn code s place choice, lower) ranked
+      → (lower : ℕ) × (lower < rank) × SettlesBelow code ranked (after_turn code s place choice) lower

@@ -1,3 +1,4 @@
+pub mod After
 pub mod Closed
 pub mod Laws
 pub mod Local

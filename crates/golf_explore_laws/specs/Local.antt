@@ -11,6 +11,7 @@ use Rattle.golf_model.specs.State.{State, runnable}
 use Rattle.golf_model.specs.Changes.{Change, become, apply}
 use Rattle.golf_model.specs.Acting.{Actor, stands}
 use Rattle.golf_model.specs.Turn.{line_at, changes, whose_turn, step}
+use Rattle.golf_explore_laws.specs.After.{after}
 
 -- constants, slots, operands, arithmetic, comparisons, jumps, deferring a call, and panics
 abbrev pub is_local : Instr → Bool
@@ -67,10 +68,11 @@ abbrev pub becomes : ℕ → Option GoroutineView → State → State
 becomes g None s = s
 becomes g (Some r) s = become g r s
 
--- the turn of a goroutine at a frame-local instruction has one outcome, whatever the state and the choice; the same
--- goroutines can run after it
+-- the turn of a goroutine at a frame-local instruction has one outcome, whatever the state and the choice; it runs
+-- after the turn, and the same goroutines can run after it
 pub record HasLocalTurn (code : Code) (g : ℕ) (r : GoroutineView) : Type 0 where
   pub after : Option GoroutineView
+  pub runs : (q : GoroutineView) → after ≡ Some q → q.mode ≡ Mode.Running
   pub steps : (s : State) (c : ℕ) → whose_turn s c ≡ Some g → find g s.goroutines ≡ Some r
       → step code s c ≡ becomes g after s
   pub same : (s : State) → IsRising s.goroutines → find g s.goroutines ≡ Some r
@@ -78,6 +80,21 @@ pub record HasLocalTurn (code : Code) (g : ℕ) (r : GoroutineView) : Type 0 whe
 
 abbrev pub LocalTurns : Type 0
 LocalTurns = (code : Code) (g : ℕ) (r : GoroutineView) → IsLocal code r → HasLocalTurn code g r
+
+-- ---- turns one after another
+
+-- the turn of this number is of a goroutine at a frame-local instruction
+pub record IsLocalTurn (code : Code) (s : State) (number : ℕ) : Type 0 where
+  pub g : ℕ
+  pub r : GoroutineView
+  pub whose : whose_turn s number ≡ Some g
+  pub found : find g s.goroutines ≡ Some r
+  pub local : IsLocal code r
+
+-- each of these turns, one after another, is frame-local
+abbrev pub AreLocalTurns : Code → State → List ℕ → Type 0
+AreLocalTurns code s [] = Unit {0}
+AreLocalTurns code s (n ∷ ns) = IsLocalTurn code s n × AreLocalTurns code (after code s n) ns
 
 -- ---- changes of other turns
 

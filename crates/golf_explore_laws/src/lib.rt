@@ -1,4 +1,7 @@
-//! Laws of all schedules of a code: what a closed list of states shows of every run. No turn leaves a closed list.
+//! Laws of all schedules of a code: what a closed list of states shows of every run.
+//!
+//! No turn leaves a closed list: after it some frame-local turns, or none, lead back to a listed state. They commute
+//! with the turns of all other goroutines, so the states between need not be listed.
 //!
 //! A run is any list of turns and collections. No law asks that goroutines are treated fairly. The statements are in
 //! `specs/`, the proofs in `proofs/`.
@@ -45,9 +48,10 @@ pub fn closed_lists_never_end()
     ensures asleep { ClosedListsNeverSleep }
 {}
 
-/// States that each run of a code ends if its states have ranks that fall with each turn.
+/// States that each run of a code ends if listed states have ranks that fall.
 ///
-/// It ends within as many turns as the rank of the opening state.
+/// The rank of a listed state is above the frame-local turns after one of its turns and the rank that they lead to.
+/// A run ends within as many turns as the frame-local turns from the opening state and the rank that they lead to.
 pub fn ranked_lists_end()
     ensures within { RankedListsEnd }
     ensures always { RankedListsAlwaysEnd }
@@ -64,7 +68,7 @@ pub fn local_instructions()
 
 /// States that the turn of a goroutine at a frame-local instruction depends only on the goroutine's own entry.
 ///
-/// The turn changes nothing else, and the same goroutines can run after it.
+/// The turn changes nothing else. The goroutine runs after it, and the same goroutines can run.
 pub fn local_turns()
     ensures { LocalTurns }
 {}

@@ -31,14 +31,14 @@ const ENDLESS: &str =
 const FINALISER: &str =
     "package main\n\nimport \"runtime\"\n\ntype node struct {\n\tn int\n}\n\nfunc drop(x *node) {\n}\n\nfunc main() {\n\tx := &node{n: 1}\n\truntime.SetFinalizer(x, drop)\n}\n";
 
-const ANSWERS: [Row; 6] = [
+const ANSWERS: [Row; 7] = [
     Row {
         shows: "all schedules of three goroutines are looked at",
         line: "all",
         file: TWO_SENDERS,
         failing: NONE,
         status: Status::Clean,
-        out: "every schedule: 130 states, no leak\nnever panics\nnever all asleep\n",
+        out: "every schedule: 39 states, no leak\nnever panics\nnever all asleep\nalways ends\n",
         err: NOTE,
     },
     Row {
@@ -47,7 +47,7 @@ const ANSWERS: [Row; 6] = [
         file: "package main\n\nfunc main() {\n\tpanic(\"a\")\n}\n",
         failing: NONE,
         status: Status::Clean,
-        out: "every schedule: 6 states, no leak\npanics under some schedule\nnever all asleep\n",
+        out: "every schedule: 4 states, no leak\npanics under some schedule\nnever all asleep\nalways ends\n",
         err: NOTE,
     },
     Row {
@@ -56,7 +56,16 @@ const ANSWERS: [Row; 6] = [
         file: "package main\n\nfunc main() {\n\tc := make(chan int)\n\t<-c\n}\n",
         failing: NONE,
         status: Status::Clean,
-        out: "every schedule: 7 states, no leak\nnever panics\nall asleep under some schedule\n",
+        out: "every schedule: 4 states, no leak\nnever panics\nall asleep under some schedule\nalways ends\n",
+        err: NOTE,
+    },
+    Row {
+        shows: "of a loop without an end it is not said that each run ends",
+        line: "all",
+        file: "package main\n\nfunc main() {\n\tfor {\n\t}\n}\n",
+        failing: NONE,
+        status: Status::Clean,
+        out: "every schedule: 2 states, no leak\nnever panics\nnever all asleep\n",
         err: NOTE,
     },
     Row {

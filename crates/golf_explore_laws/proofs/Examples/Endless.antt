@@ -23,7 +23,7 @@ abbrev visited : List State
 visited = start endless ∷ []
 
 closed : IsClosed endless visited
-closed = closed-by endless visited (inl refl) (inr (refl, (0 ∷ []) ∷ [], ((refl, omega arith), omega arith)), tt)
+closed = closed-by endless visited (inl refl) (inr (refl, (0 ∷ []) ∷ [], ((([], tt, refl), omega arith), omega arith)), tt)
 
 none-dead : NoneDead visited
 unfolding live_list

@@ -7,6 +7,8 @@ use Rattle.golf_theory.specs.Membership.{In, Every}
 use Rattle.golf_theory.proofs.Lists.{In-slice_get, Every-at}
 use Rattle.golf_data.specs.declared.code.Code.{Code}
 use Rattle.golf_model.specs.State.{State, runnable, ending, start}
+use Rattle.golf_explore_laws.specs.After.{after_all}
+use Rattle.golf_explore_laws.specs.Local.{AreLocalTurns}
 use Rattle.golf_explore_laws.specs.Closed.{turn_last_choice, after_turn, IsTurn, IsPlain, IsClosed, IsRanked}
 
 -- ---- one state
@@ -76,18 +78,19 @@ module _ (code : Code) (s : State) (StandsAt : ℕ → State → Type 0) where
 
 -- ---- lists
 
-abbrev pub StandsIn : List State → ℕ → State → Type 0
-StandsIn visited j t = slice_get visited j ≡ Some t
+-- some frame-local turns lead to the state at this place
+abbrev pub StandsIn : Code → List State → ℕ → State → Type 0
+StandsIn code visited j t = (ns : List ℕ) × AreLocalTurns code t ns × (slice_get visited j ≡ Some (after_all code t ns))
 
 pub closed-by : (code : Code) (visited : List State) → In (start code) visited
-    → Every (λ s. IsLed code s (StandsIn visited)) visited → IsClosed code visited
+    → Every (λ s. IsLed code s (StandsIn code visited)) visited → IsClosed code visited
 closed-by code visited opening led = record {
-  opening = opening;
-  plain = λ s i. led-plain code s (StandsIn visited) (Every-at (λ s. IsLed code s (StandsIn visited)) visited s led i);
+  opening = ([], tt, opening);
+  plain = λ s i. led-plain code s (StandsIn code visited) (Every-at (λ s. IsLed code s (StandsIn code visited)) visited s led i);
   turns = λ s i goes place choice t.
-      let r = led-turns code s (StandsIn visited)
-      (Every-at (λ s. IsLed code s (StandsIn visited)) visited s led i) goes place choice t in
-      In-slice_get visited r.0 (after_turn code s place choice) r.1;
+      let r = led-turns code s (StandsIn code visited)
+      (Every-at (λ s. IsLed code s (StandsIn code visited)) visited s led i) goes place choice t in
+      (r.1.0, r.1.1, In-slice_get visited r.0 (after_all code (after_turn code s place choice) r.1.0) r.1.2);
 }
 
 -- the state stands at this place, with a rank below this one
@@ -97,11 +100,20 @@ StandsBelow ranked rank j t = (lower : ℕ) × (lower < rank) × (slice_get rank
 pub ranked-by : (code : Code) (ranked : List (State × ℕ)) (most : ℕ) → In (start code, most) ranked
     → Every (λ e. IsLed code e.0 (StandsBelow ranked e.1)) ranked → IsRanked code ranked most
 ranked-by code ranked most opening led = record {
-  opening = opening;
+  opening = ([], most, omega arith, tt, opening);
   plain = λ s rank i. led-plain code s (StandsBelow ranked rank)
       (Every-at (λ e. IsLed code e.0 (StandsBelow ranked e.1)) ranked (s, rank) led i);
   falls = λ s rank i goes place choice t.
       let r = led-turns code s (StandsBelow ranked rank)
-      (Every-at (λ e. IsLed code e.0 (StandsBelow ranked e.1)) ranked (s, rank) led i) goes place choice t in
-      (r.1.0, r.1.1, In-slice_get ranked r.0 (after_turn code s place choice, r.1.0) r.1.2);
+      (Every-at (λ e. IsLed code e.0 (StandsBelow ranked e.1)) ranked (s, rank) led i) goes place choice t in (
+        r.1.0,
+        r.1.1,
+        (
+          [],
+          r.1.0,
+          omega arith,
+          tt,
+          In-slice_get ranked r.0 (after_turn code s place choice, r.1.0) r.1.2,
+        ),
+      );
 }

@@ -2,7 +2,7 @@ use Rattle.std.proofs.Common.{◌≡◌, ℕ, ◌<◌, List, length, get_or, Non
 use Rattle.std.proofs.lemmas.Option.{slice_get-get_or}
 use Rattle.golf_model.specs.State.{State, ending, start as start_of}
 use Rattle.golf_model.specs.Futures.{Leads}
-use Rattle.golf_explore.specs.Visiting.{after}
+use Rattle.golf_explore_laws.specs.After.{after}
 use Rattle.golf_explore.proofs.Turns.{next-after, no-ending, no-finaliser}
 use Rattle.golf_explore.proofs.Seekings.{goes-more}
 use Rattle.golf_explore.proofs.attempting.attempt.Goals as goal

@@ -1,7 +1,8 @@
 use Rattle.std.proofs.Common.{◌≡◌, take}
 use Rattle.golf_model.specs.State.{start as start_of}
 use Rattle.golf_model.specs.Futures.{Leads}
-use Rattle.golf_explore.specs.Visiting.{after_all, GoesOn}
+use Rattle.golf_explore_laws.specs.After.{after_all}
+use Rattle.golf_explore.specs.Visiting.{GoesOn}
 use Rattle.golf_explore.proofs.attempting.attempt.Given as goal
 
 -- the state after the turns so far

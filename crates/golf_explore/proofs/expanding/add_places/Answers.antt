@@ -1,7 +1,8 @@
-use Rattle.std.proofs.Common.{ℕ, ◌<◌, ◌≤◌, List, length, get_or, subst, arith}
+use Rattle.std.proofs.Common.{ℕ, ◌<◌, ◌≤◌, List, length, get_or, subst, ◌∙◌, arith}
 use Rattle.std.proofs.lemmas.Option.{slice_get-get_or}
 use Rattle.golf_model.specs.State.{start as start_of}
-use Rattle.golf_explore.specs.Visiting.{after_all, HasTurned}
+use Rattle.golf_explore_laws.specs.After.{after_all}
+use Rattle.golf_explore.specs.Visiting.{HasTurned}
 use Rattle.golf_explore.specs.Telling.{Unless}
 use Rattle.golf_explore.proofs.Growing.{grows-same, grows-trans}
 use Rattle.golf_explore.proofs.Leading.{path-grown, places-more, expanded}
@@ -28,14 +29,14 @@ loop-place-preserved c =
     let new = c.add_choices.new.visits.list in
     let within : place < length choices = c.loop-place-test.true in
     let more = get_or choices place 0 in
-    let turned : HasTurned code mid new s place (length choices) more =
+    let turned : HasTurned code mid new c.loop-place.edges c.add_choices.new.edges s place c.args.origin.count more =
     subst (Unless code _) c.in_default.is c.in_ok-explored.ensures in
     record {
       grows = grows-trans c.args.visits.now.list mid new c.loop-place.invariant.grows turned.grows;
       visits = turned.visits;
-      has = places-more code c.args.visits.now.list s mid new place
-          (length choices) more c.loop-place.invariant.has turned c.requires.choices.count
-          (c.requires.choices.each place more (slice_get-get_or choices place 0 within));
+      has = places-more code c.args.visits.now.list s mid new c.loop-place.edges c.add_choices.new.edges place more
+          c.loop-place.invariant.has (c.requires.choices.each place more (slice_get-get_or choices place 0 within))
+          c.args.origin.count turned (c.requires.count ∙ c.requires.choices.count);
     }
 
 pub returns : goal.returns
@@ -46,5 +47,6 @@ returns c =
     let low : length choices ≤ c.loop-place.place = c.loop-place-test.false in
     let high : c.loop-place.place ≤ length choices = c.loop-place.auto.place-end in
     let count = c.requires.choices.count in
-    expanded code c.args.visits.now.list s c.loop-place.visits.list c.loop-place.place c.loop-place.invariant.grows
+    expanded code c.args.visits.now.list s c.loop-place.visits.list c.loop-place.edges c.loop-place.place
+    c.loop-place.invariant.grows
     c.loop-place.invariant.visits c.loop-place.invariant.has (omega (arith, low, high, count))

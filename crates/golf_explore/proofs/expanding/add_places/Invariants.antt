@@ -1,8 +1,9 @@
 use Rattle.std.proofs.Common.{ℕ, ◌<◌}
-use Rattle.golf_theory.specs.Membership.{In}
 use Rattle.golf_model.specs.State.{start}
 use Rattle.golf_explore_laws.specs.Closed.{after_turn, IsTurn}
-use Rattle.golf_explore.specs.Visiting.{states, after_all, AreVisits, Grows}
+use Rattle.golf_explore_laws.specs.After.{after_all}
+use Rattle.golf_explore.specs.Ranking.{SettlesBy}
+use Rattle.golf_explore.specs.Visiting.{states, AreVisits, Grows}
 use Rattle.golf_explore.proofs.expanding.add_places.Given as goal
 
 -- the turns at the places so far
@@ -12,5 +13,6 @@ invariant-loop-place l = record {
   visits : AreVisits l.code l.visits.list;
   has : (place choice : ℕ) → place < l.place
       → IsTurn l.code (after_all l.code (start l.code) l.origin.path.now) place choice
-      → In (after_turn l.code (after_all l.code (start l.code) l.origin.path.now) place choice) (states l.visits.list);
+      → SettlesBy l.code (states l.visits.list) l.edges
+      (after_turn l.code (after_all l.code (start l.code) l.origin.path.now) place choice);
 }

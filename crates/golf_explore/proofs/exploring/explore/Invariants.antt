@@ -1,4 +1,4 @@
-use Rattle.std.proofs.Common.{◌≤◌, length}
+use Rattle.std.proofs.Common.{◌≡◌, ◌≤◌, length}
 use Rattle.golf_explore.specs.Visiting.{states, AreVisits, AreDone}
 use Rattle.golf_explore.proofs.exploring.explore.Given as goal
 
@@ -7,5 +7,6 @@ abbrev pub invariant-loop-at : goal.invariant-loop-at
 invariant-loop-at l = record {
   within : l.at ≤ length l.visits.list;
   visits : AreVisits l.code l.visits.list;
-  done : AreDone l.code (states l.visits.list) l.at;
+  count : length l.edges ≡ l.at;
+  done : AreDone l.code (states l.visits.list) l.edges;
 }

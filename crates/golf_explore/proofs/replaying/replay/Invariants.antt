@@ -1,7 +1,7 @@
 use Rattle.std.proofs.Common.{◌≡◌, take}
 use Rattle.golf_model.specs.State.{start as start_of}
 use Rattle.golf_model.specs.Futures.{Leads}
-use Rattle.golf_explore.specs.Visiting.{after_all}
+use Rattle.golf_explore_laws.specs.After.{after_all}
 use Rattle.golf_explore.proofs.replaying.replay.Given as goal
 
 -- the state after the turns so far

@@ -15,9 +15,9 @@ returns-then-branch c =
     let code = c.args.code.now in
     let numbers : List ℕ = c.in_ok-numbers.numbers in
     let reached = subst (λ o. IfSome o (IsReached code c.as_slice.result.now)) c.in-Some.is c.in_ok-reached.ensures in
-    shown code numbers c.in-Some.reached
-    (subst (λ (ns : List ℕ). IsReached code ns c.in-Some.reached) c.as_slice.ensures reached) c.args.aim.sought
-    (some-longer c.args.path.now numbers c.args.came.number c.in_ok-numbers.ensures)
+    let here = subst (λ (ns : List ℕ). IsReached code ns c.in-Some.reached) c.as_slice.ensures reached in
+    shown code numbers c.in-Some.reached.state here.led here.goes c.args.aim.sought
+    (some-longer c.args.path.now numbers c.args.number c.in_ok-numbers.ensures)
     (c.in_ok-is_found.ensures c.if-branch.true)
 
 pub returns : goal.returns
