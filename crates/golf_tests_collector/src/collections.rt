@@ -1,12 +1,14 @@
 //! Tests of the report of a collection, and of the number of its markers.
 
 ghost use Rattle.std.specs.Prelude.{◌<◌, ◌≤◌};
+ghost use Rattle.golf_model.specs.Futures.{Leads};
 
 use crate::collecting::{collect_by, collect_once};
 use crate::programs::{forever, program, receiver, state_of};
 use golf_base::{GoroutineId, Memory};
 use golf_data::{Code, Entry, Instr, Value, WaitKind};
 use golf_reclaim::{CollectOptions, Ledger, sets_finalisers};
+use golf_state::State;
 use golf_tests_support::CountingGate;
 use std::alloc::Global;
 use std::test::Fail;
@@ -35,22 +37,59 @@ fn a_report_tells_where_a_goroutine_was_started_and_waits(rt: HostRuntime) -> Re
         line: 2,
         started: 4,
     };
-    assert_eq!(rt; report.reported.as_slice(), [stuck].as_slice());
+    assert!(rt; report.reported.as_slice() == [stuck].as_slice());
     Ok(())
+}
+
+// How many goroutines a collection reports, keeps and reclaims.
+#[derive(Clone, Copy)]
+struct Counts {
+    reported: usize,
+    kept: u32,
+    reclaimed: u32,
+}
+
+// Collects once, and returns the counts of the report.
+fn counted<R: Threads + Sync>(
+    rt: &R,
+    alloc: Global,
+    code: &Code,
+    state: &mut State,
+    book: &mut Ledger,
+    recover: bool,
+) -> Result<Counts, Memory>
+    requires { Leads code.now state.old }
+    ensures { Leads code.now state.new }
+{
+    let report = collect_once(rt, alloc, code, state, book, recover)?;
+    Ok(Counts {
+        reported: report.reported.len(),
+        kept: report.kept,
+        reclaimed: report.reclaimed,
+    })
+}
+
+// Whether a receiver that was removed is reported again in another state, and removed silently after that.
+fn is_reported_again<R: Threads + Sync>(
+    rt: &R,
+    alloc: Global,
+    code: &Code,
+) -> Result<bool, Memory> {
+    let mut book = Ledger::new(alloc);
+    let mut first = state_of(alloc, code)?;
+    let mut second = state_of(alloc, code)?;
+    let removed = counted(rt, alloc, code, &mut first, &mut book, true)?;
+    let again = counted(rt, alloc, code, &mut second, &mut book, false)?;
+    let silent = counted(rt, alloc, code, &mut second, &mut book, true)?;
+    let removed = removed.reported == 1 && removed.reclaimed == 1;
+    let again = again.reported == 1 && again.kept == 1;
+    Ok(removed && again && silent.reported == 0 && silent.reclaimed == 1)
 }
 
 #[test]
 fn a_removed_goroutine_that_is_there_again_is_reported_again(rt: HostRuntime) -> Result<(), Fail> {
     let code = stuck_receiver(rt.alloc())?;
-    let mut book = Ledger::new(rt.alloc());
-    let mut first = state_of(rt.alloc(), &code)?;
-    let mut second = state_of(rt.alloc(), &code)?;
-    let report = collect_once(&rt, rt.alloc(), &code, &mut first, &mut book, true)?;
-    assert_eq!(rt; (report.reported.len(), report.reclaimed), (1, 1));
-    let report = collect_once(&rt, rt.alloc(), &code, &mut second, &mut book, false)?;
-    assert_eq!(rt; (report.reported.len(), report.kept), (1, 1));
-    let report = collect_once(&rt, rt.alloc(), &code, &mut second, &mut book, true)?;
-    assert_eq!(rt; (report.reported.len(), report.reclaimed), (0, 1));
+    assert!(rt; is_reported_again(&rt, rt.alloc(), &code)?);
     Ok(())
 }
 

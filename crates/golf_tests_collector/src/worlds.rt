@@ -7,11 +7,11 @@ ghost use Rattle.golf_world.specs.Names.{table_name, pass_count};
 
 use crate::codes::leak;
 use golf_base::{GoroutineId, List, Memory};
-use golf_data::{Code, Ending, Entry, WaitKind};
+use golf_data::{Code, Ending, Entry, Report, WaitKind};
 use golf_machine::start;
 use golf_state::State;
 use golf_tests_support::can_run;
-use golf_world::{History, StepPass, Stepped, World, WorldName, WorldTable};
+use golf_world::{History, HistoryEntry, StepPass, Stepped, World, WorldName, WorldTable};
 use std::alloc::Global;
 use std::marker::Brand;
 use std::sync::Wait;
@@ -91,46 +91,69 @@ fn take_walk<R: Threads + Wait + Sync>(rt: &R, alloc: Global, code: Code) -> Res
     Ok(steps_of_one::<Brand, R>(rt, alloc, table, code, state)?)
 }
 
+const MAIN: GoroutineId = GoroutineId(1);
+
+const RECEIVER: GoroutineId = GoroutineId(2);
+
+// Whose turns a run of the leak has. The third turn is that of `go`.
+const WHOSE: [GoroutineId; 17] = [
+    MAIN, MAIN, MAIN, RECEIVER, MAIN, RECEIVER, MAIN, RECEIVER, MAIN, RECEIVER, MAIN, RECEIVER,
+    MAIN, RECEIVER, MAIN, MAIN, MAIN,
+];
+
+// Whether a walk has these turns, and the program returned.
+fn is_walked(walk: &Walk, whose: &[GoroutineId]) -> bool {
+    walk.whose.as_slice() == whose && walk.ending == Some(Ending::Returned)
+}
+
 #[test]
 fn a_receiver_alternates_with_main_until_it_blocks(rt: HostRuntime) -> Result<(), Fail> {
     let walk = take_walk(&rt, rt.alloc(), leak(rt.alloc())?)?;
-    let mut numbers = Vec::new(rt.alloc());
-    for goroutine in walk.whose.as_slice() {
-        numbers.push(goroutine.0)?;
-    }
-    // The third turn is that of `go`.
-    assert_eq!(rt;
-        numbers.as_slice(),
-        [1u32, 1, 1, 2, 1, 2, 1, 2, 1, 2, 1, 2, 1, 2, 1, 1, 1].as_slice()
-    );
-    assert_eq!(rt; walk.ending, Some(Ending::Returned));
+    assert!(rt; is_walked(&walk, &WHOSE));
     Ok(())
+}
+
+// The numbers of the turns of that run.
+const NUMBERS: [u64; 17] = [
+    0, 1, 2, 7, 8, 11, 12, 15, 16, 19, 20, 23, 24, 27, 14, 15, 16,
+];
+
+// Whether entries are those of pass 0 and have these numbers.
+fn are_numbered(entries: &[HistoryEntry], numbers: &[u64]) -> bool {
+    if entries.len() != numbers.len() {
+        return false;
+    }
+    for (entry, number) in entries.iter().zip(numbers) {
+        if entry.pass != 0 || entry.number != *number {
+            return false;
+        }
+    }
+    true
+}
+
+// Whether there is one report, of this goroutine alone.
+fn is_only_report(reports: &[Report], stuck: Entry) -> bool {
+    match reports.first() {
+        Some(report) => reports.len() == 1 && report.reported.as_slice() == [stuck].as_slice(),
+        None => false,
+    }
+}
+
+// Whether a history has the numbers of that run, and the report of the receiver.
+fn is_history_of_the_leak(history: &History) -> bool {
+    let stuck = Entry {
+        goroutine: RECEIVER,
+        wait: WaitKind::Receive,
+        line: 6,
+        started: 3,
+    };
+    are_numbered(history.entries.as_slice(), &NUMBERS)
+        && is_only_report(history.reports.as_slice(), stuck)
 }
 
 #[test]
 fn the_history_has_the_numbers_and_the_report_of_a_leak(rt: HostRuntime) -> Result<(), Fail> {
     let walk = take_walk(&rt, rt.alloc(), leak(rt.alloc())?)?;
-    let mut numbers = Vec::new(rt.alloc());
-    for entry in walk.history.entries.as_slice() {
-        assert_eq!(rt; entry.pass, 0);
-        numbers.push(entry.number)?;
-    }
-    assert_eq!(rt;
-        numbers.as_slice(),
-        [
-            0u64, 1, 2, 7, 8, 11, 12, 15, 16, 19, 20, 23, 24, 27, 14, 15, 16
-        ]
-        .as_slice()
-    );
-    let stuck = Entry {
-        goroutine: GoroutineId(2),
-        wait: WaitKind::Receive,
-        line: 6,
-        started: 3,
-    };
-    for report in walk.history.reports.as_slice() {
-        assert_eq!(rt; report.reported.as_slice(), [stuck].as_slice());
-    }
-    assert_eq!(rt; walk.history.reports.len(), 1);
+    assert!(rt; is_history_of_the_leak(&walk.history));
     Ok(())
 }

@@ -7,7 +7,6 @@ use golf_machine::start;
 use golf_state::State;
 use golf_tests_support::{code, function, lines, take_turn};
 use std::alloc::Global;
-use std::process::Abort;
 use std::test::Fail;
 
 /// How many turns a run has.
@@ -63,19 +62,21 @@ fn run(alloc: Global, code: &Code) -> Result<State, Memory> {
     Ok(state)
 }
 
-/// Fails the test unless a run of the code with these instructions of `main` and of function 1 prints this
-/// text and ends so.
-pub fn ends<R: AllocGlobal + Abort>(
-    rt: &R,
-    shows: &str,
+// Whether a state has this output and this ending.
+fn is_at_end(state: &State, text: &str, ending: Ending) -> bool {
+    state.output() == text.as_bytes() && state.ending() == Some(ending)
+}
+
+/// Returns whether a run of the code with these instructions of `main` and of function 1 prints this text
+/// and ends so.
+pub fn ends(
+    alloc: Global,
     instructions: (&str, &str),
     text: &str,
     ending: Ending,
-) -> Result<(), Fail> {
+) -> Result<bool, Fail> {
     let (main, other) = instructions;
-    let code = program(rt.alloc(), main, other)?;
-    let state = run(rt.alloc(), &code)?;
-    assert_eq!(rt; state.output(), text.as_bytes(), "{shows}");
-    assert_eq!(rt; state.ending(), Some(ending), "{shows}");
-    Ok(())
+    let code = program(alloc, main, other)?;
+    let state = run(alloc, &code)?;
+    Ok(is_at_end(&state, text, ending))
 }

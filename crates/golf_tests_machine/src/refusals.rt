@@ -14,7 +14,7 @@ use std::alloc::Global;
 use std::test::Fail;
 
 // The parts of a state that a test compares.
-#[derive(Clone, Copy, Debug, PartialEq, Eq)]
+#[derive(Clone, Copy, PartialEq, Eq)]
 struct Seen {
     running: usize,
     goroutines: usize,

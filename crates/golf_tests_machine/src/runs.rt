@@ -2,7 +2,7 @@
 
 use crate::codes::Texts;
 use crate::programs::program;
-use crate::stepping::{MAIN, OTHER, after, runnable};
+use crate::stepping::{MAIN, OTHER, after};
 use golf_base::{GoroutineId, ObjectId};
 use golf_data::{Ending, Goroutine, Mode, PanicKind, Side, Value, WaitKind};
 use golf_machine::Turned;
@@ -13,7 +13,7 @@ use std::process::Abort;
 use std::test::Fail;
 
 /// How many turns the first goroutine that can run takes, then the second, and the first again.
-#[derive(Clone, Copy, Debug, PartialEq, Eq)]
+#[derive(Clone, Copy)]
 pub struct Turns(pub u32, pub u32, pub u32);
 
 // The state of a code after these turns.
@@ -21,6 +21,40 @@ fn run(alloc: Global, texts: Texts, turns: Turns) -> Result<State, Fail> {
     let code = program(alloc, texts.0, texts.1)?;
     let turns = [(0, turns.0), (1, turns.1), (0, turns.2)];
     Ok(after(alloc, &code, turns.as_slice())?)
+}
+
+// The parts of a state that tests compare.
+#[derive(Clone, Copy)]
+struct Seen {
+    /// How many goroutines can run, and the first of them.
+    running: usize,
+    first: Option<GoroutineId>,
+    /// How many frames `main` has.
+    depth: usize,
+    ending: Option<Ending>,
+}
+
+fn first_runnable(state: &State) -> Option<GoroutineId> {
+    if state.runnable_count() == 0 {
+        None
+    } else {
+        Some(state.runnable_at(0))
+    }
+}
+
+fn see(state: &State) -> Seen {
+    Seen {
+        running: state.runnable_count(),
+        first: first_runnable(state),
+        depth: state.depth(MAIN),
+        ending: state.ending(),
+    }
+}
+
+// The parts of the state of a code after these turns.
+fn seen_after(alloc: Global, texts: Texts, turns: Turns) -> Result<Seen, Fail> {
+    let state = run(alloc, texts, turns)?;
+    Ok(see(&state))
 }
 
 // The result of the last of `count` turns.
@@ -50,14 +84,19 @@ pub fn can_run<R: AllocGlobal + Abort>(
     rows: &[(Turns, usize, GoroutineId)],
 ) -> Result<(), Fail> {
     for (turns, count, first) in rows {
-        let state = run(rt.alloc(), texts, *turns)?;
-        let running = runnable(rt.alloc(), &state)?;
+        let seen = seen_after(rt.alloc(), texts, *turns)?;
         assert!(rt;
-            running.len() == *count && running.as_slice().first() == Some(first),
-            "{turns:?}"
+            seen.running == *count && seen.first == Some(*first),
+            "{count} can run"
         );
     }
     Ok(())
+}
+
+// Whether this text is printed after these turns.
+fn has_printed(alloc: Global, texts: Texts, turns: Turns, text: &str) -> Result<bool, Fail> {
+    let state = run(alloc, texts, turns)?;
+    Ok(state.output() == text.as_bytes())
 }
 
 /// Fails the test unless this text is printed after these turns.
@@ -67,8 +106,7 @@ pub fn prints<R: AllocGlobal + Abort>(
     turns: Turns,
     text: &str,
 ) -> Result<(), Fail> {
-    let state = run(rt.alloc(), texts, turns)?;
-    assert!(rt; state.output() == text.as_bytes());
+    assert!(rt; has_printed(rt.alloc(), texts, turns, text)?);
     Ok(())
 }
 
@@ -79,8 +117,8 @@ pub fn ends_after<R: AllocGlobal + Abort>(
     count: u32,
     ending: Ending,
 ) -> Result<(), Fail> {
-    let state = run(rt.alloc(), texts, Turns(count, 0, 0))?;
-    assert!(rt; state.ending() == Some(ending));
+    let seen = seen_after(rt.alloc(), texts, Turns(count, 0, 0))?;
+    assert!(rt; seen.ending == Some(ending));
     Ok(())
 }
 
@@ -101,9 +139,9 @@ pub fn has_frames<R: AllocGlobal + Abort>(
     rows: &[(u32, usize)],
 ) -> Result<(), Fail> {
     for (count, depth) in rows {
-        let state = run(rt.alloc(), texts, Turns(*count, 0, 0))?;
+        let seen = seen_after(rt.alloc(), texts, Turns(*count, 0, 0))?;
         assert!(rt;
-            state.depth(MAIN) == *depth && state.ending() == None,
+            seen.depth == *depth && seen.ending == None,
             "{count} turns"
         );
     }

@@ -1,5 +1,6 @@
 //! Tests of a state that is changed by hand, and of frames with a deferred call.
 
+use crate::stepping::holds;
 use golf_base::{GoroutineId, List, Memory, Room};
 use golf_data::{Deferred, Frame, Leaving, Slots};
 use golf_state::{State, begin_return, enter_deferred, return_frame};
@@ -20,8 +21,8 @@ fn frame(alloc: Global, deferred: List<Deferred>) -> Result<Frame, Memory> {
     })
 }
 
-// How many frames there are during the deferred call of a returning frame, and after it.
-fn deferred_call(alloc: Global) -> Result<(usize, usize), Memory> {
+// Whether there are two frames during the deferred call of a returning frame, and one after it.
+fn deferred_call(alloc: Global) -> Result<bool, Memory> {
     let mut deferred = List::new(alloc);
     deferred.push(Deferred {
         function: 1,
@@ -33,63 +34,55 @@ fn deferred_call(alloc: Global) -> Result<(usize, usize), Memory> {
     enter_deferred(&mut frames, frame(alloc, List::new(alloc))?)?;
     let inside = frames.len();
     return_frame(&mut frames, None)?;
-    Ok((inside, frames.len()))
+    Ok(inside == 2 && frames.len() == 1)
 }
 
-// The number of a goroutine that is started after goroutine 2 has ended, and how many goroutines there are.
-fn started_anew(alloc: Global) -> Result<(GoroutineId, usize), Memory> {
+// Whether a goroutine that is started after goroutine 2 has ended is goroutine 3, and there are three.
+fn started_anew(alloc: Global) -> Result<bool, Memory> {
     let mut state = State::new(alloc, List::new(alloc), List::new(alloc), 1)?;
     let second = state.spawn(List::new(alloc), 3)?;
     state.leave(second);
     let third = state.spawn(List::new(alloc), 4)?;
-    Ok((third, count_goroutines(&state)))
+    Ok(third == GoroutineId(3) && count_goroutines(&state) == 3)
 }
 
-// How many bytes are printed, and how many are left after they are cleared.
-fn cleared(alloc: Global) -> Result<(usize, usize), Memory> {
+// Whether two bytes are printed, and none is left after they are cleared.
+fn cleared(alloc: Global) -> Result<bool, Memory> {
     let mut state = State::new(alloc, List::new(alloc), List::new(alloc), 1)?;
     state.add_output(b"7\n")?;
     let printed = state.output().len();
     state.clear_output();
-    Ok((printed, state.output().len()))
+    Ok(printed == 2 && state.output().len() == 0)
 }
 
-// Whether a state is equal to another one: to the same state, to the same state with output, and to one
-// with one more goroutine.
-fn compared(alloc: Global) -> Result<(bool, bool, bool), Memory> {
+// Whether a state is equal to the same state and to the same state with output, and not to one with one
+// more goroutine.
+fn compared(alloc: Global) -> Result<bool, Memory> {
     let state = State::new(alloc, List::new(alloc), List::new(alloc), 1)?;
     let mut other = State::new(alloc, List::new(alloc), List::new(alloc), 1)?;
     let equal = state.is(&other, alloc)?;
     other.add_output(b"7\n")?;
     let printed = state.is(&other, alloc)?;
     other.spawn(List::new(alloc), 3)?;
-    Ok((equal, printed, state.is(&other, alloc)?))
+    Ok(equal && printed && !state.is(&other, alloc)?)
 }
 
 #[test]
 fn a_deferred_call_runs_before_its_frame_is_gone(rt: HostRuntime) -> Result<(), Fail> {
-    let frames = deferred_call(rt.alloc())?;
-    assert_eq!(rt; frames, (2, 1));
-    Ok(())
+    holds(&rt, deferred_call(rt.alloc())?)
 }
 
 #[test]
 fn no_goroutine_gets_a_number_again(rt: HostRuntime) -> Result<(), Fail> {
-    let started = started_anew(rt.alloc())?;
-    assert_eq!(rt; started, (GoroutineId(3), 3));
-    Ok(())
+    holds(&rt, started_anew(rt.alloc())?)
 }
 
 #[test]
 fn states_are_compared_but_for_their_output(rt: HostRuntime) -> Result<(), Fail> {
-    let told = compared(rt.alloc())?;
-    assert_eq!(rt; told, (true, true, false));
-    Ok(())
+    holds(&rt, compared(rt.alloc())?)
 }
 
 #[test]
 fn what_was_written_is_cleared(rt: HostRuntime) -> Result<(), Fail> {
-    let lengths = cleared(rt.alloc())?;
-    assert_eq!(rt; lengths, (2, 0));
-    Ok(())
+    holds(&rt, cleared(rt.alloc())?)
 }

@@ -42,7 +42,7 @@ pub fn after(alloc: Global, code: &Code, turns: &[(u64, u32)]) -> Result<State, 
 }
 
 /// How a goroutine is blocked: the kind, the line, and the ticket.
-#[derive(Clone, Copy, Debug, PartialEq, Eq)]
+#[derive(Clone, Copy, PartialEq, Eq)]
 pub struct HowBlocked(pub WaitKind, pub u32, pub u64);
 
 // How a goroutine in this mode is blocked, if it is.

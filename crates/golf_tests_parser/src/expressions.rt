@@ -1,95 +1,101 @@
 //! Tests of types, expressions and simple statements. Expected values are from the Go specification,
 //! "Types", "Operators" and "Statements". A semicolon follows each text.
 
+use crate::constructs::{Construct, are_found, found, head};
 use crate::words::tokens_of;
 use golf_base::Memory;
-use golf_lex_tokens::Token;
-use golf_syntax_expressions::{Context, expression_at, operand_at, simple_at, type_at};
-use golf_syntax_trees::{BinaryOperator, Expr, SimpleKind, TypeExpr, UnaryOperator};
+use golf_syntax_expressions::{Context, expression_at};
+use golf_syntax_trees::Expr;
 use std::alloc::Global;
+use std::process::Abort;
 use std::test::Fail;
 
-// The name of an expression's kind.
-fn head(e: &Expr) -> &'static str {
+// A text, and the heads of its first expression and of the two operands of that expression's operator.
+struct Group {
+    text: &'static str,
+    head: &'static str,
+    left: &'static str,
+    right: &'static str,
+}
+
+// Whether an expression and the two operands of its operator have these heads.
+fn is_grouped(e: &Expr, wanted: &Group) -> bool {
     match e {
-        Expr::Name(_) => "name",
-        Expr::Parens(_) => "parentheses",
-        Expr::StructLiteral(_, _) => "struct literal",
-        Expr::Call(_, _) => "call",
-        Expr::Selector(_, _) => "selector",
-        Expr::Index(_, _) => "index",
-        Expr::Unary(UnaryOperator::Receive, _) => "receive",
-        Expr::Binary(BinaryOperator::Add, _, _) => "sum",
-        Expr::Binary(BinaryOperator::Subtract, _, _) => "difference",
-        Expr::Binary(BinaryOperator::Multiply, _, _) => "product",
-        _ => "other",
-    }
-}
-
-// The heads of an expression, and of the two operands if it is a binary operator.
-fn heads(e: &Expr) -> (&'static str, &'static str, &'static str) {
-    match e {
-        Expr::Binary(_, left, right) => (head(e), head(left.get()), head(right.get())),
-        _ => (head(e), "none", "none"),
-    }
-}
-
-// The heads of the first expression at a place, and how many tokens are left.
-fn expression(
-    alloc: Global,
-    place: Context,
-    tokens: &[Token],
-) -> Result<Option<((&'static str, &'static str, &'static str), usize)>, Memory> {
-    match expression_at(alloc, place, tokens)? {
-        None => Ok(None),
-        Some((e, rest)) => Ok(Some((heads(e.get()), rest.len()))),
-    }
-}
-
-// Whether the first expression has these heads, and one token is left after it.
-fn groups_so(
-    alloc: Global,
-    tokens: &[Token],
-    expected: (&str, &str, &str),
-) -> Result<bool, Memory> {
-    match expression(alloc, Context::Elsewhere, tokens)? {
-        None => Ok(false),
-        Some(((first, left, right), rest)) => {
-            let (wanted, wanted_left, wanted_right) = expected;
-            let same = first == wanted && left == wanted_left && right == wanted_right;
-            Ok(same && rest == 1)
+        Expr::Binary(_, left, right) => {
+            head(e) == wanted.head
+                && head(left.get()) == wanted.left
+                && head(right.get()) == wanted.right
         }
+        _ => false,
     }
 }
 
-const GROUPS: [(&str, (&str, &str, &str)); 7] = [
-    ("a + b * c", ("sum", "name", "product")),
-    ("a * b + c", ("sum", "product", "name")),
-    ("a - b - c", ("difference", "difference", "name")),
-    ("a - ( b - c )", ("difference", "name", "parentheses")),
-    ("<- a + b", ("sum", "receive", "name")),
-    (
-        "f ( a , b ) . g [ i ] * h ( )",
-        ("product", "index", "call"),
-    ),
-    (
-        "a . b + & T { x : a , y : b }",
-        ("sum", "selector", "struct literal"),
-    ),
+// Whether the text's first expression is grouped so, and one token is left after it.
+fn groups_so(rt: &impl Abort, alloc: Global, wanted: &Group) -> Result<bool, Memory> {
+    let list = tokens_of(rt, alloc, wanted.text);
+    match expression_at(alloc, Context::Elsewhere, list.as_slice())? {
+        None => Ok(false),
+        Some((e, rest)) => Ok(is_grouped(e.get(), wanted) && rest.len() == 1),
+    }
+}
+
+const GROUPS: [Group; 7] = [
+    Group {
+        text: "a + b * c",
+        head: "sum",
+        left: "name",
+        right: "product",
+    },
+    Group {
+        text: "a * b + c",
+        head: "sum",
+        left: "product",
+        right: "name",
+    },
+    Group {
+        text: "a - b - c",
+        head: "difference",
+        left: "difference",
+        right: "name",
+    },
+    Group {
+        text: "a - ( b - c )",
+        head: "difference",
+        left: "name",
+        right: "parentheses",
+    },
+    Group {
+        text: "<- a + b",
+        head: "sum",
+        left: "receive",
+        right: "name",
+    },
+    Group {
+        text: "f ( a , b ) . g [ i ] * h ( )",
+        head: "product",
+        left: "index",
+        right: "call",
+    },
+    Group {
+        text: "a . b + & T { x : a , y : b }",
+        head: "sum",
+        left: "selector",
+        right: "struct literal",
+    },
 ];
 
 #[test]
 fn operators_group_as_they_bind(rt: HostRuntime) -> Result<(), Fail> {
-    for &(text, expected) in GROUPS.iter() {
-        let list = tokens_of(&rt, rt.alloc(), text);
-        assert!(rt; groups_so(rt.alloc(), list.as_slice(), expected)?, "{text}");
+    for group in GROUPS.iter() {
+        assert!(rt; groups_so(&rt, rt.alloc(), group)?, "{}", group.text);
     }
     Ok(())
 }
 
 // Whether there is an expression at a place.
-fn is_read(alloc: Global, place: Context, tokens: &[Token]) -> Result<bool, Memory> {
-    Ok(expression(alloc, place, tokens)?.is_some())
+fn is_read(rt: &impl Abort, alloc: Global, place: Context, text: &str) -> Result<bool, Memory> {
+    let list = tokens_of(rt, alloc, text);
+    Ok(expression_at(alloc, place, list.as_slice())?.is_some())
 }
 
 const PLACES: [(&str, Context, bool); 3] = [
@@ -101,86 +107,35 @@ const PLACES: [(&str, Context, bool); 3] = [
 #[test]
 fn in_a_header_an_ampersand_stands_in_brackets_alone(rt: HostRuntime) -> Result<(), Fail> {
     for &(text, place, expected) in PLACES.iter() {
-        let list = tokens_of(&rt, rt.alloc(), text);
         assert!(rt;
-            is_read(rt.alloc(), place, list.as_slice())? == expected,
+            is_read(&rt, rt.alloc(), place, text)? == expected,
             "{text}"
         );
     }
     Ok(())
 }
 
-// The head of the first operand, and how many tokens are left.
-fn operand(alloc: Global, tokens: &[Token]) -> Result<Option<(&'static str, usize)>, Memory> {
-    match operand_at(alloc, tokens)? {
-        None => Ok(None),
-        Some((e, rest)) => Ok(Some((head(e.get()), rest.len()))),
-    }
-}
-
 #[test]
 fn an_operand_ends_before_a_binary_operator(rt: HostRuntime) -> Result<(), Fail> {
-    let list = tokens_of(&rt, rt.alloc(), "<- a . b + c");
-    let found = operand(rt.alloc(), list.as_slice())?;
-    assert!(rt; found == Some(("receive", 3)));
+    let (name, left) = found(&rt, rt.alloc(), Construct::Operand, "<- a . b + c")?;
+    assert!(rt; name == "receive" && left == 3);
     Ok(())
-}
-
-// Whether a type is `chan<- chan T`.
-fn is_chan_to_send_chans(found: &TypeExpr) -> bool {
-    match found {
-        TypeExpr::SendChan(inner) => matches!(inner.get(), TypeExpr::Chan(_)),
-        _ => false,
-    }
-}
-
-// Whether the first type is `chan<- chan T`, and how many tokens are left.
-fn chan_to_send_chans(alloc: Global, tokens: &[Token]) -> Result<Option<(bool, usize)>, Memory> {
-    match type_at(alloc, tokens)? {
-        None => Ok(None),
-        Some((found, rest)) => Ok(Some((is_chan_to_send_chans(found.get()), rest.len()))),
-    }
 }
 
 #[test]
 fn an_arrow_belongs_to_the_leftmost_chan(rt: HostRuntime) -> Result<(), Fail> {
-    let list = tokens_of(&rt, rt.alloc(), "chan <- chan int");
-    let found = chan_to_send_chans(rt.alloc(), list.as_slice())?;
-    assert!(rt; found == Some((true, 1)));
+    let (name, left) = found(&rt, rt.alloc(), Construct::Type, "chan <- chan int")?;
+    assert!(rt; name == "chan to send chans" && left == 1);
     Ok(())
 }
 
-fn kind_name(kind: &SimpleKind) -> &'static str {
-    match kind {
-        SimpleKind::DefineReceived(_, _, _) => "define received",
-        SimpleKind::Send(_, _) => "send",
-        _ => "other",
-    }
-}
-
-// The kind and the line of the first simple statement, and how many tokens are left.
-fn simple(alloc: Global, tokens: &[Token]) -> Result<Option<(&'static str, u32, usize)>, Memory> {
-    match simple_at(alloc, Context::Elsewhere, tokens)? {
-        None => Ok(None),
-        Some((simple, rest)) => {
-            let found = simple.get();
-            Ok(Some((kind_name(found.kind.get()), found.line, rest.len())))
-        }
-    }
-}
-
-const SIMPLE: [(&str, Option<(&str, u32, usize)>); 3] = [
-    ("v , ok := <- c", Some(("define received", 1, 1))),
-    ("<- c <- v", Some(("send", 1, 1))),
-    ("v , ok := c", None),
+const SIMPLE: [(&str, &str); 3] = [
+    ("v , ok := <- c", "define received"),
+    ("<- c <- v", "send"),
+    ("v , ok := c", "none"),
 ];
 
 #[test]
 fn a_simple_statement_is_told_by_its_punctuation(rt: HostRuntime) -> Result<(), Fail> {
-    for &(text, expected) in SIMPLE.iter() {
-        let list = tokens_of(&rt, rt.alloc(), text);
-        let found = simple(rt.alloc(), list.as_slice())?;
-        assert!(rt; found == expected, "{text}");
-    }
-    Ok(())
+    are_found(&rt, rt.alloc(), Construct::Simple, &SIMPLE)
 }

@@ -113,11 +113,16 @@ const ROWS: [(&str, u32); 48] = [
     (";", 2),
 ];
 
+// The line of the fault of a declaration after the package clause, or 0 if there is none.
+fn declaration_line(rt: &impl Abort, alloc: Global, text: &str) -> Result<u32, Fail> {
+    let source = format!(in alloc; "package main\n{text}")?;
+    Ok(fault_line(rt, alloc, source.as_str()))
+}
+
 #[test]
 fn declarations_are_read_or_have_the_line_of_the_fault(rt: HostRuntime) -> Result<(), Fail> {
     for &(text, line) in ROWS.iter() {
-        let source = format!(in rt.alloc(); "package main\n{text}")?;
-        let found = fault_line(&rt, rt.alloc(), source.as_str());
+        let found = declaration_line(&rt, rt.alloc(), text)?;
         assert!(rt; found == line, "{text}: {found}");
     }
     Ok(())
@@ -138,15 +143,17 @@ fn nested(alloc: Global, depth: u32) -> Result<String, Fail> {
     Ok(source)
 }
 
+// The line of the fault of that file, or 0 if there is none.
+fn nested_line(rt: &impl Abort, alloc: Global, depth: u32) -> Result<u32, Fail> {
+    let source = nested(alloc, depth)?;
+    Ok(fault_line(rt, alloc, source.as_str()))
+}
+
 #[test]
 fn parentheses_cost_a_thousand_at_most(rt: HostRuntime) -> Result<(), Fail> {
-    let most = nested(rt.alloc(), 992)?;
-    let more = nested(rt.alloc(), 993)?;
-    let found = (
-        fault_line(&rt, rt.alloc(), most.as_str()),
-        fault_line(&rt, rt.alloc(), more.as_str()),
-    );
-    assert_eq!(rt; found, (0, 3));
+    let most = nested_line(&rt, rt.alloc(), 992)?;
+    let more = nested_line(&rt, rt.alloc(), 993)?;
+    assert!(rt; most == 0 && more == 3);
     Ok(())
 }
 

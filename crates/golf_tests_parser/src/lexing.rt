@@ -8,7 +8,14 @@ use std::alloc::Global;
 use std::process::Abort;
 use std::test::Fail;
 
-fn write_kind(alloc: Global, out: &mut String, kind: &TokenKind) -> Result<(), Fail> {
+// What a test shows of each token.
+#[derive(Clone, Copy)]
+enum Shown {
+    Kind,
+    Line,
+}
+
+fn write_kind(out: &mut String, kind: &TokenKind) -> Result<(), Fail> {
     match kind {
         TokenKind::Name(bytes) | TokenKind::Integer(bytes) => write_bytes(out, bytes.as_slice())?,
         TokenKind::Text(bytes) => {
@@ -16,10 +23,8 @@ fn write_kind(alloc: Global, out: &mut String, kind: &TokenKind) -> Result<(), F
             write_bytes(out, bytes.as_slice())?;
             out.push_str("'")?;
         }
-        TokenKind::Keyword(keyword) => out.push_str(&format!(in alloc; "{keyword:?}")?)?,
-        TokenKind::Punctuation(punctuation) => out.push_str(&format!(in alloc;
-            "{punctuation:?}"
-        )?)?,
+        TokenKind::Keyword(keyword) => write!(out, "{keyword:?}")?,
+        TokenKind::Punctuation(punctuation) => write!(out, "{punctuation:?}")?,
     }
     Ok(())
 }
@@ -33,51 +38,54 @@ fn write_bytes(out: &mut String, bytes: &[u8]) -> Result<(), Fail> {
     Ok(())
 }
 
-fn kinds(alloc: Global, list: &[Token]) -> Result<String, Fail> {
+fn write_token(out: &mut String, shown: Shown, token: &Token) -> Result<(), Fail> {
+    match shown {
+        Shown::Kind => write_kind(out, &token.kind)?,
+        Shown::Line => write!(out, "{}", token.line)?,
+    }
+    Ok(())
+}
+
+// The kinds or the lines of tokens, with one space between.
+fn told(alloc: Global, shown: Shown, list: &[Token]) -> Result<String, Fail> {
     let mut out = String::new(alloc);
     for token in list {
         if !out.is_empty() {
             out.push_str(" ")?;
         }
-        write_kind(alloc, &mut out, &token.kind)?;
+        write_token(&mut out, shown, token)?;
     }
     Ok(out)
 }
 
-// Fails the test unless these bytes have tokens of these kinds.
-fn has_kinds(rt: &impl Abort, alloc: Global, source: &[u8], expected: &str) -> Result<(), Fail> {
+// The kinds or the lines of the tokens of these bytes.
+fn told_of(rt: &impl Abort, alloc: Global, shown: Shown, source: &[u8]) -> Result<String, Fail> {
     let list = lexed(rt, alloc, source);
-    let shown = kinds(alloc, list.as_slice())?;
-    assert_eq!(rt; shown.as_str(), expected);
+    told(alloc, shown, list.as_slice())
+}
+
+// Fails the test unless these bytes have tokens of these kinds or on these lines.
+fn is_told(
+    rt: &impl Abort,
+    alloc: Global,
+    shown: Shown,
+    source: &[u8],
+    expected: &str,
+) -> Result<(), Fail> {
+    let found = told_of(rt, alloc, shown, source)?;
+    assert!(rt; found.as_str() == expected, "{found} and not {expected}");
     Ok(())
 }
 
-// Fails the test unless each of these texts has tokens of these kinds.
-fn have_kinds(rt: &impl Abort, alloc: Global, rows: &[(&str, &str)]) -> Result<(), Fail> {
+// Fails the test unless each of these texts has tokens of these kinds or on these lines.
+fn are_told(
+    rt: &impl Abort,
+    alloc: Global,
+    shown: Shown,
+    rows: &[(&str, &str)],
+) -> Result<(), Fail> {
     for (source, expected) in rows {
-        has_kinds(rt, alloc, source.as_bytes(), *expected)?;
-    }
-    Ok(())
-}
-
-// The lines of tokens, with one space between.
-fn lines(alloc: Global, list: &[Token]) -> Result<String, Fail> {
-    let mut out = String::new(alloc);
-    for token in list {
-        if !out.is_empty() {
-            out.push_str(" ")?;
-        }
-        out.push_str(&format!(in alloc; "{}", token.line)?)?;
-    }
-    Ok(out)
-}
-
-// Fails the test unless each of these texts has tokens on these lines.
-fn have_lines(rt: &impl Abort, alloc: Global, rows: &[(&str, &str)]) -> Result<(), Fail> {
-    for (source, expected) in rows {
-        let list = lexed(rt, alloc, source.as_bytes());
-        let shown = lines(alloc, list.as_slice())?;
-        assert_eq!(rt; shown.as_str(), *expected, "{source}");
+        is_told(rt, alloc, shown, source.as_bytes(), *expected)?;
     }
     Ok(())
 }
@@ -117,7 +125,7 @@ const MARKS: [(&str, &str); 3] = [
 
 #[test]
 fn each_punctuation_mark_is_read(rt: HostRuntime) -> Result<(), Fail> {
-    have_kinds(&rt, rt.alloc(), &MARKS)
+    are_told(&rt, rt.alloc(), Shown::Kind, &MARKS)
 }
 
 const LONGEST: [(&str, &str); 5] = [
@@ -133,7 +141,7 @@ const LONGEST: [(&str, &str); 5] = [
 
 #[test]
 fn the_longest_punctuation_mark_is_read(rt: HostRuntime) -> Result<(), Fail> {
-    have_kinds(&rt, rt.alloc(), &LONGEST)
+    are_told(&rt, rt.alloc(), Shown::Kind, &LONGEST)
 }
 
 const KEYWORDS: [(&str, &str); 4] = [
@@ -154,7 +162,7 @@ const KEYWORDS: [(&str, &str); 4] = [
 
 #[test]
 fn keywords_are_told_from_names(rt: HostRuntime) -> Result<(), Fail> {
-    have_kinds(&rt, rt.alloc(), &KEYWORDS)
+    are_told(&rt, rt.alloc(), Shown::Kind, &KEYWORDS)
 }
 
 const LITERALS: [(&str, &str); 4] = [
@@ -169,8 +177,14 @@ const LITERALS: [(&str, &str); 4] = [
 
 #[test]
 fn literals_are_read(rt: HostRuntime) -> Result<(), Fail> {
-    have_kinds(&rt, rt.alloc(), &LITERALS)?;
-    has_kinds(&rt, rt.alloc(), b"\"\xc3\xa9\x80\"", "'???' Semicolon")
+    are_told(&rt, rt.alloc(), Shown::Kind, &LITERALS)?;
+    is_told(
+        &rt,
+        rt.alloc(),
+        Shown::Kind,
+        b"\"\xc3\xa9\x80\"",
+        "'???' Semicolon",
+    )
 }
 
 const NEWLINES: [(&str, &str); 11] = [
@@ -203,7 +217,7 @@ const NEWLINES: [(&str, &str); 11] = [
 
 #[test]
 fn newlines_stand_for_semicolons(rt: HostRuntime) -> Result<(), Fail> {
-    have_kinds(&rt, rt.alloc(), &NEWLINES)
+    are_told(&rt, rt.alloc(), Shown::Kind, &NEWLINES)
 }
 
 const SEPARATORS: [(&str, &str); 11] = [
@@ -229,7 +243,7 @@ const SEPARATORS: [(&str, &str); 11] = [
 
 #[test]
 fn separators_before_closing_brackets_are_left_out(rt: HostRuntime) -> Result<(), Fail> {
-    have_kinds(&rt, rt.alloc(), &SEPARATORS)
+    are_told(&rt, rt.alloc(), Shown::Kind, &SEPARATORS)
 }
 
 const LINES: [(&str, &str); 3] = [
@@ -240,7 +254,7 @@ const LINES: [(&str, &str); 3] = [
 
 #[test]
 fn tokens_have_the_line_on_which_they_begin(rt: HostRuntime) -> Result<(), Fail> {
-    have_lines(&rt, rt.alloc(), &LINES)
+    are_told(&rt, rt.alloc(), Shown::Line, &LINES)
 }
 
 const FAULTS: [(&str, u32, u32); 22] = [

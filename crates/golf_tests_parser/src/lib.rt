@@ -2,6 +2,8 @@
 #![tactic(auto)]
 
 #[cfg(test)]
+mod constructs;
+#[cfg(test)]
 mod expressions;
 #[cfg(test)]
 mod files;

@@ -26,13 +26,19 @@ fn options(alloc: Global, row: &str) -> Result<RunOptions, Fail> {
 // A row, the turns of its run, the turns between its collections, its markers, and whether it recovers.
 type Run<'a> = (&'a str, u32, Option<u32>, u32, bool);
 
-// Fails the test unless these rows stand for runs with these options, which rotate and give no reasons.
+// Whether a row stands for a run with its options, which rotates and gives no reasons.
+fn is_run(alloc: Global, wanted: &Run<'_>) -> Result<bool, Fail> {
+    let (row, turns, every, markers, recover) = *wanted;
+    let got = options(alloc, row)?;
+    let numbers = got.turns == turns && got.every == every && got.markers == markers;
+    let plain = !got.why && matches!(&got.schedule, Schedule::Rotate);
+    Ok(numbers && plain && got.recover == recover)
+}
+
+// Fails the test unless these rows stand for runs with their options.
 fn are_runs(rt: &impl Abort, alloc: Global, rows: &[Run<'_>]) -> Result<(), Fail> {
-    for (row, turns, every, markers, recover) in rows {
-        let got = options(alloc, *row)?;
-        let numbers = got.turns == *turns && got.every == *every && got.markers == *markers;
-        let plain = !got.why && matches!(&got.schedule, Schedule::Rotate);
-        assert!(rt; numbers && plain && got.recover == *recover, "{row}");
+    for row in rows {
+        assert!(rt; is_run(alloc, row)?, "{}", row.0);
     }
     Ok(())
 }
@@ -72,11 +78,16 @@ const WITH_WHY: [&str; 3] = [
     "run|--turns|7|--recover|--why|--",
 ];
 
+// Whether a row stands for a run of seven turns with recovery and with reasons.
+fn gives_reasons(alloc: Global, row: &str) -> Result<bool, Fail> {
+    let got = options(alloc, row)?;
+    Ok(got.why && got.recover && got.turns == 7)
+}
+
 #[test]
 fn why_stands_anywhere_among_the_options(rt: HostRuntime) -> Result<(), Fail> {
     for row in WITH_WHY.iter() {
-        let got = options(rt.alloc(), *row)?;
-        assert!(rt; got.why && got.recover && got.turns == 7, "{row}");
+        assert!(rt; gives_reasons(rt.alloc(), *row)?, "{row}");
     }
     Ok(())
 }
@@ -140,7 +151,7 @@ fn seed(alloc: Global, row: &str) -> Result<Option<(u64, u32)>, Fail> {
 fn a_seed_may_be_any_number_of_sixty_four_bits(rt: HostRuntime) -> Result<(), Fail> {
     let most = seed(rt.alloc(), "run|--schedule=seed:18446744073709551615")?;
     let zero = seed(rt.alloc(), "run|--schedule=seed:0|--markers=002|--")?;
-    assert_eq!(rt; (most, zero), (Some((u64::MAX, 1)), Some((0, 2))));
+    assert!(rt; most == Some((u64::MAX, 1)) && zero == Some((0, 2)));
     Ok(())
 }
 
@@ -161,7 +172,7 @@ fn choices_are_the_numbers_as_written(rt: HostRuntime) -> Result<(), Fail> {
 }
 
 /// A command line without options.
-#[derive(Clone, Copy, Debug, PartialEq, Eq)]
+#[derive(Clone, Copy, PartialEq, Eq)]
 enum Kind {
     Generate(u32),
     Threads(u32),

@@ -6,11 +6,21 @@ use std::alloc::Global;
 use std::process::Abort;
 use std::test::Fail;
 
+// Whether a row stands for a command line.
+fn is_line(alloc: Global, row: &str) -> Result<bool, Fail> {
+    Ok(line(alloc, row)?.is_some())
+}
+
+// Whether a row of this front and this end stands for a command line.
+fn is_accepted(alloc: Global, front: &str, end: &str) -> Result<bool, Fail> {
+    let row = format!(in alloc; "{front}{end}")?;
+    is_line(alloc, row.as_str())
+}
+
 // Fails the test unless each of these ends, after this front, is a row that stands for no command line.
 fn refuses(rt: &impl Abort, alloc: Global, front: &str, ends: &[&str]) -> Result<(), Fail> {
     for end in ends {
-        let row = format!(in alloc; "{front}{end}")?;
-        assert!(rt; line(alloc, row.as_str())?.is_none(), "{row}");
+        assert!(rt; !is_accepted(alloc, front, *end)?, "{front}{end}");
     }
     Ok(())
 }
@@ -149,15 +159,26 @@ fn schedules_are_rotate_seed_and_choices(rt: HostRuntime) -> Result<(), Fail> {
     refuses(&rt, rt.alloc(), "run|--schedule|", &SCHEDULES)
 }
 
-#[test]
-fn more_than_four_thousand_and_ninety_six_choices_are_refused(rt: HostRuntime) -> Result<(), Fail> {
-    let mut row = String::from_str(rt.alloc(), "run|--schedule|choices:0")?;
-    for _ in 0..4095 {
+// A row with this number of choices and one more.
+fn choices(alloc: Global, more: u32) -> Result<String, Fail> {
+    let mut row = String::from_str(alloc, "run|--schedule|choices:0")?;
+    for _ in 0..more {
         row.push_str(",0")?;
     }
-    assert!(rt; line(rt.alloc(), row.as_str())?.is_some());
-    row.push_str(",0")?;
-    assert!(rt; line(rt.alloc(), row.as_str())?.is_none());
+    Ok(row)
+}
+
+// Whether a row with this number of choices and one more stands for a command line.
+fn accepts_choices(alloc: Global, more: u32) -> Result<bool, Fail> {
+    let row = choices(alloc, more)?;
+    is_line(alloc, row.as_str())
+}
+
+#[test]
+fn more_than_four_thousand_and_ninety_six_choices_are_refused(rt: HostRuntime) -> Result<(), Fail> {
+    let most = accepts_choices(rt.alloc(), 4095)?;
+    let more = accepts_choices(rt.alloc(), 4096)?;
+    assert!(rt; most && !more);
     Ok(())
 }
 

@@ -1,7 +1,8 @@
 //! Tests of schedules and of the events of a run.
 
-use golf_base::List;
+use golf_base::{List, Memory};
 use golf_run_schedules::{Event, Events, Schedule};
+use std::alloc::Global;
 use std::test::Fail;
 
 // Whether the events are exactly these.
@@ -33,24 +34,18 @@ fn seed_0_begins_with_167951807(rt: HostRuntime) {
     assert!(rt; are(events, wanted.as_slice()));
 }
 
+// Whether a run by the choices 7 and 0, of this number of turns at most, has these events.
+fn are_chosen(alloc: Global, turns: u32, wanted: &[Event]) -> Result<bool, Memory> {
+    let mut list = List::new(alloc);
+    list.extend_from_slice(&[7, 0])?;
+    Ok(are(Events::new(Schedule::Choices(list), turns, None), wanted))
+}
+
 #[test]
 fn choices_end_a_run_before_its_turns(rt: HostRuntime) -> Result<(), Fail> {
-    let mut list = List::new(rt.alloc());
-    list.extend_from_slice(&[7, 0])?;
-    assert!(rt;
-        are(
-            Events::new(Schedule::Choices(list), 5, None),
-            &[Event::Turn(7), Event::Turn(0)]
-        )
-    );
-    let mut more = List::new(rt.alloc());
-    more.extend_from_slice(&[7, 0])?;
-    assert!(rt;
-        are(
-            Events::new(Schedule::Choices(more), 1, None),
-            &[Event::Turn(7)]
-        )
-    );
+    let both = are_chosen(rt.alloc(), 5, &[Event::Turn(7), Event::Turn(0)])?;
+    let one = are_chosen(rt.alloc(), 1, &[Event::Turn(7)])?;
+    assert!(rt; both && one);
     Ok(())
 }
 

@@ -1,6 +1,6 @@
 //! Tests of the texts of the program, and of the numbers of its statuses. Each expected text is a literal.
 
-use golf_base::{GoroutineId, List, ObjectId};
+use golf_base::{GoroutineId, List, Memory, ObjectId};
 use golf_data::{Ending, Entry, PanicKind, Report, WaitKind};
 use golf_run_texts::{
     Status, certificate_line, code, ending_line, lexical_line, list_of, meaning_line, reached_line,
@@ -39,8 +39,8 @@ goroutine 2: sync.RWMutex.Lock at line 3, started at line 4
 goroutine 2: sync.Cond.Wait at line 3, started at line 4
 ";
 
-// Fails the test unless the report of a goroutine is written so, for each kind of wait.
-fn report_is_written_so(rt: &impl Abort, alloc: Global) -> Result<(), Fail> {
+// The report of a goroutine for each kind of wait.
+fn report(alloc: Global) -> Result<Report, Memory> {
     let mut reported = List::new(alloc);
     for wait in WAITS.iter() {
         reported.push(Entry {
@@ -50,15 +50,19 @@ fn report_is_written_so(rt: &impl Abort, alloc: Global) -> Result<(), Fail> {
             started: 4,
         })?;
     }
-    let report = Report {
+    Ok(Report {
         number: 7,
         marked: 1,
         reported,
         kept: 12,
         reclaimed: 13,
         objects: 14,
-    };
-    is_written_so(rt, &report_text(alloc, &report)?, REPORT);
+    })
+}
+
+fn report_is_written_so(rt: &impl Abort, alloc: Global) -> Result<(), Fail> {
+    let report = report(alloc)?;
+    is_written_so(rt, report_text(alloc, &report)?, REPORT);
     Ok(())
 }
 
@@ -128,29 +132,34 @@ const FAULTS: [(PanicKind, &str); 16] = [
 ];
 
 // Fails the test unless the text is this one.
-fn is_written_so(rt: &impl Abort, text: &List<u8>, wanted: &str) {
-    is_fixed_so(rt, text.as_slice(), wanted);
+fn is_written_so(rt: &impl Abort, text: List<u8>, wanted: &str) {
+    assert!(rt; text.as_slice() == wanted.as_bytes(), "{wanted}");
+}
+
+// The line of this panic or fatal error.
+fn fault_line(alloc: Global, kind: PanicKind) -> Result<List<u8>, Memory> {
+    let mut texts = List::new(alloc);
+    texts.push(list_of(alloc, b"lost")?)?;
+    let ending = Ending::Panicked {
+        kind,
+        goroutine: GoroutineId(3),
+        line: 5,
+    };
+    ending_line(alloc, texts.as_slice(), ending)
 }
 
 fn faults_are_written_so(rt: &impl Abort, alloc: Global) -> Result<(), Fail> {
-    let mut texts = List::new(alloc);
-    texts.push(list_of(alloc, b"lost")?)?;
     for &(kind, line) in FAULTS.iter() {
-        let ending = Ending::Panicked {
-            kind,
-            goroutine: GoroutineId(3),
-            line: 5,
-        };
-        is_written_so(rt, &ending_line(alloc, texts.as_slice(), ending)?, line);
+        is_written_so(rt, fault_line(alloc, kind)?, line);
     }
     Ok(())
 }
 
 fn ends_are_written_so(rt: &impl Abort, alloc: Global) -> Result<(), Fail> {
-    is_written_so(rt, &ending_line(alloc, &[], Ending::Returned)?, "");
+    is_written_so(rt, ending_line(alloc, &[], Ending::Returned)?, "");
     is_written_so(
         rt,
-        &ending_line(alloc, &[], Ending::Asleep)?,
+        ending_line(alloc, &[], Ending::Asleep)?,
         "fatal error: all goroutines are asleep - deadlock!\n",
     );
     Ok(())
@@ -159,28 +168,23 @@ fn ends_are_written_so(rt: &impl Abort, alloc: Global) -> Result<(), Fail> {
 fn lines_with_numbers_are_written_so(rt: &impl Abort, alloc: Global) -> Result<(), Fail> {
     is_written_so(
         rt,
-        &stopped_line(alloc, 1_000_000)?,
+        stopped_line(alloc, 1_000_000)?,
         "stopped after 1000000 turns\n",
     );
     is_written_so(
         rt,
-        &lexical_line(alloc, 3, 36)?,
+        lexical_line(alloc, 3, 36)?,
         "refused: line 3: byte 36\n",
     );
-    is_written_so(rt, &syntax_line(alloc, 2)?, "refused: line 2: syntax\n");
-    is_written_so(rt, &rule_line(alloc, 3, 24)?, "refused: line 3: rule 24\n");
-    is_written_so(rt, &meaning_line(alloc, 5)?, "meaning: 5 functions agree\n");
+    is_written_so(rt, syntax_line(alloc, 2)?, "refused: line 2: syntax\n");
+    is_written_so(rt, rule_line(alloc, 3, 24)?, "refused: line 3: rule 24\n");
+    is_written_so(rt, meaning_line(alloc, 5)?, "meaning: 5 functions agree\n");
     is_written_so(
         rt,
-        &certificate_line(alloc, 3, 14)?,
+        certificate_line(alloc, 3, 14)?,
         "certificate 3: 14 places\n",
     );
     Ok(())
-}
-
-// Fails the test unless these bytes are this text.
-fn is_fixed_so(rt: &impl Abort, text: &[u8], wanted: &str) {
-    assert_eq!(rt; text, wanted.as_bytes());
 }
 
 fn reasons_are_written_so(rt: &impl Abort, alloc: Global) -> Result<(), Fail> {
@@ -198,7 +202,7 @@ fn reasons_are_written_so(rt: &impl Abort, alloc: Global) -> Result<(), Fail> {
     };
     is_written_so(
         rt,
-        &reached_line(alloc, &reached)?,
+        reached_line(alloc, &reached)?,
         "goroutine 9: select at line 8, reached by object 1, goroutine 2, object 30\n",
     );
     Ok(())

@@ -17,6 +17,11 @@ fn push_flags(out: &mut String, flags: &[bool]) -> Result<(), Fail> {
     Ok(())
 }
 
+fn push_node(out: &mut String, node: u32) -> Result<(), Fail> {
+    write!(out, " {node}")?;
+    Ok(())
+}
+
 // The marking as a text: the flags of the nodes, the flags of the sleepers, and the marked nodes in their
 // order.
 fn told(alloc: Global, marked: &Marked) -> Result<String, Fail> {
@@ -25,17 +30,22 @@ fn told(alloc: Global, marked: &Marked) -> Result<String, Fail> {
     out.push(' ')?;
     push_flags(&mut out, marked.awake.as_slice())?;
     for node in marked.order.as_slice() {
-        out.push_str(&format!(in alloc; " {node}")?)?;
+        push_node(&mut out, *node)?;
     }
     Ok(out)
 }
 
-// Fails the test unless the marking of the graph has this text.
-fn marks(rt: &impl Abort, alloc: Global, text: &str, expected: &str) -> Result<(), Fail> {
+// The marking of the graph of a text, as a text.
+fn marking(alloc: Global, text: &str) -> Result<String, Fail> {
     let graph = graph_of(alloc, text)?;
     let marked = mark_alone(alloc, &graph, &OpenGate)?;
-    let told = told(alloc, &marked)?;
-    assert_eq!(rt; told.as_str(), expected);
+    told(alloc, &marked)
+}
+
+// Fails the test unless the marking of the graph has this text.
+fn marks(rt: &impl Abort, alloc: Global, text: &str, expected: &str) -> Result<(), Fail> {
+    let told = marking(alloc, text)?;
+    assert!(rt; told.as_str() == expected, "{told}");
     Ok(())
 }
 

@@ -1,6 +1,6 @@
 use Rattle.golf_grey.specs.Hands.{capacity_of, places_of}
 use Rattle.golf_grey.proofs.Pair.{pair}
-use Rattle.golf_tests_marking.proofs.hands.two_hands.Goals as goal
+use Rattle.golf_tests_collector.proofs.hands.two_hands.Goals as goal
 
 pub returns-clause-second : goal.returns-clause-second
 returns-clause-second c =

@@ -1,6 +1,6 @@
 use Rattle.golf_grey.specs.Hands.{capacity_of, places_of}
 use Rattle.golf_grey.proofs.Pair.{both}
-use Rattle.golf_tests_marking.proofs.hands.end.Goals as goal
+use Rattle.golf_tests_collector.proofs.hands.end.Goals as goal
 
 pub close-requires : goal.close-requires
 close-requires c = rw c.in_ok-hands.ensures

@@ -1,11 +1,12 @@
 //! Tests of markers: they share the work, and pass their gate once for each place and once more each.
 
 use crate::examples::{ONE_ROOT_OF_FOUR, TWO_ROOTS, graph_of, list_of_channels, marked_by};
-use golf_base::Gate;
+use golf_base::{Gate, Memory};
 use golf_mark::mark_alone;
 use golf_model::Graph;
 use golf_tests_support::{CountingGate, MeetingGate, StealingGate};
 use std::alloc::Global;
+use std::process::Abort;
 use std::test::Fail;
 use std::thread::Threads;
 
@@ -49,27 +50,49 @@ fn passes<R: Threads + Sync>(
     Ok((gate.passes(), marked.order.len()))
 }
 
-#[test]
-fn each_marked_place_is_a_turn_and_each_marker_ends_in_one(rt: HostRuntime) -> Result<(), Fail> {
-    // 100 nodes and 50 sleepers are marked, and each marker passes the gate once more. Fewer markers would
-    // pass it less often.
-    let graph = list_of_channels(rt.alloc())?;
+// Fails the test unless in the list of channels 100 nodes are marked, and 50 sleepers, and each marker
+// passes the gate once more. Fewer markers would pass it less often.
+fn all_pass<R: Abort + Threads + Sync>(rt: &R, alloc: Global, graph: &Graph) -> Result<(), Fail> {
     for count in [1u32, 2, 4, 16].iter() {
-        let passed = passes(&rt, rt.alloc(), &graph, *count)?;
-        let wanted = (150 + u64::from(*count), 100);
-        assert!(rt; passed == wanted, "{count} markers: {passed:?}");
+        let (passed, marked) = passes(rt, alloc, graph, *count)?;
+        let wanted = 150 + u64::from(*count);
+        assert!(rt;
+            passed == wanted && marked == 100,
+            "{count} markers: {passed}, {marked}"
+        );
     }
     Ok(())
 }
 
 #[test]
+fn each_marked_place_is_a_turn_and_each_marker_ends_in_one(rt: HostRuntime) -> Result<(), Fail> {
+    let graph = list_of_channels(rt.alloc())?;
+    all_pass(&rt, rt.alloc(), &graph)
+}
+
+// The sums of the gate of the plain marking.
+fn plain_sums(alloc: Global, graph: &Graph) -> Result<(u64, u64, u64), Memory> {
+    let gate = CountingGate::new();
+    let _ = mark_alone(alloc, graph, &gate)?;
+    Ok(gate.sums())
+}
+
+// The sums of the gate of one marker.
+fn sums_of_one<R: Threads + Sync>(
+    rt: &R,
+    alloc: Global,
+    graph: &Graph,
+) -> Result<(u64, u64, u64), Fail> {
+    let gate = CountingGate::new();
+    let _ = marked_by(rt, alloc, graph, 1, &gate)?;
+    Ok(gate.sums())
+}
+
+#[test]
 fn one_marker_passes_the_gate_as_the_plain_marking_does(rt: HostRuntime) -> Result<(), Fail> {
-    let alloc = rt.alloc();
-    let graph = list_of_channels(alloc)?;
-    let plain = CountingGate::new();
-    let one = CountingGate::new();
-    let _ = mark_alone(alloc, &graph, &plain)?;
-    let _ = marked_by(&rt, alloc, &graph, 1, &one)?;
-    assert!(rt; plain.sums() == one.sums() && one.sums() == (151, 0, 11325));
+    let graph = list_of_channels(rt.alloc())?;
+    let plain = plain_sums(rt.alloc(), &graph)?;
+    let one = sums_of_one(&rt, rt.alloc(), &graph)?;
+    assert!(rt; plain == one && one == (151, 0, 11325));
     Ok(())
 }
