@@ -1,13 +1,38 @@
 #!/usr/bin/env python3
-"""refused.py PROGRAM FILE WORDS..
+"""Refuses each request for memory of a run in turn.
 
-Runs the built program by these words on the file, once for each request for memory that the run makes, and refuses that one
-request. Each of these runs must end as the whole run does, or with status 8, a prefix of its output, and `out of memory` after
-a prefix of its errors. It wants a C compiler, `cc`, and Linux."""
+    bench/refused.py PROGRAM FILE WORDS..    one run: the program by these words, with the file as its input
+    bench/refused.py --all                   the runs of RUNS and the tests of TESTS
+
+The run is repeated once for each request that it makes, and that request is refused. It must end as the whole run does.
+Or its status is 8, its output is a prefix of the whole one, and its errors are a prefix with the line `out of memory`. A
+test must pass, or say that it got no memory. `--all` takes the programs that the gate built, or else the released ones.
+It needs a C compiler, `cc`, and Linux."""
 import os
+import shutil
 import subprocess
 import sys
 import tempfile
+from concurrent.futures import ThreadPoolExecutor
+from pathlib import Path
+
+ROOT = Path(__file__).resolve().parent.parent
+# Examples of bench/rows.
+RUNS = (
+    "worker_pool_with_an_abandoned_reply_recover",
+    "unreachable_finalised_object_holds_a_channel",
+    "finaliser_set_later_on_a_shared_object",
+    "generate_3",
+    "explore_asleep",
+)
+# Tests of calls that leave all as it was if they lack memory, each with its crate.
+TESTS = (
+    ("golf_tests_collector", "recovery::a_refused_growth_changes_neither_state_nor_book"),
+    ("golf_tests_machine", "refusals::a_select_that_blocks_is_refused_memory"),
+    ("golf_tests_machine", "refusals::a_call_is_refused_memory"),
+)
+# How a test begins to tell that it got no memory.
+LACKED = (b"error: Memory\n", b"error: AllocFailed ")
 
 SHIM = r"""
 #define _GNU_SOURCE
@@ -25,11 +50,13 @@ static int refused(void) {
 static void tell(void) {
     const char *word = getenv("REFUSE_TELLS");
     char text[24]; int n = sizeof text; long left = count;
-    if (!word) return;
+    if (!word || !*word) return;
+    unsetenv("REFUSE_TELLS");
     text[--n] = '\n';
     do text[--n] = '0' + left % 10; while (left /= 10);
     if (write(atoi(word), text + n, sizeof text - n) < 0) syscall(SYS_exit_group, 9);
 }
+__attribute__((destructor)) static void told(void) { tell(); }
 void _exit(int status) { tell(); syscall(SYS_exit_group, status); __builtin_unreachable(); }
 extern void *__libc_malloc(size_t), *__libc_calloc(size_t, size_t), *__libc_realloc(void *, size_t), *__libc_memalign(size_t, size_t);
 void *malloc(size_t n) { if (refused()) { errno = ENOMEM; return 0; } return __libc_malloc(n); }
@@ -40,41 +67,96 @@ int posix_memalign(void **p, size_t a, size_t n) { if (refused()) return ENOMEM;
 """
 
 
-def main():
-    program, file, words = sys.argv[1], sys.argv[2], sys.argv[3:]
-    with open(file, "rb") as it:
-        source = it.read()
-    with tempfile.TemporaryDirectory() as folder:
-        shim = os.path.join(folder, "shim.so")
-        with open(shim + ".c", "w") as it:
-            it.write(SHIM)
-        subprocess.run(["cc", "-O1", "-shared", "-fPIC", "-fno-builtin", "-o", shim, shim + ".c"], check=True)
+class Refusing:
+    """Runs of one program by the same words on the same input, with a request for memory refused."""
 
-        def run(number, tells=None):
-            env = {**os.environ, "LD_PRELOAD": shim, "REFUSE": str(number)}
-            if tells is not None:
-                env["REFUSE_TELLS"] = str(tells)
-            passed = () if tells is None else (tells,)
-            return subprocess.run([program, *words], input=source, capture_output=True, env=env, timeout=60, pass_fds=passed)
+    def __init__(self, shim, program, words, source):
+        self.shim, self.program, self.words, self.source = shim, program, words, source
 
+    def run(self, number, tells=None):
+        """Runs it with this request refused, counted from 1, or with none by 0. The end of a pipe gets how many there are."""
+        env = {**os.environ, "LD_PRELOAD": self.shim, "REFUSE": str(number)}
+        if tells is not None:
+            env["REFUSE_TELLS"] = str(tells)
+        passed = () if tells is None else (tells,)
+        return subprocess.run([self.program, *self.words], input=self.source, capture_output=True, env=env, timeout=60,
+                              pass_fds=passed)
+
+    def whole(self):
+        """The run in which no request is refused, and how many requests it makes."""
         told, tells = os.pipe()
-        whole = run(0, tells)
+        done = self.run(0, tells)
         os.close(tells)
         requests = int(os.read(told, 32))
-        same = wanting = bad = 0
-        for number in range(1, requests + 1):
-            got = run(number)
-            line = b"out of memory\n"
-            if (got.returncode, got.stdout, got.stderr) == (whole.returncode, whole.stdout, whole.stderr):
-                same += 1
-            elif (got.returncode == 8 and whole.stdout.startswith(got.stdout)
-                    and got.stderr.endswith(line) and whole.stderr.startswith(got.stderr[:-len(line)])):
-                wanting += 1
-            else:
-                bad += 1
-                print(f"request {number}: status {got.returncode}, output {got.stdout[-80:]!r}, errors {got.stderr[-200:]!r}")
-        print(f"{requests} requests: {wanting} runs wanted memory, {same} ended as without, {bad} ended otherwise")
-        sys.exit(1 if bad else 0)
+        os.close(told)
+        return done, requests
+
+
+def ends_as(got, whole):
+    """Whether a run ended as the whole one, or for lack of memory, or None if it ended otherwise."""
+    if (got.returncode, got.stdout, got.stderr) == (whole.returncode, whole.stdout, whole.stderr):
+        return "same"
+    if got.stderr.startswith(LACKED):
+        return "lacks"
+    line = b"out of memory\n"
+    lacks = got.returncode == 8 and whole.stdout.startswith(got.stdout) and got.stderr.endswith(line)
+    return "lacks" if lacks and whole.stderr.startswith(got.stderr[:-len(line)]) else None
+
+
+def faults_of(name, runs):
+    """Refuses each request of a run in turn, prints how the runs ended, and answers how many ended otherwise."""
+    whole, requests = runs.whole()
+    with ThreadPoolExecutor(os.cpu_count()) as pool:
+        ends = list(pool.map(lambda number: (number, runs.run(number)), range(1, requests + 1)))
+    same = lacks = 0
+    for number, got in ends:
+        end = ends_as(got, whole)
+        same += end == "same"
+        lacks += end == "lacks"
+        if end is None:
+            print(f"{name}: request {number}: status {got.returncode}, output {got.stdout[-80:]!r}, errors {got.stderr[-200:]!r}")
+    bad = requests - same - lacks
+    print(f"{name}: {requests} requests: {lacks} runs lacked memory, {same} ended as without, {bad} ended otherwise")
+    return bad
+
+
+def program_of(row):
+    """The program of an example: the one that the gate built, or else the released one."""
+    name = (row / "program").read_text().strip() if (row / "program").exists() else "golf"
+    crate = {"golf": "golf", "golf-explore": "golf_explorer"}[name]
+    places = (ROOT / "crates" / crate / "out" / crate, ROOT / "release" / f"{name}-x86_64-linux")
+    return next(str(place) for place in places if place.exists())
+
+
+def listed(shim):
+    """The runs of RUNS, and those of TESTS that were built, each with its name."""
+    for name in RUNS:
+        row = ROOT / "bench" / "rows" / name
+        words = (row / "words").read_text().split()
+        file = row / "main.go"
+        yield name, Refusing(shim, program_of(row), words, file.read_bytes() if file.exists() else b"")
+    for crate, test in TESTS:
+        tests = ROOT / "crates" / crate / "out" / f"{crate}_tests"
+        if tests.exists():
+            yield test, Refusing(shim, str(tests), [test], b"")
+
+
+def main():
+    if len(sys.argv) < 2:
+        sys.exit(__doc__)
+    if not shutil.which("cc"):
+        print("bench/refused.py: left out, since cc is not installed")
+        return
+    with tempfile.TemporaryDirectory() as folder:
+        shim = os.path.join(folder, "shim.so")
+        Path(shim + ".c").write_text(SHIM)
+        subprocess.run(["cc", "-O1", "-shared", "-fPIC", "-fno-builtin", "-o", shim, shim + ".c"], check=True)
+        if sys.argv[1] == "--all":
+            runs = listed(shim)
+        else:
+            program, file, *words = sys.argv[1:]
+            runs = [(file, Refusing(shim, program, words, Path(file).read_bytes()))]
+        sys.exit(1 if sum(faults_of(name, run) for name, run in runs) else 0)
 
 
 main()

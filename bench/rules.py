@@ -4,7 +4,8 @@
 In the table of rules each cell between backticks is `PATH: WORD, WORD` or `PATH` alone: the file must be there, and must
 have each word as a whole word. In the table of what is proved the first cell names crates (none: those of the row above),
 and each word of the last cell must stand in what they export: `NAME`, or `TYPE::NAME`, in their src/ or specs/. So must
-each word of the glossary that stands with one file or crate in parentheses. Run it from anywhere: python3 bench/rules.py
+each word of the glossary that stands with one file or crate in parentheses. Each folder of bench/rows has one row in the
+table of worked examples. Run it from anywhere: python3 bench/rules.py
 """
 
 import re
@@ -15,6 +16,7 @@ ROOT = Path(__file__).resolve().parent.parent
 TABLE = ROOT / "docs" / "RULES.md"
 PROVED = ROOT / "docs" / "PROVED.md"
 GLOSSARY = ROOT / "docs" / "GLOSSARY.md"
+ROWS = ROOT / "bench" / "rows"
 COLUMNS = 8
 
 
@@ -46,6 +48,35 @@ def faults_in(row):
         for name in names:
             faults += faults_of(name)
     return faults
+
+
+def section(title):
+    """The rows of the table under a heading of the rules, each as its cells."""
+    text = TABLE.read_text(encoding="utf-8").partition(f"## {title}\n")[2].partition("\n## ")[0]
+    rows = [line.strip().strip("|").split("|") for line in text.splitlines() if line.startswith("|")]
+    return [[cell.strip() for cell in row] for row in rows[2:]]
+
+
+def faults_of_tests():
+    """What is wrong with the tests that refuse what no clause does, and how many rows they have."""
+    rows = section("What only tests refuse")
+    names = [name for row in rows for name in re.findall(r"`([^`]+)`", row[-1])]
+    return len(rows), [fault for name in names for fault in faults_of(name)] + ["no test"] * sum("`" not in row[-1] for row in rows)
+
+
+def faults_of_examples():
+    """What is wrong with the table of worked examples, and how many there are."""
+    all_rows = section("Worked examples")
+    rows = [row for row in all_rows if row[0].startswith("`bench/rows/")]
+    told = [row[0].strip("`").rpartition("/")[2] for row in rows]
+    there = sorted(folder.name for folder in ROWS.iterdir() if folder.is_dir())
+    faults = [f"no row for {name}" for name in there if told.count(name) != 1]
+    faults += [f"no folder {name}" for name in told if name not in there]
+    for row in all_rows[len(rows) + 2:] + rows:
+        names = re.findall(r"`([^`]+)`", row[-1])
+        faults += [fault for name in names for fault in faults_of(name)]
+        faults += [] if names or row[-1] == "none" else [f"neither a test nor none: {row[-1]}"]
+    return len(all_rows) - 2, faults
 
 
 def text_of(crate):
@@ -100,7 +131,12 @@ def main():
     words, undefined = faults_of_glossary()
     for fault in undefined:
         print(f"glossary: {fault}")
-    counts = ((len(rows), "rules", bad), (proved, "rows of what is proved", lacking), (words, "words of the glossary", undefined))
+    refused, untested = faults_of_tests()
+    examples, wrong = faults_of_examples()
+    for fault in untested + wrong:
+        print(f"tests: {fault}")
+    counts = ((len(rows), "rules", bad), (proved, "rows of what is proved", lacking), (words, "words of the glossary", undefined),
+              (refused, "bodies that tests refuse", untested), (examples, "worked examples", wrong))
     print("; ".join(f"{count} {of}, {len(faults)} faults" for count, of, faults in counts))
     return 0 if all(count and not faults for count, _, faults in counts) else 1
 

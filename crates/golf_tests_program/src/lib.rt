@@ -10,6 +10,8 @@ mod faults;
 #[cfg(test)]
 mod files;
 #[cfg(test)]
+mod finalisers;
+#[cfg(test)]
 mod generated;
 #[cfg(test)]
 mod limits;

@@ -9,7 +9,7 @@ use golf_run_texts::Status;
 use std::test::Fail;
 
 // Rules that the output of a file shows.
-const PRINTED: [Row; 6] = [
+const PRINTED: [Row; 7] = [
     Row {
         shows: "a closed select receives by its first case",
         line: "run",
@@ -195,6 +195,38 @@ const PRINTED: [Row; 6] = [
             }\n",
         status: Status::Clean,
         out: "14\n",
+        err: "",
+    },
+    Row {
+        shows: "the receiver that blocked first gets the first value",
+        line: "run",
+        file: "\
+            package main\n\
+            \n\
+            import \"fmt\"\n\
+            \n\
+            func take(n int, spins int, c chan int, done chan int) {\n\
+            \tfor i := 0; i < spins; i++ {\n\
+            \t}\n\
+            \tv := <-c\n\
+            \tfmt.Println(n, v)\n\
+            \tdone <- n\n\
+            }\n\
+            \n\
+            func main() {\n\
+            \tc := make(chan int)\n\
+            \tdone := make(chan int)\n\
+            \tgo take(1, 50, c, done)\n\
+            \tgo take(2, 0, c, done)\n\
+            \tfor i := 0; i < 100; i++ {\n\
+            \t}\n\
+            \tc <- 10\n\
+            \t<-done\n\
+            \tc <- 20\n\
+            \t<-done\n\
+            }\n",
+        status: Status::Clean,
+        out: "2 10\n1 20\n",
         err: "",
     },
 ];
