@@ -5,8 +5,9 @@
     bench/traced.py --compare PROGRAM [--programs N] [--seed S]   compares PROGRAM with the model
 
 `--compare` runs `PROGRAM trace --every N --schedule choices:..` on each generated program (200 by default) and on the
-files of examples/schedules, by the schedules of bench/explored.py. Output, standard error and status must be the same. The model has
-no finalisers, so goroutine 0 takes no turn in it."""
+files of examples/schedules, by the schedules of bench/explored.py. Output, standard error and status must be the same. So must those
+of `PROGRAM trace --threads N`, but for the last line: that has the numbers of the turns, by which the model runs. The model has no
+finalisers, so goroutine 0 takes no turn in it."""
 import argparse
 import random
 import subprocess
@@ -56,15 +57,34 @@ class Traced(Run):
         return printed
 
 
+def told(program, text, words):
+    """Returns the output, the standard error and the status of a trace."""
+    ran = subprocess.run(program.split() + ['trace'] + words, input=text.encode(), capture_output=True, timeout=600)
+    return ran.stdout.decode(), ran.stderr.decode(), ran.returncode
+
+
+def faults_of(name, words, theirs, run):
+    """Returns a line for each part of a trace in which the model's run and the program's differ."""
+    ours = lines_of(run.output), lines_of(run.errors), run.status
+    return ['program %s, %s: %s\n  told:  %r\n  model: %r' % (name, ' '.join(words), part, their, our)
+            for part, their, our in zip(('output', 'errors', 'status'), theirs, ours) if their != our]
+
+
 def faults_of_run(program, name, text, words, numbers, every):
-    """Returns a line for each part of a trace in which the model and the program differ."""
-    run = Traced(code_of(text), numbers, every)
-    ran = subprocess.run(program.split() + ['trace', '--every', str(every)] + words, input=text.encode(),
-                         capture_output=True, timeout=600)
-    pairs = (('output', ran.stdout.decode(), lines_of(run.output)), ('errors', ran.stderr.decode(), lines_of(run.errors)),
-             ('status', ran.returncode, run.status))
-    return ['program %s, %s: %s\n  told:  %r\n  model: %r' % (name, ' '.join(words), part, theirs, ours)
-            for part, theirs, ours in pairs if theirs != ours]
+    """Returns a line for each part in which a run by these numbers differs."""
+    words = ['--every', str(every)] + words
+    return faults_of(name, words, told(program, text, words), Traced(code_of(text), numbers, every))
+
+
+def faults_by_threads(program, name, text, threads):
+    """Returns a line for each part in which a run by threads differs from one by the numbers that it tells."""
+    words = ['--threads', str(threads)]
+    output, errors, status = told(program, text, words)
+    lines, history = errors.rstrip('\n').rpartition('history: ')[::2]
+    if not (history and all(number.isdigit() for number in history.split(','))):
+        return ['program %s, %s: no numbers: %r' % (name, ' '.join(words), errors)]
+    numbers = [int(number) for number in history.split(',')]
+    return faults_of(name, words, (output, lines, status), Traced(code_of(text), numbers, len(numbers) + 1))
 
 
 def programs(seed, count):
@@ -82,6 +102,8 @@ def compare(options):
         for words, numbers in schedules_of(at_random):
             bad += faults_of_run(options.compare, name, text, words, numbers, at_random.choice([1, 7, 1000]))
             runs += 1
+        bad += faults_by_threads(options.compare, name, text, at_random.choice([1, 2, 4]))
+        runs += 1
     return ended('%d runs told by the model and by the program' % runs, bad)
 
 

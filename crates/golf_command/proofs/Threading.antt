@@ -1,5 +1,5 @@
 -- The texts of a run by threads are those of the run of its numbers.
--- For: `texts_by_threads`, src/threads.rt
+-- For: `texts_by_threads`, `turns_by_threads`, src/threads.rt
 -- By: the laws of the history's turns; induction over the list of reports
 use Rattle.std.proofs.Common.{◌≡◌, ℕ, false, List, [], ◌∷◌, ◌++◌, length, refl, sym, ap, append-nil, ◌∙◌}
 use Rattle.golf_data.specs.declared.code.Code.{Code}
@@ -31,7 +31,7 @@ module _ (code : Code) (threads : ℕ) (s : State) (history : History) (w : IsWh
   abbrev ns : List ℕ
   ns = numbers_in history.entries
 
-  are-turns : AreTurns code threads ns
+  pub are-turns : AreTurns code threads ns
   are-turns = history-turns code threads history.entries w.history w.few (λ goes. w.whole (w.ends ∙ goes))
 
   -- the events of the run by these numbers are the turns of the entries

@@ -1,7 +1,8 @@
 //! The whole program, over any source and any two sinks.
 //!
 //! - `golf`: the top call, which does all that the program does.
-//! - `load`, `end`: the code of a source, and a last line with its status, for other programs.
+//! - `load`, `turns_by_threads`, `end`: the code of a source, the turns of its run by threads, and a last line with its
+//!   status, for other programs.
 #![tactic(auto)]
 
 mod ends;
@@ -14,4 +15,5 @@ mod top;
 
 pub use ends::end;
 pub use loading::load;
+pub use threads::turns_by_threads;
 pub use top::golf;

@@ -8,6 +8,7 @@ ghost use Rattle.golf_run_texts.specs.Texts.{history_line as history_line_of, la
 ghost use Rattle.golf_run_texts.specs.Texts.{reports_text as reports_text_of};
 ghost use Rattle.golf_run.specs.HasRun.{sinks};
 ghost use Rattle.golf_command.specs.Means.{seen, LineTells};
+ghost use Rattle.golf_command.specs.Ways.{AreTurns};
 ghost use Rattle.golf_command.specs.Written.{AreTextsByThreads};
 ghost use Rattle.golf_command_words.specs.declared.line.CommandLine.{CommandLine};
 ghost use Rattle.golf_world.specs.History.{most_entries};
@@ -22,17 +23,6 @@ use golf_world::{History, HistoryEntry, run_threads};
 use std::alloc::Global;
 use std::sync::Wait;
 use std::thread::Threads;
-
-// A copy of the texts.
-fn copied(alloc: Global, texts: &[List<u8>]) -> Result<List<List<u8>>, Memory>
-    ensures { IfOk result (λ copies. copies ≡ texts.now) }
-{
-    let mut copies = List::new(alloc);
-    for text in texts {
-        copies.push(list_of(alloc, text.as_slice())?)?;
-    }
-    Ok(copies)
-}
 
 // The numbers of the turns.
 fn numbers_of(alloc: Global, entries: &[HistoryEntry]) -> Result<List<u64>, Memory>
@@ -70,24 +60,43 @@ fn texts_by_threads<R: Threads + Wait + Sync, G: Gate + Sync>(
     rt: &R,
     alloc: Global,
     threads: u32,
-    code: Code,
+    code: &Code,
     gate: &G,
 ) -> Result<RunTexts, Memory>
-    requires places { HasPlaces code }
+    requires places { HasPlaces code.now }
     requires some { 1 ≤ threads }
     requires few { threads ≤ 16 }
-    ensures { IfOk result (λ of. AreTextsByThreads of threads code) }
+    ensures { IfOk result (λ of. AreTextsByThreads of threads code.now) }
 {
-    let texts = copied(alloc, code.texts.as_slice())?;
     let (state, history) = run_threads(rt, alloc, code, threads, gate)?;
     let ending = state.ending();
-    let err = errors(alloc, texts.as_slice(), ending, &history)?;
+    let err = errors(alloc, code.texts.as_slice(), ending, &history)?;
     let out = list_of(alloc, state.output())?;
     Ok(RunTexts {
         status: status_by(anyone_reported(history.reports.as_slice()), ending),
         out,
         err,
     })
+}
+
+/// Runs the code by this many threads, and returns the numbers of its turns: the history that `run --threads`
+/// prints. Each thread passes the gate before each of its steps. The only error is `Memory`. It may wait for
+/// the lock of the program.
+pub fn turns_by_threads<R: Threads + Wait + Sync, G: Gate + Sync>(
+    rt: &R,
+    alloc: Global,
+    threads: u32,
+    code: &Code,
+    gate: &G,
+) -> Result<List<u64>, Memory>
+    requires places { HasPlaces code.now }
+    requires some { 1 ≤ threads }
+    requires few { threads ≤ 16 }
+    ensures { IfOk result (AreTurns code.now threads) }
+{
+    let (_, history) = run_threads(rt, alloc, code, threads, gate)?;
+    let turns = numbers_of(alloc, history.entries.as_slice())?;
+    Ok(turns)
 }
 
 /// Serves the command line `run --threads`: reads the file and runs it by this many threads. Each thread
@@ -113,6 +122,6 @@ pub(crate) fn serve_threads<
     write_texts(
         out,
         err,
-        texts_by_threads(rt, rt.alloc(), threads, code, gate),
+        texts_by_threads(rt, rt.alloc(), threads, &code, gate),
     )
 }

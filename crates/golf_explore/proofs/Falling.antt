@@ -1,5 +1,5 @@
 -- Ranks that fall along the edges of all visits: each run ends.
--- For: `have_ranks`, src/ranking.rt; `explore`, src/exploring.rt; `Fall`, specs/Ranking.antt
+-- For: `have_ranks`, src/ranking.rt; `Exploration::step`, src/exploring.rt; `Fall`, specs/Ranking.antt
 -- By: induction over the list of states and that of ranks; the law of ranked lists
 use Rattle.std.proofs.Common.{◌≡◌, ℕ, zero, suc, ◌+◌, ◌<◌, List, [], ◌∷◌, length, Some, None, slice_get}
 use Rattle.std.proofs.Common.{take, ◌⊎◌, inl, inr, refl, sym, ap, ◌∙◌, subst, arith}

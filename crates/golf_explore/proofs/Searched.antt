@@ -1,9 +1,9 @@
 -- What holds of all visits once each is done.
--- For: `explore` and `opened`, src/exploring.rt; `has_panic` and `has_sleep`, src/endings.rt; `Tells`,
+-- For: `Exploration` and `opened`, src/exploring.rt; `has_panic` and `has_sleep`, src/endings.rt; `Tells`,
 -- specs/Telling.antt
 -- By: the laws of closed lists, and induction over the list of visits
 use Rattle.std.proofs.Common.{◌≡◌, ℕ, zero, suc, ◌<◌, List, [], ◌∷◌, ◌++◌, length, Bool, true, false, Option, Some}
-use Rattle.std.proofs.Common.{None, slice_get, inl, inr, refl, sym, ap, ◌∙◌, subst, arith}
+use Rattle.std.proofs.Common.{None, Result, Ok, Err, IfOk, slice_get, inl, inr, refl, sym, ap, ◌∙◌, subst, arith}
 use Rattle.std.proofs.lemmas.Bool.{or_parts}
 use Rattle.golf_theory.specs.Membership.{In}
 use Rattle.golf_theory.proofs.Lists.{In-slice_get}
@@ -17,6 +17,7 @@ use Rattle.golf_explore_laws.specs.Closed.{after_turn, IsTurn, SettlesIn, IsClos
 use Rattle.golf_explore_laws.specs.Laws.{is_panic, is_asleep}
 use Rattle.golf_explore_laws.proofs.MainLaws.{closed_lists_never_leak, closed_lists_never_report}
 use Rattle.golf_explore_laws.proofs.MainLaws.{closed_lists_report_nobody, closed_lists_never_end}
+use Rattle.golf_explore.specs.declared.exploring.Exploration.{Exploration}
 use Rattle.golf_explore.specs.declared.exploring.Explored.{Explored}
 use Rattle.golf_explore.specs.declared.exploring.Visited.{Visited}
 use Rattle.golf_explore.specs.declared.visits.Came.{Came}
@@ -24,9 +25,10 @@ use Rattle.golf_explore.specs.declared.visits.Edge.{Edge}
 use Rattle.golf_explore.specs.declared.visits.Visit.{Visit}
 use Rattle.golf_explore.specs.Ranking.{HaveRanks}
 use Rattle.golf_explore.specs.Visiting.{states, IsFrom, IsWell, AreVisits, LeadsTo, AreDone, ends_by}
-use Rattle.golf_explore.specs.Visiting.{has_ended_by}
-use Rattle.golf_explore.specs.Telling.{run_of, some_ended, CanEnd, Decides, EndsIf, Tells, HasTold}
-use Rattle.golf_explore.proofs.Growing.{states-length, get-states}
+use Rattle.golf_explore.specs.Visiting.{has_ended_by, HasVisited}
+use Rattle.golf_explore.specs.Telling.{run_of, some_ended, CanEnd, Decides, EndsIf, Tells, HasTold, IsExploring, Unless}
+use Rattle.golf_explore.proofs.Growing.{states-length, get-states, grown-length}
+use Rattle.golf_explore.proofs.Leading.{done-more, count-more}
 use Rattle.golf_explore.proofs.Falling.{In-get, get-there, always-ends}
 use Rattle.golf_explore.proofs.Turns.{leads-append, run-goes}
 
@@ -127,3 +129,27 @@ module _ (code : Code) (vs : List Visit) (edges : List (List Edge)) (are : AreVi
 pub opening-well : (code : Code) → IsWell (start code)
 unfolding live_list
 opening-well code goes = (refl, refl)
+
+-- ---- a step of the search
+
+-- what holds if the search goes on leads to something else
+if-it-goes-on : {E P Q : Type 0} (code : Code) → (P → Q) → (r : Result (Option Explored) E) → IfOk r (Unless code P)
+    → IfOk r (Unless code Q)
+if-it-goes-on code f (Ok None) h = f h
+if-it-goes-on code f (Ok (Some explored)) h = h
+if-it-goes-on code f (Err e) h = tt
+
+-- one more visit is done
+pub still-exploring : {E : Type 0} (code : Code) (mid new : Exploration) (at : ℕ) → length mid.edges ≡ at
+    → at < length mid.visits.list → AreDone code (states mid.visits.list) mid.edges → (r : Result (Option Explored) E)
+    → IfOk r (Unless code (HasVisited code mid.visits.list new.visits.list mid.edges new.edges at))
+    → IfOk r (Unless code (IsExploring code new))
+still-exploring code mid new at count within were =
+    if-it-goes-on code (λ more.
+    let grown = grown-length mid.visits.list new.visits.list more.grows in
+    let longer = count-more code mid.visits.list new.visits.list mid.edges new.edges at within more count were in
+    record {
+      visits = more.visits;
+      within = omega (arith, within, grown, longer);
+      done = done-more code mid.visits.list new.visits.list mid.edges new.edges at within more count were;
+    })

@@ -7,10 +7,15 @@ use Rattle.golf_model.specs.Living.{dead}
 use Rattle.golf_explore_laws.specs.After.{after_all}
 use Rattle.golf_explore_laws.specs.Laws.{is_panic, is_asleep}
 use Rattle.golf_explore.specs.declared.attempting.Reached.{Reached}
+use Rattle.golf_explore.specs.declared.searching.Search.{Search}
 use Rattle.golf_explore.specs.declared.searching.SearchResult.{SearchResult}
 use Rattle.golf_explore.specs.declared.seeking.Sought.{Sought}
 use Rattle.golf_explore.specs.Telling.{run_of}
 use Rattle.golf_explore.specs.Visiting.{GoesOn, has_ended_by}
+
+-- what a search under way looks for
+abbrev pub sought_of : Search → Sought
+sought_of search = search.aim.sought
 
 -- the state is one that is sought
 abbrev pub IsFound : Sought → State → Type 0

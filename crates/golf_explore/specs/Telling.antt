@@ -1,5 +1,5 @@
 -- The meaning of the result of a search.
-use Rattle.std.specs.Prelude.{◌≡◌, ℕ, Bool, true, false, List, [], length, map, Option, Some, None}
+use Rattle.std.specs.Prelude.{◌≡◌, ℕ, ◌≤◌, Bool, true, false, List, [], length, map, Option, Some, None}
 use Rattle.golf_theory.specs.Membership.{any_of}
 use Rattle.golf_data.specs.declared.code.Code.{Code}
 use Rattle.golf_data.specs.declared.goroutine.Ending.{Ending}
@@ -10,10 +10,11 @@ use Rattle.golf_explore_laws.specs.After.{after_all}
 use Rattle.golf_explore_laws.specs.Closed.{IsClosed}
 use Rattle.golf_explore_laws.specs.Laws.{is_panic, is_asleep, NeverEnds, NeverLeaks, NeverReports, ReportsNobody}
 use Rattle.golf_explore_laws.specs.Laws.{AlwaysEnds}
+use Rattle.golf_explore.specs.declared.exploring.Exploration.{Exploration}
 use Rattle.golf_explore.specs.declared.exploring.Explored.{Explored}
 use Rattle.golf_explore.specs.declared.exploring.Visited.{Visited}
 use Rattle.golf_explore.specs.declared.visits.Visit.{Visit}
-use Rattle.golf_explore.specs.Visiting.{has_ended_by}
+use Rattle.golf_explore.specs.Visiting.{has_ended_by, states, AreVisits, AreDone}
 
 -- the state after the turns of these numbers, with the collections that instructions ask for
 abbrev pub run_of : Code → List ℕ → State
@@ -63,6 +64,13 @@ Tells code (Explored.AllVisited told) =
 Tells code (Explored.Leak numbers) = (ending (run_of code numbers) ≡ None) × (dead (run_of code numbers) ≡ [] → ⊥)
 Tells code Explored.Finalisers = GivesFinaliser code
 Tells code Explored.TooMany = Unit {0}
+
+-- A search over all schedules under way: the visits are reached, and by the edges of the first ones the states after
+-- their turns settle in the list.
+pub record IsExploring (code : Code) (e : Exploration) : Type 0 where
+  pub visits : AreVisits code e.visits.list
+  pub within : length e.edges ≤ length e.visits.list
+  pub done : AreDone code (states e.visits.list) e.edges
 
 -- this holds, or the search ends with this result
 abbrev pub Unless : Code → Type 0 → Option Explored → Type 0

@@ -5,14 +5,14 @@
 
 ghost use Rattle.std.specs.Prelude.{IfOk};
 ghost use Rattle.golf_data.specs.Places.{HasPlaces};
-ghost use Rattle.golf_explore.specs.Telling.{Tells, HasTold};
+ghost use Rattle.golf_explore.specs.Telling.{HasTold, IsExploring, Unless};
 ghost use Rattle.golf_explore.specs.Visiting.{AreVisits};
 
 use crate::endings::{has_panic, has_sleep};
 use crate::expanding::expand;
 use crate::hashing::hash_of;
 use crate::ranking::have_ranks;
-use crate::visits::{Visit, Visits};
+use crate::visits::{Edge, Visit, Visits};
 use golf_base::{List, Memory};
 use golf_data::Code;
 use golf_machine::start;
@@ -68,25 +68,64 @@ fn told(visits: &[Visit], count: u32, ends: bool) -> Visited
     }
 }
 
-/// Visits states of all schedules of the code, up to `most` states, the nearest first. After each turn frame-local turns
-/// are taken at once, and only the state after them is visited.
+/// A search over all schedules that is under way.
 ///
-/// It ends at the first leak, whose schedule it makes shorter, as `search` does. The time is linear in the turns of all
-/// paths, since a state is made anew for each of its turns. The only error is `Memory`.
-pub fn explore(alloc: Global, code: &Code, most: u32) -> Result<Explored, Memory>
-    requires { HasPlaces code.now }
-    ensures { IfOk result (Tells code.now) }
-{
-    let mut visits = opened(alloc, code)?;
-    let mut edges = List::new(alloc);
-    for at in 0..u32::MAX {
-        if at as usize >= visits.list.len() {
-            let ends = have_ranks(alloc, edges.as_slice())?;
-            return Ok(Explored::AllVisited(told(visits.list.as_slice(), at, ends)));
-        }
-        if let Some(explored) = expand(alloc, code, &mut visits, &mut edges, most, at)? {
-            return Ok(explored);
-        }
+/// It visits states breadth first, each one once. After each turn frame-local turns are taken at once, and only the
+/// state after them is visited. It ends at the first leak, whose schedule it makes shorter, as `Search` does.
+///
+/// The time is linear in the turns of all paths, since a state is made anew for each of its turns.
+#[derive(Drop)]
+pub struct Exploration {
+    visits: Visits,
+    // The edges of the first visits: of those whose turns were taken.
+    edges: List<List<Edge>>,
+    // The most visits.
+    most: u32,
+}
+
+impl Exploration {
+    /// Begins a search that visits at most `most` states. The only error is `Memory`.
+    pub fn new(alloc: Global, code: &Code, most: u32) -> Result<Exploration, Memory>
+        ensures { IfOk result (IsExploring code.now) }
+    {
+        let visits = opened(alloc, code)?;
+        let edges = List::new(alloc);
+        Ok(Exploration {
+            visits,
+            edges,
+            most,
+        })
     }
-    Ok(Explored::TooMany)
+
+    /// Returns how many states were visited so far.
+    pub fn states(&self) -> u64 {
+        self.visits.list.len() as u64
+    }
+
+    /// Takes all turns of the next visit. Returns `None` if the search goes on, and its result at its end. The only
+    /// error is `Memory`.
+    pub fn step(&mut self, alloc: Global, code: &Code) -> Result<Option<Explored>, Memory>
+        requires places { HasPlaces code.now }
+        requires exploring { IsExploring code.now self.old }
+        ensures { IfOk result (Unless code.now (IsExploring code.now self.new)) }
+    {
+        let at = self.edges.len();
+        if at > u32::MAX as usize {
+            return Ok(Some(Explored::TooMany));
+        }
+        if at >= self.visits.list.len() {
+            let ends = have_ranks(alloc, self.edges.as_slice())?;
+            let told = told(self.visits.list.as_slice(), at as u32, ends);
+            return Ok(Some(Explored::AllVisited(told)));
+        }
+        let most = self.most;
+        expand(
+            alloc,
+            code,
+            &mut self.visits,
+            &mut self.edges,
+            most,
+            at as u32,
+        )
+    }
 }

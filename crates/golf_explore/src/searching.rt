@@ -7,7 +7,7 @@ ghost use Rattle.std.specs.Prelude.{◌≡◌, ◌<◌, ◌∷◌, ◌++◌, [],
 ghost use Rattle.golf_data.specs.Places.{HasPlaces};
 ghost use Rattle.golf_data.specs.declared.code.Code.{Code as CodeOf};
 ghost use Rattle.golf_explore.specs.declared.seeking.Sought.{Sought as SoughtOf};
-ghost use Rattle.golf_explore.specs.Seeking.{Finds};
+ghost use Rattle.golf_explore.specs.Seeking.{Finds, sought_of};
 
 use crate::attempting::{Reached, attempt, can_run};
 use crate::choices::choices;
@@ -46,16 +46,27 @@ pub struct Aim {
     pub states: u32,
 }
 
+// A visit whose turns are to be looked at: those that need no preemption, or the others.
+#[derive(Clone, Copy, Debug, PartialEq, Eq)]
+struct Outlook {
+    // The place of the visit.
+    at: u32,
+    preempting: bool,
+}
+
 // What a search has visited, and what it is still to look at.
 #[derive(Drop)]
 struct Frontier {
     visits: Visits,
     // For each visit the goroutine that took the last turn. For the first one there is none.
     runners: List<Option<GoroutineId>>,
-    // The places of the visits whose turns are looked at now.
-    here: List<u32>,
-    // The places of those whose other turns come with one more preemption.
+    // What is looked at with this many preemptions, and how much of it was looked at.
+    here: List<Outlook>,
+    looked: usize,
+    // The places of the visits whose other turns come with one more preemption.
     later: List<u32>,
+    // How many preemptions a schedule may have now.
+    preemptions: u32,
 }
 
 // The hash of a state and of the goroutine that took the last turn.
@@ -155,12 +166,17 @@ impl Frontier {
         let mut runners = List::new(alloc);
         runners.push(None)?;
         let mut here = List::new(alloc);
-        here.push(0)?;
+        here.push(Outlook {
+            at: 0,
+            preempting: false,
+        })?;
         Ok(Frontier {
             visits,
             runners,
             here,
+            looked: 0,
             later: List::new(alloc),
+            preemptions: 0,
         })
     }
 
@@ -186,7 +202,10 @@ impl Frontier {
         let came = came_by(alloc, parent, number)?;
         self.visits.push(reached.state, Some(came), hash)?;
         self.runners.push(reached.runner)?;
-        self.here.push(place as u32)?;
+        self.here.push(Outlook {
+            at: place as u32,
+            preempting: false,
+        })?;
         Ok(None)
     }
 
@@ -216,18 +235,18 @@ impl Frontier {
         self.keep(alloc, aim.states, reached, parent, number)
     }
 
-    // Looks at turns of a visit: those that need no preemption, or the others.
+    // Looks at turns of a visit.
     fn expand(
         &mut self,
         alloc: Global,
         code: &Code,
         aim: Aim,
-        at: u32,
-        preempting: bool,
+        outlook: Outlook,
     ) -> Result<Option<SearchResult>, Memory>
         requires { HasPlaces code.now }
         ensures { IfOk result (λ searched. IfSome searched (Finds code.now aim.sought)) }
     {
+        let Outlook { at, preempting } = outlook;
         let Some(visit) = self.visits.list.as_slice().get(at as usize) else {
             return Ok(None);
         };
@@ -250,85 +269,79 @@ impl Frontier {
         Ok(None)
     }
 
-    // Looks at all states that no further preemption is needed for.
-    fn go_on(
-        &mut self,
-        alloc: Global,
-        code: &Code,
-        aim: Aim,
-    ) -> Result<Option<SearchResult>, Memory>
-        requires { HasPlaces code.now }
-        ensures { IfOk result (λ searched. IfSome searched (Finds code.now aim.sought)) }
+    // Goes on with one more preemption: of the goroutines that could go on. If there are none, or schedules have no more
+    // preemptions, nothing was found.
+    fn rise(&mut self, most: u32) -> Result<Option<SearchResult>, Memory>
+        ensures { (code : CodeOf) (sought : SoughtOf) → IfOk result (λ searched. IfSome searched (Finds code sought)) }
     {
-        for next in 0..u32::MAX {
-            let Some(at) = self.here.as_slice().get(next as usize).copied() else {
-                return Ok(None);
-            };
-            if let Some(searched) = self.expand(alloc, code, aim, at, false)? {
-                return Ok(Some(searched));
-            }
+        if self.later.is_empty() || self.preemptions >= most {
+            let states = self.visits.list.len() as u64;
+            return Ok(Some(SearchResult::Nothing(states)));
         }
-        Ok(Some(SearchResult::TooMany))
-    }
-
-    // Preempts the goroutines of the states in which they could go on.
-    fn preempt(
-        &mut self,
-        alloc: Global,
-        code: &Code,
-        aim: Aim,
-    ) -> Result<Option<SearchResult>, Memory>
-        requires { HasPlaces code.now }
-        ensures { IfOk result (λ searched. IfSome searched (Finds code.now aim.sought)) }
-    {
-        let mut places = List::new(alloc);
-        places.extend_from_slice(self.later.as_slice())?;
-        self.later.clear();
+        self.preemptions = self.preemptions.saturating_add(1);
         self.here.clear();
-        for at in places.as_slice() {
-            if let Some(searched) = self.expand(alloc, code, aim, *at, true)? {
-                return Ok(Some(searched));
-            }
+        self.looked = 0;
+        for at in self.later.as_slice() {
+            self.here.push(Outlook {
+                at: *at,
+                preempting: true,
+            })?;
         }
+        self.later.clear();
         Ok(None)
     }
+
+    // Looks at turns of the next visit. If there is none, it goes on with one more preemption.
+    fn step(&mut self, alloc: Global, code: &Code, aim: Aim) -> Result<Option<SearchResult>, Memory>
+        requires { HasPlaces code.now }
+        ensures { IfOk result (λ searched. IfSome searched (Finds code.now aim.sought)) }
+    {
+        let Some(outlook) = self.here.as_slice().get(self.looked).copied() else {
+            return self.rise(aim.preemptions);
+        };
+        self.looked = self.looked.saturating_add(1);
+        self.expand(alloc, code, aim, outlook)
+    }
 }
 
-// Searches with a rising number of preemptions.
-fn seek(alloc: Global, code: &Code, aim: Aim) -> Result<SearchResult, Memory>
-    requires { HasPlaces code.now }
-    ensures { IfOk result (Finds code.now aim.sought) }
-{
-    let mut frontier = Frontier::new(alloc, code)?;
-    if let Some(searched) = frontier.go_on(alloc, code, aim)? {
-        return Ok(searched);
-    }
-    for _ in 0..aim.preemptions {
-        if let Some(searched) = frontier.preempt(alloc, code, aim)? {
-            return Ok(searched);
-        }
-        if let Some(searched) = frontier.go_on(alloc, code, aim)? {
-            return Ok(searched);
-        }
-    }
-    Ok(SearchResult::Nothing(frontier.visits.list.len() as u64))
+/// A search by a rising number of preemptions that is under way. A turn is a preemption if the goroutine of the last
+/// turn can go on and another one takes it.
+#[derive(Drop)]
+pub struct Search {
+    aim: Aim,
+    frontier: Frontier,
 }
 
-/// Looks for a schedule that reaches what is sought, by a rising number of preemptions. If that has at most 4,096
-/// turns, it is made shorter: each turn is tried, the last ones first. It is left out if the others reach what is
-/// sought, with no more preemptions. The only error is `Memory`.
-///
-/// A turn is a preemption if the goroutine of the last turn can go on and another one takes it.
-pub fn search(alloc: Global, code: &Code, aim: Aim) -> Result<SearchResult, Memory>
-    requires { HasPlaces code.now }
-    ensures { IfOk result (Finds code.now aim.sought) }
-{
-    match seek(alloc, code, aim)? {
-        SearchResult::Found(numbers) => Ok(SearchResult::Found(shortened(
-            alloc, code, aim.sought, numbers,
-        )?)),
-        SearchResult::Nothing(states) => Ok(SearchResult::Nothing(states)),
-        SearchResult::Finalisers => Ok(SearchResult::Finalisers),
-        SearchResult::TooMany => Ok(SearchResult::TooMany),
+impl Search {
+    /// Begins a search. The only error is `Memory`.
+    pub fn new(alloc: Global, code: &Code, aim: Aim) -> Result<Search, Memory>
+        ensures { IfOk result (λ search. sought_of search ≡ aim.sought) }
+    {
+        let frontier = Frontier::new(alloc, code)?;
+        Ok(Search { aim, frontier })
+    }
+
+    /// Returns how many states are kept so far.
+    pub fn states(&self) -> u64 {
+        self.frontier.visits.list.len() as u64
+    }
+
+    /// Looks at turns of the next state. Returns `None` if the search goes on, and its result at its end. The only error
+    /// is `Memory`.
+    ///
+    /// If a schedule that is found has at most 4,096 turns, it is made shorter: each turn is tried, the last ones first.
+    /// It is left out if the others reach what is sought, with no more preemptions.
+    pub fn step(&mut self, alloc: Global, code: &Code) -> Result<Option<SearchResult>, Memory>
+        requires { HasPlaces code.now }
+        ensures found { IfOk result (λ searched. IfSome searched (Finds code.now (sought_of self.old))) }
+        ensures same { sought_of self.new ≡ sought_of self.old }
+    {
+        match self.frontier.step(alloc, code, self.aim)? {
+            Some(SearchResult::Found(numbers)) => {
+                let fewer = shortened(alloc, code, self.aim.sought, numbers)?;
+                Ok(Some(SearchResult::Found(fewer)))
+            }
+            searched => Ok(searched),
+        }
     }
 }

@@ -19,6 +19,7 @@ use Rattle.golf_run_schedules.specs.declared.options.RunOptions.{RunOptions}
 use Rattle.golf_run_texts.specs.Output.{last_of, reports_of, anyone_reported, status_by, status_of}
 use Rattle.golf_run.specs.HasRun.{Sinks, sinks}
 use Rattle.golf_command.specs.Ends.{EndsWith}
+use Rattle.golf_command.specs.Ways.{history_options}
 use Rattle.golf_command.specs.Means.{seen, SourceCauses}
 use Rattle.golf_command.specs.Loads.{SourceFailed, FileRefused, MemoryRanOut, HasFile}
 use Rattle.golf_explore_words.specs.declared.line.ExploreLine.{ExploreLine}
@@ -26,11 +27,12 @@ use Rattle.golf_explore_words.specs.Words.{line_of}
 use Rattle.golf_explore_words.specs.declared.line.Question.{Question}
 use Rattle.golf_explore.specs.declared.exploring.Explored.{Explored}
 use Rattle.golf_explore.specs.declared.searching.SearchResult.{SearchResult}
+use Rattle.golf_explore_command.specs.declared.finding.Searched.{Searched}
 use Rattle.golf_explore_command.specs.Texts.{usage_text}
-use Rattle.golf_explore_command.specs.Answers.{status_for, status_found, IsAnswer}
+use Rattle.golf_explore_command.specs.Answers.{status_for, status_searched, IsAnswer}
 use Rattle.golf_explore_command.specs.Telling.{CodeComes, Wrote, CodeTells, CallTells}
 use Rattle.golf_explore_command.specs.Telling.Comes.{Misused, Unread, Refused, Served, NoMemory}
-use Rattle.golf_explore_command.proofs.Writing.{ends-alone}
+use Rattle.golf_explore_command.proofs.Writing.{nothing-written, still-steady, ends}
 
 -- a status other than that of a source that failed
 abbrev IsNoReadFault : Status → Type 0
@@ -63,9 +65,18 @@ read-causes r text err err' ef ef' before now rose later (inr e) =
     subst (λ x. SourceCauses x before now) (sym e.0) later
 
 module _ (words : List (List ℕ)) (left left' : Option (List ℕ)) (rf rf' : ℕ) (out : Option (List ℕ)) (of : ℕ)
-    (err err' : Option (List ℕ)) (ef ef' : ℕ) (r : Status) where
+    (err err' : Option (List ℕ)) (ef ef' : ℕ) (r : Status) (shows : Bool) where
+  abbrev before : Sinks
+  before = sinks out of err ef
+
+  -- the line of a cause alone
+  ends-alone : (status : Status) (text : List ℕ) → EndsWith r status text err err' ef ef'
+      → Wrote status (Write.ToErr text ∷ []) r before (sinks out of err' ef')
+  ends-alone status text e = ends [] before before (nothing-written before) (still-steady before) err' ef' status r text
+      e
+
   abbrev Told : Type 0
-  Told = CallTells words r (seen left rf (sinks out of err ef)) (seen left' rf' (sinks out of err' ef'))
+  Told = CallTells words shows r (seen left rf (sinks out of err ef)) (seen left' rf' (sinks out of err' ef'))
 
   -- ---- the words are no line
 
@@ -74,7 +85,7 @@ module _ (words : List (List ℕ)) (left left' : Option (List ℕ)) (rf rf' : �
     status = s.Usage;
     writes = Write.ToErr usage_text ∷ [];
     comes = Misused none (subst (Keeps left) (sym same) (Keeps-refl left));
-    wrote = ends-alone out of err err' ef ef' s.Usage r usage_text e;
+    wrote = ends-alone s.Usage usage_text e;
     source = still-causes r rf rf' (line-status r s.Usage usage_text err err' ef ef' tt e) quiet;
   }
 
@@ -83,7 +94,7 @@ module _ (words : List (List ℕ)) (left left' : Option (List ℕ)) (rf rf' : �
     status = s.Memory;
     writes = Write.ToErr no_memory_text ∷ [];
     comes = NoMemory;
-    wrote = ends-alone out of err err' ef ef' s.Memory r no_memory_text e;
+    wrote = ends-alone s.Memory no_memory_text e;
     source = still-causes r rf rf' (line-status r s.Memory no_memory_text err err' ef ef' tt e) quiet;
   }
 
@@ -95,7 +106,7 @@ module _ (words : List (List ℕ)) (left left' : Option (List ℕ)) (rf rf' : �
       status = s.ReadFault;
       writes = Write.ToErr read_fault_text ∷ [];
       comes = Unread line is;
-      wrote = ends-alone out of err err' ef ef' s.ReadFault r read_fault_text h.says;
+      wrote = ends-alone s.ReadFault read_fault_text h.says;
       source = read-causes r read_fault_text err err' ef ef' rf rf' h.rose h.later h.says;
     }
 
@@ -104,7 +115,7 @@ module _ (words : List (List ℕ)) (left left' : Option (List ℕ)) (rf rf' : �
       status = s.Refused;
       writes = Write.ToErr h.text ∷ [];
       comes = Refused line h.bytes h.text is h.told h.why;
-      wrote = ends-alone out of err err' ef ef' s.Refused r h.text h.says;
+      wrote = ends-alone s.Refused h.text h.says;
       source = still-causes r rf rf' (line-status r s.Refused h.text err err' ef ef' tt h.says) h.quiet;
     }
 
@@ -129,9 +140,9 @@ unfolding status_of
 ran code options = by_ending (anyone_reported (reports_of code options)) (ending (last_of code options))
 
 -- a code is never served as a source that failed
-served-status : (code : Code) (line : ExploreLine) (r : Status) (old new : Sinks) → CodeTells code line r old new
-    → IsNoReadFault r
-served-status code line r old new h = wrote h.status h.writes (comes line h.status h.writes h.comes) h.wrote
+served-status : (code : Code) (line : ExploreLine) (shows : Bool) (r : Status) (old new : Sinks)
+    → CodeTells code line shows r old new → IsNoReadFault r
+served-status code line shows r old new h = wrote h.status h.writes (comes line h.status h.writes h.comes) h.wrote
   where
     by : (explored : Explored) → IsNoReadFault (status_for explored)
     by (Explored.AllVisited told) = tt
@@ -139,24 +150,28 @@ served-status code line r old new h = wrote h.status h.writes (comes line h.stat
     by Explored.Finalisers = tt
     by Explored.TooMany = tt
 
-    by_found : (searched : SearchResult) → IsNoReadFault (status_found searched)
-    by_found (SearchResult.Found numbers) = tt
-    by_found (SearchResult.Nothing states) = tt
-    by_found SearchResult.Finalisers = tt
-    by_found SearchResult.TooMany = tt
+    by_searched : (searched : Searched) → IsNoReadFault (status_searched searched)
+    by_searched (Searched.Told (SearchResult.Found numbers)) = tt
+    by_searched (Searched.Told (SearchResult.Nothing states)) = tt
+    by_searched (Searched.Told SearchResult.Finalisers) = tt
+    by_searched (Searched.Told SearchResult.TooMany) = tt
+    by_searched (Searched.OutOfTime seconds) = tt
 
     answered : (question : Question) (status : Status) (text : List ℕ) → IsAnswer code question status text
         → IsNoReadFault status
     answered (Question.All most) status text a = subst IsNoReadFault (sym a.status_is) (by a.explored)
-    answered (Question.Search options) status text a = subst IsNoReadFault (sym a.status_is) (by_found a.searched)
+    answered (Question.Search options) status text a = subst IsNoReadFault (sym a.status_is) (by_searched a.searched)
 
-    comes : (line : ExploreLine) (status : Status) (writes : List Write) → CodeComes code line status writes
+    comes : (line : ExploreLine) (status : Status) (writes : List Write) → CodeComes code shows line status writes
         → IsNoReadFault status
-    comes _ _ _ (CodeComes.Answered question status text a) = answered question status text a
+    comes _ _ _ (CodeComes.Answered question told status text may a) = answered question status text a
     comes _ _ _ (CodeComes.OutOfMemory question) = tt
-    comes _ _ _ (CodeComes.OutOfMemoryLater question) = tt
+    comes _ _ _ (CodeComes.OutOfMemoryLater question told may) = tt
     comes _ _ _ (CodeComes.Traced options) = ran code options
     comes _ _ _ (CodeComes.OutOfMemoryInTrace options done later order) = tt
+    comes _ _ _ (CodeComes.TracedByThreads threads ns turns) = ran code (history_options ns)
+    comes _ _ _ (CodeComes.OutOfMemoryForTurns threads) = tt
+    comes _ _ _ (CodeComes.OutOfMemoryInHistory threads ns done later turns order) = tt
 
     wrote : (status : Status) (writes : List Write) → IsNoReadFault status → Wrote status writes r old new
         → IsNoReadFault r
@@ -164,18 +179,18 @@ served-status code line r old new h = wrote h.status h.writes (comes line h.stat
     wrote status writes n (inr e) = subst IsNoReadFault (sym e.0) tt
 
 pub served : {file : File} {left left' : Option (List ℕ)} {rf rf' : ℕ} {out err mid : Option (List ℕ)} {of ef mf : ℕ}
-    {b : Sinks} {r : Status} (words : List (List ℕ)) (line : ExploreLine) (code : Code)
+    {b : Sinks} {r : Status} (words : List (List ℕ)) (line : ExploreLine) (shows : Bool) (code : Code)
     → line_of words ≡ Some line
     → (l : HasFile file left left' rf rf') → code ≡ CodeOf file → mid ≡ err → mf ≡ ef
-    → CodeTells code line r (sinks out of mid mf) b
-    → CallTells words r (seen left rf (sinks out of err ef)) (seen left' rf' b)
-served {file} {left} {left'} {rf} {rf'} {out} {err} {mid} {of} {ef} {mf} {b} {r} words line code is l same still quiet
-    h =
-    let told = subst (λ (y : Option (List ℕ) × ℕ). CodeTells (CodeOf file) line r (sinks out of y.0 y.1) b)
-    (λ i. (still i, quiet i)) (subst (λ c. CodeTells c line r (sinks out of mid mf) b) same h) in record {
+    → CodeTells code line shows r (sinks out of mid mf) b
+    → CallTells words shows r (seen left rf (sinks out of err ef)) (seen left' rf' b)
+served {file} {left} {left'} {rf} {rf'} {out} {err} {mid} {of} {ef} {mf} {b} {r} words line shows code is l same still
+    quiet h =
+    let told = subst (λ (y : Option (List ℕ) × ℕ). CodeTells (CodeOf file) line shows r (sinks out of y.0 y.1) b)
+    (λ i. (still i, quiet i)) (subst (λ c. CodeTells c line shows r (sinks out of mid mf) b) same h) in record {
       status = told.status;
       writes = told.writes;
       comes = Served line l.bytes file told.status told.writes is l.told l.at_end l.accepts told.comes;
       wrote = told.wrote;
-      source = still-causes r rf rf' (served-status (CodeOf file) line r (sinks out of err ef) b told) l.quiet;
+      source = still-causes r rf rf' (served-status (CodeOf file) line shows r (sinks out of err ef) b told) l.quiet;
     }

@@ -1,5 +1,6 @@
 pub mod Writing
+pub mod Progressing
 pub mod Searching
 pub mod Leaking
-mod Tracing
+mod Traces
 pub mod Calling

@@ -1,108 +1,110 @@
--- What two sinks got by one write, or by one after another.
--- For: `tell_answer`, src/top.rt; `Wrote`, specs/Telling.antt
+-- What two sinks got by one write more, after some writes.
+-- For: `tell_answer`, src/top.rt; `tell_turns`, `tell_threads`, src/tracing.rt; `Wrote`, specs/Telling.antt
 -- By: cases of whether the write failed; no induction
-use Rattle.std.proofs.Common.{◌≡◌, ℕ, List, [], ◌∷◌, ◌++◌, inl, inr, refl, sym, subst, ◌∙◌, append-nil}
+use Rattle.std.proofs.Common.{◌≡◌, ℕ, List, [], ◌∷◌, ◌++◌, inl, inr, refl, sym, ap, subst, ◌∙◌, append-nil, append_assoc}
 use Rattle.std.specs.Prelude.{Option}
 use Rattle.std.specs.Io.KnownBytes.{Appends}
 use Rattle.std.proofs.KnownBytes.{Appends-nil, Appends-trans}
 use Rattle.golf_base.specs.Causes.{Rose, WritesPrefix}
 use Rattle.golf_run_texts.specs.declared.status.Status.{Status}
 use Rattle.golf_run_texts.specs.declared.status.Status.TheVariants as s
-use Rattle.golf_run_texts.specs.Writes.{Write}
-use Rattle.golf_run.specs.HasRun.{Sinks, sinks}
+use Rattle.golf_run_texts.specs.Writes.{Write, out_bytes, err_bytes}
+use Rattle.golf_run_texts.proofs.Writings.{out-append, err-append}
+use Rattle.golf_run.specs.HasRun.{Sinks, sinks, GotWrites, IsSteady}
 use Rattle.golf_command.specs.Ends.{EndsWith}
 use Rattle.golf_explore_command.specs.Telling.{Wrote}
 
--- the bytes of one write are all that the sink got
-one : (a b : Option (List ℕ)) (text : List ℕ) → Appends a b text → Appends a b (text ++ [])
-one a b text h = subst (Appends a b) (sym (append-nil text)) h
+-- nothing was written
+pub nothing-written : (old : Sinks) → GotWrites [] old old
+nothing-written old = (Appends-nil old.out, Appends-nil old.err)
 
--- nothing, and then the text
-two : (a b c : Option (List ℕ)) (first second : List ℕ) → Appends a b first → Appends b c second
-    → Appends a c (first ++ (second ++ []))
-two a b c first second h k = Appends-trans a b c first (second ++ []) h (one b c second k)
+pub still-steady : (old : Sinks) → IsSteady old old
+still-steady old = record { out = refl; err = refl }
 
--- ---- the line of a cause alone
+-- ---- after some writes
 
-module _ (out : Option (List ℕ)) (of : ℕ) (err err' : Option (List ℕ)) (ef ef' : ℕ) where
-  abbrev old : Sinks
-  old = sinks out of err ef
+module _ (done : List Write) (old now : Sinks) (got : GotWrites done old now) (steady : IsSteady old now) where
+  abbrev more-out : List ℕ → List Write
+  more-out text = done ++ Write.ToOut text ∷ []
 
-  abbrev new : Sinks
-  new = sinks out of err' ef'
+  abbrev more-err : List ℕ → List Write
+  more-err text = done ++ Write.ToErr text ∷ []
 
-  -- the first of some writes was cut
-  pub first-cut : (status : Status) (text : List ℕ) (later : List Write) → WritesPrefix err err' text → Rose ef ef'
-      → Wrote status (Write.ToErr text ∷ later) s.WriteFault old new
-  first-cut status text later f rose = inr (
+  -- ---- one more write to standard error
+
+  pub got-err : (err : Option (List ℕ)) (ef : ℕ) (text : List ℕ) → Appends now.err err text
+      → GotWrites (more-err text) old (sinks now.out now.out_faults err ef)
+  got-err err ef text a = (
+    subst (Appends old.out now.out)
+        (sym (append-nil (out_bytes done)) ∙ sym (out-append done (Write.ToErr text ∷ []))) got.0,
+    subst (Appends old.err err)
+        (ap (λ t. err_bytes done ++ t) (sym (append-nil text)) ∙ sym (err-append done (Write.ToErr text ∷ [])))
+        (Appends-trans _ _ _ _ _ got.1 a),
+  )
+
+  pub err-whole : (err : Option (List ℕ)) (ef : ℕ) (status : Status) (text : List ℕ) → Appends now.err err text
+      → ef ≡ now.err_faults → Wrote status (more-err text) status old (sinks now.out now.out_faults err ef)
+  err-whole err ef status text a quiet =
+      inl (refl, got-err err ef text a, record { out = steady.out; err = quiet ∙ steady.err })
+
+  pub err-cut : (err : Option (List ℕ)) (ef : ℕ) (status : Status) (text : List ℕ) (later : List Write)
+      → WritesPrefix now.err err text → Rose now.err_faults ef
+      → Wrote status (done ++ Write.ToErr text ∷ later) s.WriteFault old (sinks now.out now.out_faults err ef)
+  err-cut err ef status text later f rose = inr (
     refl,
     record {
-      done = [];
+      done = done;
       cut = Write.ToErr text;
       prefix = Write.ToErr f.0;
       later = later;
       order = refl;
       is_prefix = (f.1, f.2);
-      got = (Appends-nil out, one err err' f.0 f.3);
-      failed = (refl, rose);
+      got = got-err err ef f.0 f.3;
+      failed = (steady.out, subst (λ n. Rose n ef) steady.err rose);
     },
   )
 
-  pub ends-alone : (status r : Status) (text : List ℕ) → EndsWith r status text err err' ef ef'
-      → Wrote status (Write.ToErr text ∷ []) r old new
-  ends-alone status r text (inl e) = inl (
-    e.0,
-    (Appends-nil out, one err err' text e.1),
-    record { out = refl; err = e.2 },
-  )
-  ends-alone status r text (inr e) = subst (λ x. Wrote status (Write.ToErr text ∷ []) x old new) (sym e.0)
-      (first-cut status text [] e.1 e.2)
-
--- ---- after a line that is whole
-
-module _ (out : Option (List ℕ)) (of : ℕ) (err mid : Option (List ℕ)) (ef mf : ℕ) (note : List ℕ)
-    (noted : Appends err mid note) (quiet : mf ≡ ef) where
   -- the line of a cause
-  pub ends-later : (err' : Option (List ℕ)) (ef' : ℕ) (status r : Status) (text : List ℕ)
-      → EndsWith r status text mid err' mf ef'
-      → Wrote status (Write.ToErr note ∷ Write.ToErr text ∷ []) r (sinks out of err ef) (sinks out of err' ef')
-  ends-later err' ef' status r text (inl e) =
-      inl (e.0, (Appends-nil out, two err mid err' note text noted e.1), record { out = refl; err = e.2 ∙ quiet })
-  ends-later err' ef' status r text (inr e) = inr (
-    e.0,
-    record {
-      done = Write.ToErr note ∷ [];
-      cut = Write.ToErr text;
-      prefix = Write.ToErr e.1.0;
-      later = [];
-      order = refl;
-      is_prefix = (e.1.1, e.1.2);
-      got = (Appends-nil out, two err mid err' note e.1.0 noted e.1.3);
-      failed = (refl, subst (λ n. Rose n ef') quiet e.2);
-    },
+  pub ends : (err : Option (List ℕ)) (ef : ℕ) (status r : Status) (text : List ℕ)
+      → EndsWith r status text now.err err now.err_faults ef
+      → Wrote status (more-err text) r old (sinks now.out now.out_faults err ef)
+  ends err ef status r text (inl e) =
+      subst (λ x. Wrote status (more-err text) x old (sinks now.out now.out_faults err ef)) (sym e.0)
+      (err-whole err ef status text e.1 e.2)
+  ends err ef status r text (inr e) =
+      subst (λ x. Wrote status (more-err text) x old (sinks now.out now.out_faults err ef)) (sym e.0)
+      (err-cut err ef status text [] e.1 e.2)
+
+  -- ---- one more write to standard output
+
+  pub got-out : (out : Option (List ℕ)) (of : ℕ) (text : List ℕ) → Appends now.out out text
+      → GotWrites (more-out text) old (sinks out of now.err now.err_faults)
+  got-out out of text a = (
+    subst (Appends old.out out)
+        (ap (λ t. out_bytes done ++ t) (sym (append-nil text)) ∙ sym (out-append done (Write.ToOut text ∷ [])))
+        (Appends-trans _ _ _ _ _ got.0 a),
+    subst (Appends old.err now.err)
+        (sym (append-nil (err_bytes done)) ∙ sym (err-append done (Write.ToOut text ∷ []))) got.1,
   )
 
-  -- the text of the answer
-  pub text-whole : (out' : Option (List ℕ)) (of' : ℕ) (status : Status) (text : List ℕ) → Appends out out' text
-      → of' ≡ of
-      → Wrote status (Write.ToErr note ∷ Write.ToOut text ∷ []) status (sinks out of err ef) (sinks out' of' mid mf)
-  text-whole out' of' status text h same =
-      inl (refl, (one out out' text h, one err mid note noted), record { out = same; err = quiet })
+  pub out-whole : (out : Option (List ℕ)) (of : ℕ) (status : Status) (text : List ℕ) → Appends now.out out text
+      → of ≡ now.out_faults → Wrote status (more-out text) status old (sinks out of now.err now.err_faults)
+  out-whole out of status text a quiet =
+      inl (refl, got-out out of text a, record { out = quiet ∙ steady.out; err = steady.err })
 
-  pub text-cut : (out' : Option (List ℕ)) (of' : ℕ) (status : Status) (text : List ℕ) → WritesPrefix out out' text
-      → Rose of of'
-      → Wrote status (Write.ToErr note ∷ Write.ToOut text ∷ []) s.WriteFault (sinks out of err ef)
-      (sinks out' of' mid mf)
-  text-cut out' of' status text f rose = inr (
+  pub out-cut : (out : Option (List ℕ)) (of : ℕ) (status : Status) (text : List ℕ) → WritesPrefix now.out out text
+      → Rose now.out_faults of
+      → Wrote status (more-out text) s.WriteFault old (sinks out of now.err now.err_faults)
+  out-cut out of status text f rose = inr (
     refl,
     record {
-      done = Write.ToErr note ∷ [];
+      done = done;
       cut = Write.ToOut text;
       prefix = Write.ToOut f.0;
       later = [];
       order = refl;
       is_prefix = (f.1, f.2);
-      got = (one out out' f.0 f.3, one err mid note noted);
-      failed = (rose, quiet);
+      got = got-out out of f.0 f.3;
+      failed = (subst (λ n. Rose n of) steady.out rose, steady.err);
     },
   )

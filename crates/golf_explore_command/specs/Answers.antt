@@ -1,9 +1,10 @@
 -- The answer on a file whose schedules are searched.
-use Rattle.std.specs.Prelude.{◌≡◌, ℕ, true, List, ◌++◌, codes}
+use Rattle.std.specs.Prelude.{◌≡◌, ℕ, true, List, ◌++◌, Some, codes}
 use Rattle.golf_data.specs.declared.code.Code.{Code}
 use Rattle.golf_explore.specs.declared.exploring.Explored.{Explored}
 use Rattle.golf_explore.specs.declared.searching.SearchResult.{SearchResult}
 use Rattle.golf_explore.specs.declared.seeking.Sought.{Sought}
+use Rattle.golf_explore.specs.Seeking.{Finds}
 use Rattle.golf_explore.specs.Telling.{Tells}
 use Rattle.golf_explore.specs.Visiting.{has_ended_by}
 use Rattle.golf_explore_laws.specs.Laws.{is_panic, is_asleep}
@@ -14,7 +15,8 @@ use Rattle.golf_run_texts.specs.declared.status.Status.{Status}
 use Rattle.golf_run_texts.specs.declared.status.Status.TheVariants as s
 use Rattle.golf_run_texts.specs.Output.{last_of, reports_of, err_of, anyone_reported}
 use Rattle.golf_explore_command.specs.Texts.{visited_text, leak_options, leak_line, too_many_line, finalisers_text}
-use Rattle.golf_explore_command.specs.Texts.{end_options, end_line, nothing_line}
+use Rattle.golf_explore_command.specs.Texts.{end_options, end_line, nothing_line, out_of_time_line}
+use Rattle.golf_explore_command.specs.declared.finding.Searched.{Searched}
 
 -- the status of the program for each result of a search
 abbrev pub status_for : Explored → Status
@@ -72,24 +74,42 @@ search_text code options (SearchResult.Nothing states) = nothing_line states opt
 search_text code options SearchResult.Finalisers = finalisers_text
 search_text code options SearchResult.TooMany = too_many_line options.states
 
+-- how a search ended: with a result that holds of the code, or the limit of its seconds is over
+abbrev pub IsSearched : Code → SearchOptions → Searched → Type 0
+IsSearched code options (Searched.Told result) = Finds code (sought_by options.aim) result
+IsSearched code options (Searched.OutOfTime seconds) = options.seconds ≡ Some seconds
+
+abbrev pub status_searched : Searched → Status
+status_searched (Searched.Told result) = status_found result
+status_searched (Searched.OutOfTime seconds) = s.Spent
+
+abbrev pub searched_text : Code → SearchOptions → Searched → List ℕ
+searched_text code options (Searched.Told result) = search_text code options result
+searched_text code options (Searched.OutOfTime seconds) = out_of_time_line seconds
+
 -- the run of the words that are told is what was sought: it reports a goroutine, or it ends so
 abbrev pub RunShows : Code → SearchFor → List ℕ → Type 0
 RunShows code SearchFor.Leak numbers = anyone_reported (reports_of code (leak_options numbers)) ≡ true
 RunShows code SearchFor.Panic numbers = has_ended_by is_panic (last_of code (end_options numbers)) ≡ true
 RunShows code SearchFor.Asleep numbers = has_ended_by is_asleep (last_of code (end_options numbers)) ≡ true
 
-abbrev pub SearchShows : Code → SearchFor → SearchResult → Type 0
-SearchShows code aim (SearchResult.Found numbers) = RunShows code aim numbers
-SearchShows code aim (SearchResult.Nothing states) = Unit {0}
-SearchShows code aim SearchResult.Finalisers = Unit {0}
-SearchShows code aim SearchResult.TooMany = Unit {0}
+abbrev pub ResultShows : Code → SearchFor → SearchResult → Type 0
+ResultShows code aim (SearchResult.Found numbers) = RunShows code aim numbers
+ResultShows code aim (SearchResult.Nothing states) = Unit {0}
+ResultShows code aim SearchResult.Finalisers = Unit {0}
+ResultShows code aim SearchResult.TooMany = Unit {0}
+
+-- it is shown by a run, or the search was stopped after its seconds, or nothing is claimed
+abbrev pub SearchShows : Code → SearchOptions → Searched → Type 0
+SearchShows code options (Searched.Told result) = ResultShows code options.aim result
+SearchShows code options (Searched.OutOfTime seconds) = options.seconds ≡ Some seconds
 
 -- Status and text are those of a result. The run of these turns shows what was sought. Or nothing is claimed.
 pub record IsAnswerOnSearch (code : Code) (options : SearchOptions) (status : Status) (text : List ℕ) : Type 0 where
-  pub searched : SearchResult
-  pub shows : SearchShows code options.aim searched
-  pub status_is : status ≡ status_found searched
-  pub text_is : text ≡ search_text code options searched
+  pub searched : Searched
+  pub shows : SearchShows code options searched
+  pub status_is : status ≡ status_searched searched
+  pub text_is : text ≡ searched_text code options searched
 
 -- status and text are an answer to the question
 abbrev pub IsAnswer : Code → Question → Status → List ℕ → Type 0

@@ -12,7 +12,7 @@ use Rattle.golf_run_texts.specs.Texts.{numbers_text}
 abbrev pub usage_text : List ℕ
 usage_text =
     codes
-    "usage: golf-explore all [--states N] < FILE\n       golf-explore search [--preemptions K] [--states N] [--for leak|panic|asleep] < FILE\n       golf-explore trace [--schedule S] [--turns N] [--every N] [--markers N] [--recover] [--why] < FILE\n"
+    "usage: golf-explore all [--states N] < FILE\n       golf-explore search [--preemptions K] [--states N] [--seconds S] [--for leak|panic|asleep] < FILE\n       golf-explore trace [--schedule S] [--turns N] [--every N] [--markers N] [--recover] [--why] < FILE\n       golf-explore trace --threads N < FILE\n"
 
 -- how much memory this many states may take: about 5 kB for each state
 abbrev pub note_line : ℕ → List ℕ
@@ -99,6 +99,10 @@ nothing_line states preemptions = codes "nothing found: " ++ (decimal states ++ 
 
 abbrev pub too_many_line : ℕ → List ℕ
 too_many_line most = codes "stopped: more than " ++ (decimal most ++ codes " states\n")
+
+-- the time of a search is over
+abbrev pub out_of_time_line : ℕ → List ℕ
+out_of_time_line seconds = codes "stopped: after " ++ (decimal seconds ++ codes " seconds\n")
 
 abbrev pub finalisers_text : List ℕ
 finalisers_text = codes "stopped: the file sets finalisers\n"

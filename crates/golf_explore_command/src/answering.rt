@@ -2,7 +2,7 @@
 //!
 //! A run with the turns of a leak shows the leak. Its lines follow the line of the leak.
 
-ghost use Rattle.std.specs.Prelude.{◌≡◌, ◌≤◌, ◌++◌, length, IfOk};
+ghost use Rattle.std.specs.Prelude.{◌≡◌, ◌≤◌, ◌++◌, length, IfOk, Err};
 ghost use Rattle.golf_data.specs.Places.{HasPlaces};
 ghost use Rattle.golf_data.specs.declared.code.Code.{Code};
 ghost use Rattle.golf_explore.specs.declared.exploring.Explored.{Explored};
@@ -11,19 +11,22 @@ ghost use Rattle.golf_command_words.specs.Words.{default_turns};
 ghost use Rattle.golf_run_schedules.specs.Options.{IsWithinLimits};
 ghost use Rattle.golf_run_texts.specs.Output.{err_of};
 ghost use Rattle.golf_explore_command.specs.Answers.{IsAnswer, IsAnswerOnAll};
+ghost use Rattle.golf_explore_command.specs.Progress.{Meanwhile};
 ghost use Rattle.golf_explore_command.specs.Texts.{leak_line as leak_line_of, leak_options as leak_options_of};
 
 use crate::finding::answer_search;
+use crate::progress::tell_progress;
 use crate::texts::{FINALISERS, leak_line, too_many_line, visited_text};
-use golf_base::{List, Memory, OpenGate};
+use golf_base::{List, Memory, OpenGate, Sink};
 use golf_data::Code;
-use golf_explore::{Explored, explore};
+use golf_explore::{Exploration, Explored};
 use golf_explore_words::Question;
-use golf_run::{Kept, leaks_are_reported, run};
+use golf_run::{Kept, RunFault, leaks_are_reported, run};
 use golf_run_schedules::{RunOptions, Schedule, choices_then_collect};
 use golf_run_texts::{Status, list_of};
 use std::alloc::Global;
 use std::thread::Threads;
+use std::time::Clock;
 
 /// The status of the program, and the text that it writes.
 #[derive(Drop)]
@@ -111,17 +114,41 @@ fn leak<R: Threads + Sync>(
     })
 }
 
-// The answer on all schedules of the code, of which at most `most` states are kept.
-fn answer_all<R: Threads + Sync>(
+// Searches all schedules of the code, and tells how far it is.
+fn explore<E: Sink>(
+    alloc: Global,
+    code: &Code,
+    most: u32,
+    shows: bool,
+    err: &mut E,
+) -> Result<Explored, RunFault>
+    requires { HasPlaces code.now }
+    ensures { Meanwhile (Tells code.now) shows result (E.written err.old) (E.written err.new) (E.faults err.old) (E.faults err.new) }
+{
+    let mut search = Exploration::new(alloc, code, most)?;
+    let mut told = 0;
+    for _ in 0..u64::MAX {
+        if let Some(explored) = search.step(alloc, code)? {
+            return Ok(explored);
+        }
+        told = tell_progress(alloc, shows, told, search.states(), err)?;
+    }
+    Ok(Explored::TooMany)
+}
+
+// The answer on all schedules of the code, with this result.
+fn answer_on<R: Threads + Sync>(
     rt: &R,
     alloc: Global,
     code: &Code,
     most: u32,
+    explored: Explored,
 ) -> Result<Answer, Memory>
-    requires { HasPlaces code.now }
+    requires places { HasPlaces code.now }
+    requires tells { Tells code.now explored }
     ensures { IfOk result (λ answer. IsAnswerOnAll code.now most answer.status answer.text) }
 {
-    match explore(alloc, code, most)? {
+    match explored {
         Explored::AllVisited(told) => Ok(Answer {
             status: Status::Clean,
             text: visited_text(alloc, told)?,
@@ -135,18 +162,37 @@ fn answer_all<R: Threads + Sync>(
     }
 }
 
-/// Answers the question. The only error is `Memory`.
-pub(crate) fn answer_to<R: Threads + Sync>(
+// The answer on all schedules of the code, of which at most `most` states are kept.
+fn answer_all<R: Threads + Sync, E: Sink>(
+    rt: &R,
+    alloc: Global,
+    code: &Code,
+    most: u32,
+    shows: bool,
+    err: &mut E,
+) -> Result<Answer, RunFault>
+    requires { HasPlaces code.now }
+    ensures { Meanwhile (λ answer. IsAnswerOnAll code.now most answer.status answer.text) shows result (E.written err.old) (E.written err.new) (E.faults err.old) (E.faults err.new) }
+{
+    let explored = explore(alloc, code, most, shows, err)?;
+    let answer = answer_on(rt, alloc, code, most, explored)?;
+    Ok(answer)
+}
+
+/// Answers the question. With `shows` it tells on `err` how far the search is.
+pub(crate) fn answer_to<R: Threads + Sync + Clock, E: Sink>(
     rt: &R,
     alloc: Global,
     code: &Code,
     question: Question,
-) -> Result<Answer, Memory>
+    shows: bool,
+    err: &mut E,
+) -> Result<Answer, RunFault>
     requires { HasPlaces code.now }
-    ensures { IfOk result (λ answer. IsAnswer code.now question answer.status answer.text) }
+    ensures { Meanwhile (λ answer. IsAnswer code.now question answer.status answer.text) shows result (E.written err.old) (E.written err.new) (E.faults err.old) (E.faults err.new) }
 {
     match question {
-        Question::All(most) => answer_all(rt, alloc, code, most),
-        Question::Search(options) => answer_search(rt, alloc, code, options),
+        Question::All(most) => answer_all(rt, alloc, code, most, shows, err),
+        Question::Search(options) => answer_search(rt, alloc, code, options, shows, err),
     }
 }

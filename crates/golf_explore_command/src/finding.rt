@@ -2,26 +2,29 @@
 //!
 //! A run with the turns of what was found shows it. Its lines follow the line that has its words.
 
-ghost use Rattle.std.specs.Prelude.{◌≡◌, ◌≤◌, ◌<◌, ◌++◌, length, IfOk};
+ghost use Rattle.std.specs.Prelude.{◌≡◌, ◌≤◌, ◌<◌, ◌++◌, length, Some, IfOk, IfSome};
 ghost use Rattle.golf_data.specs.Places.{HasPlaces};
 ghost use Rattle.golf_command_words.specs.Words.{default_turns};
 ghost use Rattle.golf_explore.specs.Seeking.{Shows as ShowsOf};
 ghost use Rattle.golf_run_schedules.specs.Options.{IsWithinLimits};
 ghost use Rattle.golf_run_texts.specs.Output.{err_of};
-ghost use Rattle.golf_explore_command.specs.Answers.{sought_by, found_text as found_text_of, IsAnswerOnSearch};
+ghost use Rattle.golf_explore_command.specs.Answers.{sought_by, found_text as found_text_of, IsAnswerOnSearch, IsSearched};
+ghost use Rattle.golf_explore_command.specs.Progress.{Meanwhile};
 ghost use Rattle.golf_explore_command.specs.Texts.{end_line as end_line_of, end_options as end_options_of};
 
 use crate::answering::{Answer, DEFAULT_TURNS, leak_text};
-use crate::texts::{FINALISERS, end_line, nothing_line, too_many_line};
-use golf_base::{List, Memory, OpenGate};
+use crate::progress::tell_progress;
+use crate::texts::{FINALISERS, end_line, nothing_line, out_of_time_line, too_many_line};
+use golf_base::{List, Memory, OpenGate, Sink};
 use golf_data::Code;
-use golf_explore::{Aim, SearchResult, Sought, search};
+use golf_explore::{Aim, Search, SearchResult, Sought};
 use golf_explore_words::{SearchFor, SearchOptions};
-use golf_run::{Kept, leaks_are_reported, run};
+use golf_run::{Kept, RunFault, leaks_are_reported, run};
 use golf_run_schedules::{RunOptions, Schedule, choices_then_collect};
 use golf_run_texts::{Status, list_of};
 use std::alloc::Global;
 use std::thread::Threads;
+use std::time::{Clock, Instant};
 
 // What the words of a search ask for.
 fn sought(aim: SearchFor) -> Sought
@@ -120,34 +123,106 @@ fn found<R: Threads + Sync>(
     })
 }
 
-/// Looks for what the options ask for. The only error is `Memory`.
-pub(crate) fn answer_search<R: Threads + Sync>(
+/// The end of a search.
+#[derive(Drop)]
+pub(crate) enum Searched {
+    /// The search has this result.
+    Told(SearchResult),
+    /// It was stopped after this many seconds.
+    OutOfTime(u32),
+}
+
+// How many seconds the search may take, if they are over. A clock that cannot be read ends no search.
+fn seconds_over<R: Clock>(rt: &R, begun: Option<&Instant>, limit: Option<u32>) -> Option<u32>
+    ensures { IfSome result (λ seconds. limit ≡ Some seconds) }
+{
+    let seconds = limit?;
+    let passed = begun?.elapsed(rt).ok()?;
+    if passed.as_secs() >= u64::from(seconds) {
+        Some(seconds)
+    } else {
+        None
+    }
+}
+
+// Searches for what the options ask for, and tells how far it is.
+fn search<R: Clock, E: Sink>(
     rt: &R,
     alloc: Global,
     code: &Code,
     options: SearchOptions,
-) -> Result<Answer, Memory>
+    shows: bool,
+    err: &mut E,
+) -> Result<Searched, RunFault>
     requires { HasPlaces code.now }
-    ensures { IfOk result (λ answer. IsAnswerOnSearch code.now options answer.status answer.text) }
+    ensures { Meanwhile (IsSearched code.now options) shows result (E.written err.old) (E.written err.new) (E.faults err.old) (E.faults err.new) }
 {
+    let begun = Instant::now(rt).ok();
     let aim = Aim {
         sought: sought(options.aim),
         preemptions: options.preemptions,
         states: options.states,
     };
-    match search(alloc, code, aim)? {
-        SearchResult::Found(numbers) => found(rt, alloc, code, options, numbers),
-        SearchResult::Nothing(states) => Ok(Answer {
+    let mut under_way = Search::new(alloc, code, aim)?;
+    let mut told = 0;
+    for _ in 0..u64::MAX {
+        if let Some(result) = under_way.step(alloc, code)? {
+            return Ok(Searched::Told(result));
+        }
+        told = tell_progress(alloc, shows, told, under_way.states(), err)?;
+        if let Some(seconds) = seconds_over(rt, begun.as_ref(), options.seconds) {
+            return Ok(Searched::OutOfTime(seconds));
+        }
+    }
+    Ok(Searched::Told(SearchResult::TooMany))
+}
+
+// The answer for a search that ended so.
+fn answer_for<R: Threads + Sync>(
+    rt: &R,
+    alloc: Global,
+    code: &Code,
+    options: SearchOptions,
+    searched: Searched,
+) -> Result<Answer, Memory>
+    requires places { HasPlaces code.now }
+    requires searched { IsSearched code.now options searched }
+    ensures { IfOk result (λ answer. IsAnswerOnSearch code.now options answer.status answer.text) }
+{
+    match searched {
+        Searched::Told(SearchResult::Found(numbers)) => found(rt, alloc, code, options, numbers),
+        Searched::Told(SearchResult::Nothing(states)) => Ok(Answer {
             status: Status::Clean,
             text: nothing_line(alloc, states, options.preemptions)?,
         }),
-        SearchResult::Finalisers => Ok(Answer {
+        Searched::Told(SearchResult::Finalisers) => Ok(Answer {
             status: Status::Spent,
             text: list_of(alloc, FINALISERS)?,
         }),
-        SearchResult::TooMany => Ok(Answer {
+        Searched::Told(SearchResult::TooMany) => Ok(Answer {
             status: Status::Spent,
             text: too_many_line(alloc, options.states)?,
         }),
+        Searched::OutOfTime(seconds) => Ok(Answer {
+            status: Status::Spent,
+            text: out_of_time_line(alloc, seconds)?,
+        }),
     }
+}
+
+/// Looks for what the options ask for. With `shows` it tells on `err` how far the search is.
+pub(crate) fn answer_search<R: Threads + Sync + Clock, E: Sink>(
+    rt: &R,
+    alloc: Global,
+    code: &Code,
+    options: SearchOptions,
+    shows: bool,
+    err: &mut E,
+) -> Result<Answer, RunFault>
+    requires { HasPlaces code.now }
+    ensures { Meanwhile (λ answer. IsAnswerOnSearch code.now options answer.status answer.text) shows result (E.written err.old) (E.written err.new) (E.faults err.old) (E.faults err.new) }
+{
+    let searched = search(rt, alloc, code, options, shows, err)?;
+    let answer = answer_for(rt, alloc, code, options, searched)?;
+    Ok(answer)
 }

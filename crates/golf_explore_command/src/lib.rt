@@ -6,8 +6,10 @@
 
 mod answering;
 mod finding;
+mod progress;
 mod texts;
 mod top;
+mod tracing;
 
 pub use texts::USAGE;
 pub use top::explorer;

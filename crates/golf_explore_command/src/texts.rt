@@ -9,6 +9,7 @@ ghost use Rattle.golf_explore_command.specs.Texts.{
   leak_line as leak_line_of,
   nothing_line as nothing_line_of,
   note_line as note_line_of,
+  out_of_time_line as out_of_time_line_of,
   too_many_line as too_many_line_of,
   usage_text,
   visited_text as visited_text_of,
@@ -20,8 +21,8 @@ use golf_run_texts::{add_numbers, list_of};
 use std::alloc::Global;
 
 /// The usage, for words that are no command line.
-pub const USAGE: &[u8; 241] =
-    b"usage: golf-explore all [--states N] < FILE\n       golf-explore search [--preemptions K] [--states N] [--for leak|panic|asleep] < FILE\n       golf-explore trace [--schedule S] [--turns N] [--every N] [--markers N] [--recover] [--why] < FILE\n";
+pub const USAGE: &[u8; 300] =
+    b"usage: golf-explore all [--states N] < FILE\n       golf-explore search [--preemptions K] [--states N] [--seconds S] [--for leak|panic|asleep] < FILE\n       golf-explore trace [--schedule S] [--turns N] [--every N] [--markers N] [--recover] [--why] < FILE\n       golf-explore trace --threads N < FILE\n";
 
 /// The line of a file that sets finalisers.
 pub(crate) const FINALISERS: &[u8; 34] = b"stopped: the file sets finalisers\n";
@@ -126,6 +127,14 @@ pub(crate) fn nothing_line(alloc: Global, states: u64, preemptions: u32) -> Resu
     let text = format!(in alloc;
         "nothing found: {states} states, at most {preemptions} preemptions\n"
     )?;
+    list_of(alloc, text.as_bytes())
+}
+
+/// Returns the line of a search whose time is over.
+pub(crate) fn out_of_time_line(alloc: Global, seconds: u32) -> Result<List<u8>, Memory>
+    ensures { IfOk result (λ line. line ≡ out_of_time_line_of seconds) }
+{
+    let text = format!(in alloc; "stopped: after {seconds} seconds\n")?;
     list_of(alloc, text.as_bytes())
 }
 

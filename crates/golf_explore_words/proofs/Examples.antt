@@ -32,12 +32,28 @@ unfolding clap_on_literals split_of
 no_words = refl
 
 search_alone : line_of (codes "search" ∷ [])
-    ≡ Some (ExploreLine.Ask (Question.Search (record { aim = SearchFor.Leak; preemptions = 2; states = 100000 })))
+    ≡ Some (ExploreLine.Ask (Question.Search
+    (record { aim = SearchFor.Leak; preemptions = 2; states = 100000; seconds = None })))
 unfolding clap_on_literals split_of
 search_alone = refl
 
+search_for_a_minute : line_of (codes "search" ∷ codes "--seconds" ∷ codes "60" ∷ [])
+    ≡ Some (ExploreLine.Ask (Question.Search
+    (record { aim = SearchFor.Leak; preemptions = 2; states = 100000; seconds = Some 60 })))
+unfolding clap_on_literals split_of
+search_for_a_minute = refl
+
+no_seconds : line_of (codes "search" ∷ codes "--seconds=0" ∷ []) ≡ None
+unfolding clap_on_literals split_of
+no_seconds = refl
+
+more_seconds_than_a_day : line_of (codes "search" ∷ codes "--seconds=86401" ∷ []) ≡ None
+unfolding clap_on_literals split_of
+more_seconds_than_a_day = refl
+
 search_for_a_panic : line_of (codes "search" ∷ codes "--for" ∷ codes "panic" ∷ codes "--preemptions=0" ∷ [])
-    ≡ Some (ExploreLine.Ask (Question.Search (record { aim = SearchFor.Panic; preemptions = 0; states = 100000 })))
+    ≡ Some (ExploreLine.Ask (Question.Search
+    (record { aim = SearchFor.Panic; preemptions = 0; states = 100000; seconds = None })))
 unfolding clap_on_literals split_of
 search_for_a_panic = refl
 
@@ -72,9 +88,13 @@ trace_with_words : line_of (codes "trace" ∷ codes "--schedule" ∷ codes "seed
 unfolding clap_on_literals split_of
 trace_with_words = refl
 
-trace_by_threads : line_of (codes "trace" ∷ codes "--threads" ∷ codes "2" ∷ []) ≡ None
+trace_by_threads : line_of (codes "trace" ∷ codes "--threads" ∷ codes "2" ∷ []) ≡ Some (ExploreLine.TraceThreads 2)
 unfolding clap_on_literals split_of
 trace_by_threads = refl
+
+trace_by_too_many_threads : line_of (codes "trace" ∷ codes "--threads=17" ∷ []) ≡ None
+unfolding clap_on_literals split_of
+trace_by_too_many_threads = refl
 
 a_word_of_the_other_program : line_of (codes "run" ∷ []) ≡ None
 unfolding clap_on_literals split_of

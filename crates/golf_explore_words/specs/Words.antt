@@ -1,6 +1,6 @@
 -- The words of the program that looks at every schedule (profile). The documentation of `clap` says how words are split
 -- for the commands and options below.
-use Rattle.std.specs.Prelude.{ℕ, ◌≤◌, if◌then◌else◌, List, Option, Some, None, option_and_then, option_map}
+use Rattle.std.specs.Prelude.{ℕ, ◌≤◌, if◌then◌else◌, List, Option, Some, None, IfSome, option_and_then, option_map}
 use Rattle.std.specs.Prelude.{codes, bytes_eq}
 use Rattle.clap.specs.Walk.{Row, first_of}
 use Rattle.clap.specs.Simple.{App, new_app, with_rule, with_subcommand}
@@ -27,6 +27,10 @@ default_preemptions = 2
 abbrev pub most_preemptions : ℕ
 most_preemptions = 16
 
+-- the most seconds that `--seconds` may ask for
+abbrev pub most_seconds : ℕ
+most_seconds = 86400
+
 -- the most numbers of written choices that `trace` takes
 abbrev pub most_traced : ℕ
 most_traced = 100000
@@ -39,8 +43,8 @@ all_app = with_rule (new_app (codes "all")) (valued (codes "states"))
 
 -- `search`, with its options
 abbrev pub search_app : App
-search_app = with_rule (with_rule (with_rule (new_app (codes "search")) (valued (codes "preemptions")))
-    (valued (codes "states"))) (valued (codes "for"))
+search_app = with_rule (with_rule (with_rule (with_rule (new_app (codes "search")) (valued (codes "preemptions")))
+    (valued (codes "states"))) (valued (codes "seconds"))) (valued (codes "for"))
 
 -- `trace`, with the options of a run
 abbrev pub trace_app : App
@@ -68,19 +72,26 @@ aim_of text =
     else (if bytes_eq text (codes "panic") then Some SearchFor.Panic
     else (if bytes_eq text (codes "asleep") then Some SearchFor.Asleep else None))
 
+-- the value of `--seconds`, or no limit without it
+abbrev pub seconds_or_none : Option Text → Option (Option ℕ)
+seconds_or_none value = setting value None (λ text. option_map Some (number_within 1 most_seconds text))
+
 abbrev pub search_by : List Row → Option ExploreLine
 search_by rows =
     option_and_then (λ aim.
     option_and_then (λ preemptions.
-    option_map (λ states. ExploreLine.Ask (Question.Search
-    (record { aim = aim; preemptions = preemptions; states = states })))
+    option_and_then (λ states.
+    option_map (λ seconds. ExploreLine.Ask (Question.Search
+    (record { aim = aim; preemptions = preemptions; states = states; seconds = seconds })))
+    (seconds_or_none (first_of (codes "seconds") rows)))
     (states_by rows))
     (setting (first_of (codes "preemptions") rows) default_preemptions (number_within 0 most_preemptions)))
     (setting (first_of (codes "for") rows) SearchFor.Leak aim_of)
 
--- a run by its options is told; a run by threads is not
+-- a run by its options, or one by threads
 abbrev pub traced : CommandLine → Option ExploreLine
 traced (CommandLine.Run options) = Some (ExploreLine.Trace options)
+traced (CommandLine.Threads n) = Some (ExploreLine.TraceThreads n)
 traced _ = None
 
 abbrev pub trace_by : List Row → Option ExploreLine
@@ -106,8 +117,19 @@ abbrev pub preemptions_in : Question → ℕ
 preemptions_in (Question.All most) = 0
 preemptions_in (Question.Search options) = options.preemptions
 
+abbrev pub seconds_in : Question → Option ℕ
+seconds_in (Question.All most) = None
+seconds_in (Question.Search options) = options.seconds
+
+-- the numbers of a question are within their limits
+pub record IsWithinQuestion (question : Question) : Type 0 where
+  pub preemptions : preemptions_in question ≤ most_preemptions
+  pub some_states : 1 ≤ states_in question
+  pub few_states : states_in question ≤ most_states
+  pub seconds : IfSome (seconds_in question) (λ s. (1 ≤ s) × (s ≤ most_seconds))
+
 -- the numbers of a command line are within their limits
 abbrev pub IsWithin : ExploreLine → Type 0
-IsWithin (ExploreLine.Ask question) =
-    (preemptions_in question ≤ most_preemptions) × (1 ≤ states_in question) × (states_in question ≤ most_states)
+IsWithin (ExploreLine.Ask question) = IsWithinQuestion question
 IsWithin (ExploreLine.Trace options) = IsWithinLimits options
+IsWithin (ExploreLine.TraceThreads n) = (1 ≤ n) × (n ≤ 16)

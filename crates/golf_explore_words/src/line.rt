@@ -20,6 +20,9 @@ pub(crate) const DEFAULT_PREEMPTIONS: u32 = 2;
 /// The most preemptions that `--preemptions` may ask for.
 pub(crate) const MOST_PREEMPTIONS: u32 = 16;
 
+/// The most seconds that `--seconds` may ask for: a day.
+pub(crate) const MOST_SECONDS: u32 = 86_400;
+
 /// What a search looks for.
 #[derive(Clone, Copy, Debug, PartialEq, Eq)]
 pub enum SearchFor {
@@ -36,6 +39,8 @@ pub struct SearchOptions {
     pub preemptions: u32,
     /// The most states that the search keeps, from 1 to `MOST_STATES`.
     pub states: u32,
+    /// The most seconds that the search takes, from 1 to 86,400. Without a number there is no such limit.
+    pub seconds: Option<u32>,
 }
 
 /// A question about the schedules of a file.
@@ -66,4 +71,6 @@ pub enum ExploreLine {
     Ask(Question),
     /// Run by these options, and tell each turn.
     Trace(RunOptions),
+    /// Run by this many threads, from 1 to 16, and tell each turn of the history.
+    TraceThreads(u32),
 }

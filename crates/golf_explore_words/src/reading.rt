@@ -6,11 +6,12 @@ ghost use Rattle.golf_command_words.specs.Values.{number_within as number_within
 ghost use Rattle.golf_command_words.specs.Words.{setting};
 ghost use Rattle.golf_explore_words.specs.declared.line.SearchFor.{SearchFor};
 ghost use Rattle.golf_explore_words.specs.Words.{aim_of, all_by, default_preemptions, default_states, line_of};
-ghost use Rattle.golf_explore_words.specs.Words.{most_preemptions, most_states, search_by, trace_by, IsWithin};
+ghost use Rattle.golf_explore_words.specs.Words.{most_preemptions, most_states, search_by, seconds_or_none, trace_by};
+ghost use Rattle.golf_explore_words.specs.Words.{IsWithin};
 
 use crate::line::{
-    DEFAULT_PREEMPTIONS, DEFAULT_STATES, ExploreLine, MOST_PREEMPTIONS, MOST_STATES, MOST_TRACED,
-    Question, SearchFor, SearchOptions,
+    DEFAULT_PREEMPTIONS, DEFAULT_STATES, ExploreLine, MOST_PREEMPTIONS, MOST_SECONDS, MOST_STATES,
+    MOST_TRACED, Question, SearchFor, SearchOptions,
 };
 use crate::splitting::split;
 use clap::ArgMatches;
@@ -59,6 +60,19 @@ fn preemptions(value: Option<&str>) -> Option<u32>
     }
 }
 
+// The value of `--seconds`, or `Some(None)` without it. `None` if the value is no such number.
+fn seconds(value: Option<&str>) -> Option<Option<u32>>
+    ensures { result ≡ seconds_or_none (option_map (λ text. text.now) value.entry) }
+{
+    match value {
+        Some(text) => match number_within(1, MOST_SECONDS, text) {
+            Some(number) => Some(Some(number)),
+            None => None,
+        },
+        None => Some(None),
+    }
+}
+
 // The line of a search by preemptions.
 fn search_line(matches: &ArgMatches<'_>) -> Option<ExploreLine>
     ensures { result ≡ search_by (rows_of (found_of matches.now)) }
@@ -66,21 +80,24 @@ fn search_line(matches: &ArgMatches<'_>) -> Option<ExploreLine>
     let aim = aim(value(matches, "for"))?;
     let preemptions = preemptions(value(matches, "preemptions"))?;
     let states = states(value(matches, "states"))?;
+    let seconds = seconds(value(matches, "seconds"))?;
     Some(ExploreLine::Ask(Question::Search(SearchOptions {
         aim,
         preemptions,
         states,
+        seconds,
     })))
 }
 
-// The line of a trace. `None` if the options ask for no run, or for a run by threads.
+// The line of a trace. `None` if the options ask for no run.
 fn trace_line(alloc: Global, matches: &ArgMatches<'_>) -> Result<Option<ExploreLine>, Memory>
     ensures line { IfOk result (λ line. line ≡ trace_by (rows_of (found_of matches.now))) }
     ensures limits { IfOk result (λ line. IfSome line IsWithin) }
 {
     match run_line(alloc, MOST_TRACED, matches)? {
         Some(CommandLine::Run(options)) => Ok(Some(ExploreLine::Trace(options))),
-        Some(CommandLine::Threads(_) | CommandLine::Generate(_) | CommandLine::Meaning) => Ok(None),
+        Some(CommandLine::Threads(threads)) => Ok(Some(ExploreLine::TraceThreads(threads))),
+        Some(CommandLine::Generate(_) | CommandLine::Meaning) => Ok(None),
         None => Ok(None),
     }
 }

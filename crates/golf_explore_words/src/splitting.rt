@@ -28,8 +28,9 @@ fn search_command<'a>(alloc: Global) -> Result<Command<'a>, AllocError>
     let bare = Command::new(alloc, "search");
     let one = with(bare, option(alloc, "preemptions"))?;
     let two = with(one, option(alloc, "states"))?;
-    let three = with(two, option(alloc, "for"))?;
-    Ok(three)
+    let three = with(two, option(alloc, "seconds"))?;
+    let four = with(three, option(alloc, "for"))?;
+    Ok(four)
 }
 
 // The subcommand `trace`, with the options of a run.

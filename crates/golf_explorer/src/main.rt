@@ -11,7 +11,7 @@ use golf_command::end;
 use golf_explore_command::USAGE;
 use golf_run_texts::{NO_MEMORY, Status, code};
 use std::env;
-use std::io::ErrorKind;
+use std::io::{ErrorKind, IsTerminal};
 use std::process::ExitCode;
 
 /// Returns the words after the program's name, or the status if there are none. Then memory has run out, or
@@ -33,8 +33,10 @@ fn main(rt: HostRuntime) -> ExitCode {
     let out = StdSink::new(rt.stdout());
     let err = StdErrSink::new(rt.stderr());
     let mut last = StdErrSink::new(rt.stderr());
+    // Lines of progress are for a person who waits.
+    let shows = rt.stderr().is_terminal();
     let status = match arguments(&rt) {
-        Ok(words) => match explorer_aside(rt, words, source, out, err) {
+        Ok(words) => match explorer_aside(rt, words, shows, source, out, err) {
             Ok(ended) => ended.status,
             Err(_) => end(&mut last, NO_MEMORY, Status::Memory),
         },

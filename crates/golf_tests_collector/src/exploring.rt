@@ -3,7 +3,7 @@
 use crate::codes::{endless, leak, printers};
 use golf_base::Memory;
 use golf_data::Code;
-use golf_explore::{Explored, explore};
+use golf_explore::{Exploration, Explored};
 use golf_tests_support::can_run;
 use std::alloc::Global;
 use std::test::Fail;
@@ -18,22 +18,29 @@ enum Found {
     Nothing,
 }
 
+// What the result of a search says.
+fn told_by(explored: Explored) -> Found {
+    match explored {
+        Explored::AllVisited(told) if told.panics || told.sleeps => Found::Nothing,
+        Explored::AllVisited(told) => Found::States(told.states),
+        Explored::Leak(numbers) => Found::Leak(numbers.len()),
+        Explored::Finalisers => Found::Nothing,
+        Explored::TooMany => Found::Nothing,
+    }
+}
+
 // Searches up to `most` states.
 fn search_of(alloc: Global, code: Code, most: u32) -> Result<Found, Memory> {
     if !can_run(&code) {
         return Ok(Found::Nothing);
     }
-    match explore(alloc, &code, most)? {
-        Explored::AllVisited(told) => {
-            if told.panics || told.sleeps {
-                return Ok(Found::Nothing);
-            }
-            Ok(Found::States(told.states))
+    let mut search = Exploration::new(alloc, &code, most)?;
+    for _ in 0..u32::MAX {
+        if let Some(explored) = search.step(alloc, &code)? {
+            return Ok(told_by(explored));
         }
-        Explored::Leak(numbers) => Ok(Found::Leak(numbers.len())),
-        Explored::Finalisers => Ok(Found::Nothing),
-        Explored::TooMany => Ok(Found::Nothing),
     }
+    Ok(Found::Nothing)
 }
 
 #[test]

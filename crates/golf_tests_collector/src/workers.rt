@@ -23,7 +23,7 @@ fn run<R: Threads + Wait + Sync, G: Gate + Sync>(
     if !can_run(&code) || passes == 0 || passes > 16 {
         return Err("the code has too many places, or nobody steps it")?;
     }
-    Ok(run_threads(rt, alloc, code, passes, gate)?)
+    Ok(run_threads(rt, alloc, &code, passes, gate)?)
 }
 
 #[test]

@@ -33,7 +33,7 @@ struct Walk {
 fn step_on<W: WorldName, R: Threads + Wait + Sync>(
     rt: &R,
     alloc: Global,
-    world: &World<W>,
+    world: &World<'_, W>,
     pass: &mut StepPass<W>,
     whose: &mut List<GoroutineId>,
 ) -> Result<Option<Ending>, Memory> {
@@ -59,14 +59,14 @@ fn steps_of_one<W: WorldName, R: Threads + Wait + Sync>(
     rt: &R,
     alloc: Global,
     table: WorldTable,
-    code: Code,
+    code: &Code,
     state: State,
 ) -> Result<Walk, Memory>
     requires table { table_name table ≡ W.table }
     requires passes { pass_count table ≡ W.passes }
-    requires code { code ≡ W.code }
-    requires places { HasPlaces code }
-    requires state { state ≡ start_of code }
+    requires code { code.now ≡ W.code }
+    requires places { HasPlaces code.now }
+    requires state { state ≡ start_of code.now }
 {
     let (world, mut passes) = World::<W>::new(alloc, table, code, state)?;
     let mut whose = List::new(alloc);
@@ -88,7 +88,7 @@ fn take_walk<R: Threads + Wait + Sync>(rt: &R, alloc: Global, code: Code) -> Res
     }
     let table = WorldTable::new(alloc, 1)?;
     let state = start(alloc, &code)?;
-    Ok(steps_of_one::<Brand, R>(rt, alloc, table, code, state)?)
+    Ok(steps_of_one::<Brand, R>(rt, alloc, table, &code, state)?)
 }
 
 const MAIN: GoroutineId = GoroutineId(1);

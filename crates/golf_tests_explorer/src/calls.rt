@@ -5,8 +5,10 @@ use golf_explore_command::explorer;
 use golf_run_texts::Status;
 use std::alloc::Global;
 use std::process::Abort;
+use std::sync::Wait;
 use std::test::Fail;
 use std::thread::Threads;
+use std::time::Clock;
 
 /// How many bytes a sink of the tests has room for.
 const ROOM: u32 = 65_536;
@@ -72,22 +74,34 @@ pub fn sink_of(alloc: Global, fail: u32) -> Result<MemorySink, Fail> {
     Ok(MemorySink::new(alloc, ROOM, 16, list_of(alloc, fail)?)?)
 }
 
-/// Fails the test unless the program ends and writes as the row says.
-pub fn expect_row<R: AllocGlobal + Abort + Threads + Sync>(rt: &R, row: &Row) -> Result<(), Fail> {
+/// Fails the test unless the program ends and writes as the row says. With `shows` it tells how far a search is.
+pub fn expect_shown<R: AllocGlobal + Abort + Threads + Wait + Sync + Clock>(
+    rt: &R,
+    shows: bool,
+    row: &Row,
+) -> Result<(), Fail> {
     let alloc = rt.alloc();
     let mut source = source_of(alloc, row.file, row.failing.source)?;
     let mut out = sink_of(alloc, row.failing.out)?;
     let mut err = sink_of(alloc, row.failing.err)?;
     let words = words_of(alloc, row.line)?;
-    let status = explorer(rt, &words, &mut source, &mut out, &mut err);
+    let status = explorer(rt, &words, shows, &mut source, &mut out, &mut err);
     assert!(rt; status == row.status, "{}", row.shows);
     assert_eq!(rt; out.written(), row.out.as_bytes(), "{}", row.shows);
     assert_eq!(rt; err.written(), row.err.as_bytes(), "{}", row.shows);
     Ok(())
 }
 
+/// Fails the test unless the program ends and writes as the row says. It tells of no progress.
+pub fn expect_row<R: AllocGlobal + Abort + Threads + Wait + Sync + Clock>(
+    rt: &R,
+    row: &Row,
+) -> Result<(), Fail> {
+    expect_shown(rt, false, row)
+}
+
 /// Fails the test unless the program ends and writes as each of these rows says.
-pub fn expect_rows<R: AllocGlobal + Abort + Threads + Sync>(
+pub fn expect_rows<R: AllocGlobal + Abort + Threads + Wait + Sync + Clock>(
     rt: &R,
     rows: &[Row],
 ) -> Result<(), Fail> {

@@ -7,10 +7,10 @@ use std::test::Fail;
 
 /// The usage of the program.
 pub const USAGE: &str =
-    "usage: golf-explore all [--states N] < FILE\n       golf-explore search [--preemptions K] [--states N] [--for leak|panic|asleep] < FILE\n       golf-explore trace [--schedule S] [--turns N] [--every N] [--markers N] [--recover] [--why] < FILE\n";
+    "usage: golf-explore all [--states N] < FILE\n       golf-explore search [--preemptions K] [--states N] [--seconds S] [--for leak|panic|asleep] < FILE\n       golf-explore trace [--schedule S] [--turns N] [--every N] [--markers N] [--recover] [--why] < FILE\n       golf-explore trace --threads N < FILE\n";
 
 // Words that are no command line of the program.
-const MISUSED: [&str; 13] = [
+const MISUSED: [&str; 14] = [
     "",
     "run",
     "all all",
@@ -21,7 +21,8 @@ const MISUSED: [&str; 13] = [
     "search --preemptions 17",
     "search --for leaks",
     "search --states 0",
-    "trace --threads 2",
+    "trace --threads 17",
+    "trace --threads 2 --every 5",
     "trace --turns 0",
     "trace all",
 ];

@@ -26,7 +26,13 @@ const LEAK: &str =
 const LEAK_TURNS: &str =
     "turn 1: goroutine 1 at line 7\nturn 2: goroutine 1 at line 8\nturn 3: goroutine 1 at line 8\nturn 4: goroutine 1 at line 8\nturn 5: goroutine 1 at line 9\nturn 6: goroutine 1 at line 9, starts goroutine 2\nturn 7: goroutine 2 at line 4\nturn 8: goroutine 2 at line 4, blocks\ncollection 1: marked 0, reported 1, kept 1, reclaimed 0, objects 1\ngoroutine 2: chan receive at line 4, started at line 9\nstopped after 8 turns\n";
 
-const TRACES: [Row; 4] = [
+// One thread has the numbers 0, 1, 2 and so on, while one goroutine can run.
+const SEVEN: &str = "package main\n\nimport \"fmt\"\n\nfunc main() {\n\tfmt.Println(7)\n}\n";
+
+const SEVEN_TURNS: &str =
+    "turn 1: goroutine 1 at line 5\nturn 2: goroutine 1 at line 6\nturn 3: goroutine 1 at line 6\nturn 4: goroutine 1 at line 5\nturn 5: goroutine 1 at line 5, ends\nhistory: 0,1,2,3,4\n";
+
+const TRACES: [Row; 5] = [
     Row {
         shows: "a turn starts, blocks, wakes or ends a goroutine",
         line: "trace --schedule rotate",
@@ -57,11 +63,20 @@ const TRACES: [Row; 4] = [
     Row {
         shows: "the output of the program is written too",
         line: "trace --turns 3",
-        file: "package main\n\nimport \"fmt\"\n\nfunc main() {\n\tfmt.Println(7)\n}\n",
+        file: SEVEN,
         failing: NONE,
         status: Status::Spent,
         out: "7\n",
         err: "turn 1: goroutine 1 at line 5\nturn 2: goroutine 1 at line 6\nturn 3: goroutine 1 at line 6\nstopped after 3 turns\n",
+    },
+    Row {
+        shows: "a run by threads is told turn by turn, and then its numbers",
+        line: "trace --threads 1",
+        file: SEVEN,
+        failing: NONE,
+        status: Status::Clean,
+        out: "7\n",
+        err: SEVEN_TURNS,
     },
 ];
 
@@ -92,7 +107,7 @@ fn goroutine_0_takes_turns_at_the_lines_of_a_finaliser(rt: HostRuntime) -> Resul
     let mut out = sink_of(alloc, 0)?;
     let mut err = sink_of(alloc, 0)?;
     let words = words_of(alloc, "trace")?;
-    let status = explorer(&rt, &words, &mut source, &mut out, &mut err);
+    let status = explorer(&rt, &words, false, &mut source, &mut out, &mut err);
     assert!(rt; status == Status::Clean);
     assert!(rt; has(err.written(), b": goroutine 0 at line 9\n"));
     assert!(rt; has(err.written(), b": goroutine 0 at line 10\n"));

@@ -29,7 +29,7 @@ use std::thread::{Threads, join_mut};
 fn work<W: WorldName, R: Threads + Wait + Sync, G: Gate>(
     rt: &R,
     alloc: Global,
-    world: &World<W>,
+    world: &World<'_, W>,
     gate: &G,
     pass: &mut StepPass<W>,
 ) {
@@ -48,7 +48,7 @@ fn work<W: WorldName, R: Threads + Wait + Sync, G: Gate>(
 fn work_all<W: WorldName + Send + Sync, R: Threads + Wait + Sync, G: Gate + Sync>(
     rt: &R,
     alloc: Global,
-    world: &World<W>,
+    world: &World<'_, W>,
     gate: &G,
     passes: &mut [StepPass<W>],
 ) {
@@ -79,16 +79,16 @@ pub fn run_world<W: WorldName + Send + Sync, R: Threads + Wait + Sync, G: Gate +
     rt: &R,
     alloc: Global,
     table: WorldTable,
-    code: Code,
+    code: &Code,
     state: State,
     gate: &G,
 ) -> Result<(State, History), Memory>
     requires table { table_name table ≡ W.table }
     requires passes { pass_count table ≡ W.passes }
-    requires code { code ≡ W.code }
-    requires places { HasPlaces code }
-    requires state { state ≡ start_of code }
-    ensures { IfOk result (λ r. IsWholeRun code (pass_count table) r.0 r.1) }
+    requires code { code.now ≡ W.code }
+    requires places { HasPlaces code.now }
+    requires state { state ≡ start_of code.now }
+    ensures { IfOk result (λ r. IsWholeRun code.now (pass_count table) r.0 r.1) }
 {
     let (world, mut passes) = World::<W>::new(alloc, table, code, state)?;
     work_all(rt, alloc, &world, gate, passes.as_mut_slice());
@@ -116,16 +116,16 @@ fn is_done(state: &State, entries: &[HistoryEntry]) -> bool
 pub fn run_threads<R: Threads + Wait + Sync, G: Gate + Sync>(
     rt: &R,
     alloc: Global,
-    code: Code,
+    code: &Code,
     passes: u32,
     gate: &G,
 ) -> Result<(State, History), Memory>
     requires some { 0 < passes }
     requires few { passes ≤ 16 }
-    requires places { HasPlaces code }
-    ensures { IfOk result (λ r. IsWholeRun code passes r.0 r.1) }
+    requires places { HasPlaces code.now }
+    ensures { IfOk result (λ r. IsWholeRun code.now passes r.0 r.1) }
 {
     let table = WorldTable::new(alloc, passes)?;
-    let state = start(alloc, &code)?;
+    let state = start(alloc, code)?;
     run_world::<Brand, R, G>(rt, alloc, table, code, state, gate)
 }

@@ -27,30 +27,30 @@ use std::thread::Threads;
 
 /// A program that threads step through a `&`, each with its own pass.
 #[derive(Drop)]
-pub struct World<W: WorldName> {
+pub struct World<'a, W: WorldName> {
     lock: Mutex<Guarded<W>>,
     table: OwnedTable,
-    code: Code,
+    code: &'a Code,
     ghost named: { table.shared.table_id ≡ W.table },
     ghost word: { table.shared.table_id.words ≡ 1 },
     ghost no_slots: { table.shared.table_id.slots ≡ 0 },
-    ghost coded: { code ≡ W.code },
+    ghost coded: { code.now ≡ W.code },
 }
 
-impl<W: WorldName> World<W> {
+impl<'a, W: WorldName> World<'a, W> {
     /// Returns a world before its first turn, and its passes, which are numbered from 0. `W` names the
     /// table, the number of passes and the code. On `Memory` it returns nothing.
     pub fn new(
         alloc: Global,
         table: WorldTable,
-        code: Code,
+        code: &'a Code,
         state: State,
-    ) -> Result<(World<W>, List<StepPass<W>>), Memory>
+    ) -> Result<(World<'a, W>, List<StepPass<W>>), Memory>
         requires table { table_name table ≡ W.table }
         requires passes { pass_count table ≡ W.passes }
-        requires code { code ≡ W.code }
-        requires places { HasPlaces code }
-        requires state { state ≡ start_of code }
+        requires code { code.now ≡ W.code }
+        requires places { HasPlaces code.now }
+        requires state { state ≡ start_of code.now }
         ensures count { IfOk result (λ r. length r.1 ≡ W.passes) }
         ensures passes { IfOk result (λ r. (n : ℕ) (p : Pass) → slice_get r.1 n ≡ Some p → IsNewPass n p) }
     {
@@ -89,7 +89,7 @@ impl<W: WorldName> World<W> {
         ensures exactly { ComesExactly W.code result pass.old pass.new }
     {
         let mut guarded = self.lock.lock(rt);
-        guarded.step(rt, alloc, &self.code, &self.table.shared, pass)
+        guarded.step(rt, alloc, self.code, &self.table.shared, pass)
     }
 
     /// Returns the state and the history, after no thread steps any more. The history has for each pass in

@@ -9,11 +9,11 @@ pub returns : goal.returns
 returns g c =
     let h = c.in_ok-state.history in
     let reported : c.anyone_reported.result ≡ anyone_reported h.reports = c.anyone_reported.ensures
-    ∙ ap anyone_reported c.as_slice-3.ensures in
-    texts-are c.args.code c.args.threads c.in_ok-state.state h c.in_ok-state.ensures _ c.in_ok-texts.texts
-    (c.in_ok-texts.ensures ∙ c.as_slice.ensures)
+    ∙ ap anyone_reported c.as_slice-2.ensures in
+    texts-are c.args.code.now c.args.threads c.in_ok-state.state h c.in_ok-state.ensures _ c.as_slice.result.now
+    c.as_slice.ensures
     (c.status_by.ensures ∙ (λ i. status_by (reported i) (c.ending-ending.ensures i)))
     (c.in_ok-out.ensures ∙ c.output.ensures)
     (c.in_ok-err.ensures ∙ (λ i. (reports_text h.reports
-    ++ last_line (c.as_slice-2.ensures i) (length h.entries) (c.ending-ending.ensures i))
+    ++ last_line c.as_slice.result.now (length h.entries) (c.ending-ending.ensures i))
     ++ history_line (numbers_in h.entries)))

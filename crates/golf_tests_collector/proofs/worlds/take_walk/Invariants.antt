@@ -3,4 +3,4 @@ use Rattle.golf_tests_collector.proofs.worlds.take_walk.Given as goal
 
 -- the world that is about to be made
 abbrev pub ghosts-steps_of_one : goal.ghosts-steps_of_one
-ghosts-steps_of_one g a = record { table = table_name a.table; passes = pass_count a.table; code = a.code }
+ghosts-steps_of_one g a = record { table = table_name a.table; passes = pass_count a.table; code = a.code.now }

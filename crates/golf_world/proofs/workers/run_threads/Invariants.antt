@@ -3,4 +3,4 @@ use Rattle.golf_world.proofs.workers.run_threads.Given as goal
 
 -- the world that is about to be made
 abbrev pub ghosts-run_world : goal.ghosts-run_world
-ghosts-run_world g a = record { table = table_name a.table; passes = pass_count a.table; code = a.code }
+ghosts-run_world g a = record { table = table_name a.table; passes = pass_count a.table; code = a.code.now }

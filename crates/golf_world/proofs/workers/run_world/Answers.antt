@@ -10,9 +10,9 @@ use Rattle.golf_world.proofs.workers.run_world.Goals as goal
 pub returns-then-is_done : goal.returns-then-is_done
 returns-then-is_done g c =
     let es = c.close-state.result.1.entries in
-    let same : g.W.WorldName.code ≡ c.args.code = sym c.requires.code in
+    let same : g.W.WorldName.code ≡ c.args.code.now = sym c.requires.code in
     let done = c.is_done.ensures in
-    let code : Code = c.args.code in
+    let code : Code = c.args.code.now in
     let state : c.close-state.result.0 ≡ real_run code (turns es) false = c.close-state.ensures.state
     ∙ ap (λ (k : Code). after k es) same ∙ after-is code es in
     let reports : c.close-state.result.1.reports ≡ real_reports code (turns es) false = c.close-state.ensures.reports
