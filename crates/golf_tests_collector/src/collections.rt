@@ -4,25 +4,23 @@ ghost use Rattle.std.specs.Prelude.{◌<◌, ◌≤◌};
 ghost use Rattle.golf_model.specs.Futures.{Leads};
 
 use crate::collecting::{collect_by, collect_once};
-use crate::programs::{forever, program, receiver, state_of};
+use crate::programs::{RECEIVER, program, state_of};
 use golf_base::{GoroutineId, Memory};
-use golf_data::{Code, Entry, Instr, Value, WaitKind};
+use golf_data::{Code, Entry, WaitKind};
 use golf_reclaim::{CollectOptions, Ledger, sets_finalisers};
 use golf_state::State;
-use golf_tests_support::CountingGate;
+use golf_tests_support::{CountingGate, TextFault};
 use std::alloc::Global;
 use std::test::Fail;
 use std::thread::Threads;
 
 // A goroutine receives from a channel that no other goroutine has.
-fn stuck_receiver(alloc: Global) -> Result<Code, Memory> {
-    let main = vec![in alloc;
-        Instr::Int(0),
-        Instr::NewChan(Value::Int(0)),
-        Instr::Nil,
-        Instr::Go(1, 2),
-    ]?;
-    program(alloc, forever(alloc, main)?, receiver(alloc)?)
+fn stuck_receiver(alloc: Global) -> Result<Code, TextFault> {
+    program(
+        alloc,
+        "Int(0); NewChan(Int(0)); Nil; Go(1, 2); Jump(4)",
+        RECEIVER,
+    )
 }
 
 #[test]

@@ -1,9 +1,9 @@
 //! Tests of the removed, queued and freed parts of a state, with recovery and without.
 
 use crate::collecting::collect_once;
-use crate::programs::{forever, go_on, holder, program, receiver, state_of};
+use crate::programs::{HOLDER, RECEIVER, go_on, program, state_of};
 use golf_base::{Memory, ObjectId};
-use golf_data::{Code, Instr, Object, Report, Value};
+use golf_data::{Code, Object, Report};
 use golf_reclaim::Ledger;
 use golf_state::State;
 use golf_tests_support::{count_finalisers, count_goroutines};
@@ -119,29 +119,13 @@ fn at_once(reported: usize, reclaimed: u32, left: After) -> Story {
 }
 
 // A goroutine receives from a channel that no other goroutine has, and holds a struct that has a finaliser.
-fn holder_of_a_finalised_object(alloc: Global) -> Result<Code, Memory> {
-    let main = vec![in alloc;
-        Instr::Int(0),
-        Instr::NewChan(Value::Int(0)),
-        Instr::Store(0),
-        Instr::NewStruct(0),
-        Instr::Store(1),
-        Instr::Load(1),
-        Instr::SetFinalizer(2),
-        Instr::Load(0),
-        Instr::Load(1),
-        Instr::Go(1, 2),
-        Instr::Nil,
-        Instr::Store(0),
-        Instr::Nil,
-        Instr::Store(1),
-    ]?;
-    program(alloc, forever(alloc, main)?, holder(alloc)?)
-}
+const HOLDER_OF_A_FINALISED_OBJECT: &str = "
+    Int(0); NewChan(Int(0)); Store(0); NewStruct(0); Store(1); Load(1); SetFinalizer(2); Load(0);
+    Load(1); Go(1, 2); Nil; Store(0); Nil; Store(1); Jump(14)";
 
 #[test]
 fn a_dead_holder_of_a_finalised_object_is_kept(rt: HostRuntime) -> Result<(), Fail> {
-    let code = holder_of_a_finalised_object(rt.alloc())?;
+    let code = program(rt.alloc(), HOLDER_OF_A_FINALISED_OBJECT, HOLDER)?;
     let left = After {
         kept: 1,
         objects: 2,
@@ -156,32 +140,20 @@ fn a_dead_holder_of_a_finalised_object_is_kept(rt: HostRuntime) -> Result<(), Fa
 
 // A goroutine receives from a channel that no other goroutine has, and holds a struct that `main` has too.
 // An instruction that is never reached may give the struct a finaliser.
-fn sharer_of_a_live_object(alloc: Global, last: Instr) -> Result<Code, Memory> {
-    let main = vec![in alloc;
-        Instr::Int(0),
-        Instr::NewChan(Value::Int(0)),
-        Instr::Store(0),
-        Instr::NewStruct(0),
-        Instr::Store(1),
-        Instr::Load(0),
-        Instr::Load(1),
-        Instr::Go(1, 2),
-        Instr::Nil,
-        Instr::Store(0),
-        Instr::Load(1),
-        Instr::Drop,
-        Instr::Jump(10),
-        Instr::Load(1),
-        last,
-    ]?;
-    program(alloc, main, holder(alloc)?)
-}
+const SHARER_WITH_A_FINALISER: &str = "
+    Int(0); NewChan(Int(0)); Store(0); NewStruct(0); Store(1); Load(0); Load(1); Go(1, 2); Nil; Store(0);
+    Load(1); Drop; Jump(10); Load(1); SetFinalizer(2)";
+
+// The same, except that the instruction drops the struct.
+const SHARER: &str = "
+    Int(0); NewChan(Int(0)); Store(0); NewStruct(0); Store(1); Load(0); Load(1); Go(1, 2); Nil; Store(0);
+    Load(1); Drop; Jump(10); Load(1); Drop";
 
 #[test]
 fn a_dead_goroutine_with_a_live_object_is_kept_where_finalisers_are_set(
     rt: HostRuntime,
 ) -> Result<(), Fail> {
-    let code = sharer_of_a_live_object(rt.alloc(), Instr::SetFinalizer(2))?;
+    let code = program(rt.alloc(), SHARER_WITH_A_FINALISER, HOLDER)?;
     let left = After {
         marked: 1,
         kept: 1,
@@ -196,7 +168,7 @@ fn a_dead_goroutine_with_a_live_object_is_kept_where_finalisers_are_set(
 
 #[test]
 fn it_is_removed_where_none_is_set(rt: HostRuntime) -> Result<(), Fail> {
-    let code = sharer_of_a_live_object(rt.alloc(), Instr::Drop)?;
+    let code = program(rt.alloc(), SHARER, HOLDER)?;
     let kept = After {
         marked: 1,
         kept: 1,
@@ -215,32 +187,13 @@ fn it_is_removed_where_none_is_set(rt: HostRuntime) -> Result<(), Fail> {
 }
 
 // A struct with a finaliser, to which nothing refers, has the channel on which a goroutine waits.
-fn unreachable_holder_of_a_channel(alloc: Global) -> Result<Code, Memory> {
-    let main = vec![in alloc;
-        Instr::Int(0),
-        Instr::NewChan(Value::Int(0)),
-        Instr::Store(0),
-        Instr::NewStruct(0),
-        Instr::Store(1),
-        Instr::Load(1),
-        Instr::Load(0),
-        Instr::SetField(0),
-        Instr::Load(1),
-        Instr::SetFinalizer(2),
-        Instr::Load(0),
-        Instr::Nil,
-        Instr::Go(1, 2),
-        Instr::Nil,
-        Instr::Store(0),
-        Instr::Nil,
-        Instr::Store(1),
-    ]?;
-    program(alloc, forever(alloc, main)?, receiver(alloc)?)
-}
+const UNREACHABLE_HOLDER_OF_A_CHANNEL: &str = "
+    Int(0); NewChan(Int(0)); Store(0); NewStruct(0); Store(1); Load(1); Load(0); SetField(0); Load(1);
+    SetFinalizer(2); Load(0); Nil; Go(1, 2); Nil; Store(0); Nil; Store(1); Jump(17)";
 
 #[test]
 fn an_unreachable_finalised_object_keeps_a_waiter_alive(rt: HostRuntime) -> Result<(), Fail> {
-    let code = unreachable_holder_of_a_channel(rt.alloc())?;
+    let code = program(rt.alloc(), UNREACHABLE_HOLDER_OF_A_CHANNEL, RECEIVER)?;
     let first = After {
         marked: 1,
         objects: 2,
@@ -275,31 +228,13 @@ fn an_unreachable_finalised_object_keeps_a_waiter_alive(rt: HostRuntime) -> Resu
 }
 
 // Two goroutines each receive from a channel that only the other one has.
-fn cycle(alloc: Global) -> Result<Code, Memory> {
-    let main = vec![in alloc;
-        Instr::Int(0),
-        Instr::NewChan(Value::Int(0)),
-        Instr::Store(0),
-        Instr::Int(0),
-        Instr::NewChan(Value::Int(0)),
-        Instr::Store(1),
-        Instr::Load(0),
-        Instr::Load(1),
-        Instr::Go(1, 2),
-        Instr::Load(1),
-        Instr::Load(0),
-        Instr::Go(1, 2),
-        Instr::Nil,
-        Instr::Store(0),
-        Instr::Nil,
-        Instr::Store(1),
-    ]?;
-    program(alloc, forever(alloc, main)?, receiver(alloc)?)
-}
+const CYCLE: &str = "
+    Int(0); NewChan(Int(0)); Store(0); Int(0); NewChan(Int(0)); Store(1); Load(0); Load(1); Go(1, 2);
+    Load(1); Load(0); Go(1, 2); Nil; Store(0); Nil; Store(1); Jump(16)";
 
 #[test]
 fn a_cycle_is_collected_twice(rt: HostRuntime) -> Result<(), Fail> {
-    let code = cycle(rt.alloc())?;
+    let code = program(rt.alloc(), CYCLE, RECEIVER)?;
     let kept = After {
         kept: 2,
         objects: 2,
@@ -312,30 +247,15 @@ fn a_cycle_is_collected_twice(rt: HostRuntime) -> Result<(), Fail> {
 
 // A goroutine locks a mutex that a global holds. Then it receives from a channel that no other goroutine
 // has.
-fn holder_of_a_global_mutex(alloc: Global) -> Result<Code, Memory> {
-    let main = vec![in alloc;
-        Instr::NewMutex,
-        Instr::StoreGlobal(0),
-        Instr::Int(0),
-        Instr::NewChan(Value::Int(0)),
-        Instr::LoadGlobal(0),
-        Instr::Go(1, 2),
-    ]?;
-    let other = vec![in alloc;
-        Instr::Load(1),
-        Instr::Lock,
-        Instr::Nil,
-        Instr::Store(1),
-        Instr::Load(0),
-        Instr::Receive,
-        Instr::Return,
-    ]?;
-    program(alloc, forever(alloc, main)?, other)
-}
+const HOLDER_OF_A_GLOBAL_MUTEX: &str = "
+    NewMutex; StoreGlobal(0); Int(0); NewChan(Int(0)); LoadGlobal(0); Go(1, 2); Jump(6)";
+
+// The instructions of that goroutine.
+const LOCKER: &str = "Load(1); Lock; Nil; Store(1); Load(0); Receive; Return";
 
 #[test]
 fn a_removed_goroutines_mutex_stays_locked(rt: HostRuntime) -> Result<(), Fail> {
-    let code = holder_of_a_global_mutex(rt.alloc())?;
+    let code = program(rt.alloc(), HOLDER_OF_A_GLOBAL_MUTEX, LOCKER)?;
     let kept = After {
         marked: 1,
         kept: 1,
@@ -357,29 +277,13 @@ fn a_removed_goroutines_mutex_stays_locked(rt: HostRuntime) -> Result<(), Fail> 
 
 // Two structs to which nothing refers have finalisers, and the later one got its finaliser first. A third
 // struct has none.
-fn unreachable_structs(alloc: Global) -> Result<Code, Memory> {
-    let main = vec![in alloc;
-        Instr::NewStruct(0),
-        Instr::Store(0),
-        Instr::NewStruct(0),
-        Instr::Store(1),
-        Instr::Load(1),
-        Instr::SetFinalizer(2),
-        Instr::Load(0),
-        Instr::SetFinalizer(2),
-        Instr::NewStruct(0),
-        Instr::Store(0),
-        Instr::Nil,
-        Instr::Store(1),
-        Instr::Nil,
-        Instr::Store(0),
-    ]?;
-    program(alloc, forever(alloc, main)?, receiver(alloc)?)
-}
+const UNREACHABLE_STRUCTS: &str = "
+    NewStruct(0); Store(0); NewStruct(0); Store(1); Load(1); SetFinalizer(2); Load(0); SetFinalizer(2);
+    NewStruct(0); Store(0); Nil; Store(1); Nil; Store(0); Jump(14)";
 
 #[test]
 fn finalisers_are_queued_by_rising_number(rt: HostRuntime) -> Result<(), Fail> {
-    let code = unreachable_structs(rt.alloc())?;
+    let code = program(rt.alloc(), UNREACHABLE_STRUCTS, RECEIVER)?;
     let first = After {
         objects: 2,
         there: 2,
@@ -396,21 +300,9 @@ fn finalisers_are_queued_by_rising_number(rt: HostRuntime) -> Result<(), Fail> {
 
 // A goroutine waits for ever on its own channel. There are two structs with finalisers, and a third one
 // without.
-fn left_behind(alloc: Global) -> Result<Code, Memory> {
-    let main = vec![in alloc;
-        Instr::Int(0),
-        Instr::NewChan(Value::Int(0)),
-        Instr::Nil,
-        Instr::Go(1, 2),
-        Instr::NewStruct(0),
-        Instr::SetFinalizer(2),
-        Instr::NewStruct(0),
-        Instr::SetFinalizer(2),
-        Instr::NewStruct(0),
-        Instr::Drop,
-    ]?;
-    program(alloc, forever(alloc, main)?, receiver(alloc)?)
-}
+const LEFT_BEHIND: &str = "
+    Int(0); NewChan(Int(0)); Nil; Go(1, 2); NewStruct(0); SetFinalizer(2); NewStruct(0); SetFinalizer(2);
+    NewStruct(0); Drop; Jump(10)";
 
 // The parts of a state and of a book that a collection with recovery can change.
 #[derive(Clone, Copy, PartialEq, Eq)]
@@ -437,11 +329,8 @@ fn standing_of(state: &State, book: &Ledger) -> Standing {
 }
 
 // The parts before a collection that may get no memory, whether it got all, and the parts after it.
-fn collected<R: Threads + Sync>(
-    rt: &R,
-    alloc: Global,
-) -> Result<(Standing, bool, Standing), Memory> {
-    let code = left_behind(alloc)?;
+fn collected<R: Threads + Sync>(rt: &R, alloc: Global) -> Result<(Standing, bool, Standing), Fail> {
+    let code = program(alloc, LEFT_BEHIND, RECEIVER)?;
     let mut state = state_of(alloc, &code)?;
     let mut book = Ledger::new(alloc);
     let before = standing_of(&state, &book);

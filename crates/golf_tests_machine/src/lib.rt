@@ -12,8 +12,6 @@ mod instructions;
 #[cfg(test)]
 mod programs;
 #[cfg(test)]
-mod reading;
-#[cfg(test)]
 mod refusals;
 #[cfg(test)]
 mod runs;

@@ -1,11 +1,10 @@
 //! Codes of two functions with a global, a struct type and texts, and the results of their runs.
 
-use crate::reading::instrs;
 use golf_base::{List, Memory};
 use golf_data::{Code, Ending, Function, Value};
 use golf_machine::start;
 use golf_state::State;
-use golf_tests_support::{code, function, lines, take_turn};
+use golf_tests_support::{code, function, instrs, lines, take_turn};
 use std::alloc::Global;
 use std::test::Fail;
 

@@ -2,7 +2,7 @@
 //!
 //! - Graphs are made place by place, of a shape, or pseudo-random.
 //! - Gates watch how markers run.
-//! - Codes are made by hand, and stepped turn by turn.
+//! - Codes are made by hand or from texts, and stepped turn by turn.
 #![tactic(auto)]
 
 mod codes;
@@ -12,6 +12,7 @@ mod gates;
 mod making;
 mod numbers;
 mod random;
+mod reading;
 mod shapes;
 mod turns;
 
@@ -22,5 +23,6 @@ pub use gates::{CountingGate, MeetingGate, StealingGate};
 pub use making::{GraphFault, GraphMaker};
 pub use numbers::Numbers;
 pub use random::random_graph;
+pub use reading::{TextFault, instrs};
 pub use shapes::{Shape, shaped};
 pub use turns::take_turn;

@@ -1,9 +1,31 @@
 //! Reads instructions from a text.
+//!
+//! A text is cheaper to prove than a `vec!` of instructions, each of which may own memory.
 
 use golf_base::{List, Memory};
 use golf_data::{CaseKind, Instr, SelectCase, Value};
-use std::alloc::Global;
-use std::test::Fail;
+use std::alloc::{AllocError, Global};
+
+/// The reason for which a text gives no instructions.
+#[derive(Debug, Drop)]
+pub enum TextFault {
+    /// Out of memory.
+    Memory,
+    /// A word of the text is no instruction.
+    NoInstruction,
+}
+
+impl From<Memory> for TextFault {
+    fn from(_: Memory) -> Self {
+        TextFault::Memory
+    }
+}
+
+impl From<AllocError> for TextFault {
+    fn from(_: AllocError) -> Self {
+        TextFault::Memory
+    }
+}
 
 // The instruction on values and variables of this name, or `None`.
 fn of_values(name: &str) -> Option<Instr> {
@@ -179,15 +201,18 @@ fn instr(alloc: Global, word: &str) -> Result<Option<Instr>, Memory> {
 
 /// Returns the instructions of a text. They are written as `Debug` writes them, with a semicolon between.
 /// The cases of a `select` are written as `Select(Take 6, Send 8, default 9)`.
-pub fn instrs(alloc: Global, text: &str) -> Result<Vec<Instr>, Fail> {
+pub fn instrs(alloc: Global, text: &str) -> Result<Vec<Instr>, TextFault> {
     let mut found = Vec::new(alloc);
     if text.is_empty() {
         return Ok(found);
     }
     for word in text.split(';') {
         match instr(alloc, word.trim())? {
-            Some(instr) => found.push(instr)?,
-            None => return Err(Fail::new("no instruction")),
+            Some(instr) => match found.push(instr) {
+                Ok(()) => {}
+                Err(fault) => return Err(AllocError::from(fault).into()),
+            },
+            None => return Err(TextFault::NoInstruction),
         }
     }
     Ok(found)
