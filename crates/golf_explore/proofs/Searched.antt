@@ -27,6 +27,7 @@ use Rattle.golf_explore.specs.Ranking.{HaveRanks}
 use Rattle.golf_explore.specs.Visiting.{states, IsFrom, IsWell, AreVisits, LeadsTo, AreDone, ends_by}
 use Rattle.golf_explore.specs.Visiting.{has_ended_by, HasVisited}
 use Rattle.golf_explore.specs.Telling.{run_of, some_ended, CanEnd, Decides, EndsIf, Tells, HasTold, IsExploring, Unless}
+use Rattle.golf_explore.specs.Telling.{HasGoneOn}
 use Rattle.golf_explore.proofs.Growing.{states-length, get-states, grown-length}
 use Rattle.golf_explore.proofs.Leading.{done-more, count-more}
 use Rattle.golf_explore.proofs.Falling.{In-get, get-there, always-ends}
@@ -143,13 +144,16 @@ if-it-goes-on code f (Err e) h = tt
 pub still-exploring : {E : Type 0} (code : Code) (mid new : Exploration) (at : ℕ) → length mid.edges ≡ at
     → at < length mid.visits.list → AreDone code (states mid.visits.list) mid.edges → (r : Result (Option Explored) E)
     → IfOk r (Unless code (HasVisited code mid.visits.list new.visits.list mid.edges new.edges at))
-    → IfOk r (Unless code (IsExploring code new))
+    → IfOk r (Unless code (HasGoneOn code mid new))
 still-exploring code mid new at count within were =
     if-it-goes-on code (λ more.
     let grown = grown-length mid.visits.list new.visits.list more.grows in
     let longer = count-more code mid.visits.list new.visits.list mid.edges new.edges at within more count were in
     record {
-      visits = more.visits;
-      within = omega (arith, within, grown, longer);
-      done = done-more code mid.visits.list new.visits.list mid.edges new.edges at within more count were;
+      exploring = record {
+        visits = more.visits;
+        within = omega (arith, within, grown, longer);
+        done = done-more code mid.visits.list new.visits.list mid.edges new.edges at within more count were;
+      };
+      one = omega (arith, count, longer);
     })

@@ -1,5 +1,5 @@
 -- The meaning of the result of a search.
-use Rattle.std.specs.Prelude.{◌≡◌, ℕ, ◌≤◌, Bool, true, false, List, [], length, map, Option, Some, None}
+use Rattle.std.specs.Prelude.{◌≡◌, ℕ, ◌+◌, ◌≤◌, Bool, true, false, List, [], length, map, Option, Some, None}
 use Rattle.golf_theory.specs.Membership.{any_of}
 use Rattle.golf_data.specs.declared.code.Code.{Code}
 use Rattle.golf_data.specs.declared.goroutine.Ending.{Ending}
@@ -71,6 +71,11 @@ pub record IsExploring (code : Code) (e : Exploration) : Type 0 where
   pub visits : AreVisits code e.visits.list
   pub within : length e.edges ≤ length e.visits.list
   pub done : AreDone code (states e.visits.list) e.edges
+
+-- the search has gone on: one more visit is done
+pub record HasGoneOn (code : Code) (old new : Exploration) : Type 0 where
+  pub exploring : IsExploring code new
+  pub one : length new.edges ≡ length old.edges + 1
 
 -- this holds, or the search ends with this result
 abbrev pub Unless : Code → Type 0 → Option Explored → Type 0

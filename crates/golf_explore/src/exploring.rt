@@ -5,7 +5,7 @@
 
 ghost use Rattle.std.specs.Prelude.{IfOk};
 ghost use Rattle.golf_data.specs.Places.{HasPlaces};
-ghost use Rattle.golf_explore.specs.Telling.{HasTold, IsExploring, Unless};
+ghost use Rattle.golf_explore.specs.Telling.{HasGoneOn, HasTold, IsExploring, Unless};
 ghost use Rattle.golf_explore.specs.Visiting.{AreVisits};
 
 use crate::endings::{has_panic, has_sleep};
@@ -102,12 +102,13 @@ impl Exploration {
         self.visits.list.len() as u64
     }
 
-    /// Takes all turns of the next visit. Returns `None` if the search goes on, and its result at its end. The only
+    /// Takes all turns of the next visit. Returns `None` if the search goes on: then one more visit is done. Else it
+    /// returns the result. The only
     /// error is `Memory`.
     pub fn step(&mut self, alloc: Global, code: &Code) -> Result<Option<Explored>, Memory>
         requires places { HasPlaces code.now }
         requires exploring { IsExploring code.now self.old }
-        ensures { IfOk result (Unless code.now (IsExploring code.now self.new)) }
+        ensures { IfOk result (Unless code.now (HasGoneOn code.now self.old self.new)) }
     {
         let at = self.edges.len();
         if at > u32::MAX as usize {
