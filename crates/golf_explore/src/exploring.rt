@@ -102,9 +102,8 @@ impl Exploration {
         self.visits.list.len() as u64
     }
 
-    /// Takes all turns of the next visit. Returns `None` if the search goes on: then one more visit is done. Else it
-    /// returns the result. The only
-    /// error is `Memory`.
+    /// Takes all turns of the next visit. Returns `None` if the search goes on: then one more visit is done.
+    /// Else it returns the result. The only error is `Memory`.
     pub fn step(&mut self, alloc: Global, code: &Code) -> Result<Option<Explored>, Memory>
         requires places { HasPlaces code.now }
         requires exploring { IsExploring code.now self.old }

@@ -1,7 +1,8 @@
 -- What the outcomes of instructions come to.
 -- For: `Fits` (golf_machine/specs/Fits.antt) and `perform`, `perform_on_frame` (src/performing.rt)
 -- By: cases of the outcome, and induction over the list of changes
-use Rattle.std.proofs.Common.{◌≡◌, ℕ, Bool, true, false, cond, List, [], ◌∷◌, refl, sym, ap, ◌∙◌}
+use Rattle.std.proofs.Common.{◌≡◌, ℕ, Bool, true, false, cond, List, [], ◌∷◌, inl, inr, refl, sym, ◌∙◌}
+use Rattle.std.proofs.lemmas.Bool.{cases_Bool}
 use Rattle.golf_theory.specs.Maps.{find}
 use Rattle.golf_data.specs.declared.goroutine.Ending.{Ending}
 use Rattle.golf_data.specs.declared.goroutine.Leaving.{Leaving}
@@ -9,8 +10,8 @@ use Rattle.golf_data.specs.declared.goroutine.PanicKind.{PanicKind}
 use Rattle.golf_data.specs.Fatal.{is_fatal}
 use Rattle.golf_model.specs.Views.{FrameView}
 use Rattle.golf_model.specs.State.{State, not_empty}
-use Rattle.golf_model.specs.Changes.{Change, apply_all}
-use Rattle.golf_model.specs.Acting.{Actor, panics, dies, choose}
+use Rattle.golf_model.specs.Changes.{Change}
+use Rattle.golf_model.specs.Acting.{Actor}
 use Rattle.golf_state.specs.declared.outcome.Outcome.{Outcome}
 use Rattle.golf_state.specs.Doing.{does, does_by, Stands}
 use Rattle.golf_state.specs.Looked.{frames_of}
@@ -59,7 +60,7 @@ changes-fit (c ∷ cs) = block-fits (has_block (c ∷ cs)) (c ∷ cs)
 pub fits-comes : (outcome : Outcome) (act : Actor → List Change) (g line : ℕ) (s t : State) → StaysIn (frames_of g s)
     → Comes outcome act g line s t → Fits outcome act g line s t
 fits-comes outcome act g line s t stays h =
-    (ends outcome h, ap is_fit (sym (h.1 stays)) ∙ changes-fit (does_by act g line (find g s.goroutines)))
+    (ends outcome h, rw (← (h.1 stays)) (changes-fit (does_by act g line (find g s.goroutines))))
   where
     ends : (o : Outcome) → Comes o act g line s t → Ends o act g line s t
     ends Outcome.Done c = c.0.0
@@ -67,37 +68,15 @@ fits-comes outcome act g line s t stays h =
     ends (Outcome.Panic kind) c = (c.0.0, c.0.1)
     ends Outcome.Stuck c = c.0.0
 
--- ---- outcomes by the list of changes
-
-module _ (act : Actor → List Change) (g line : ℕ) (s : State) where
-  pub fits-stuck : does_by act g line (find g s.goroutines) ≡ [] → Fits Outcome.Stuck act g line s s
-  fits-stuck e = (refl, sym (ap (λ (cs : List Change). not_empty cs) e))
-
-  pub fits-done : (cs : List Change) (t : State) → does_by act g line (find g s.goroutines) ≡ cs → not_empty cs ≡ true
-      → t ≡ apply_all cs s → Fits Outcome.Done act g line s t
-  fits-done cs t e some is = (
-    is ∙ sym (ap (λ (ds : List Change). apply_all ds s) e),
-    sym (ap (λ (ds : List Change). not_empty ds) e ∙ some),
-  )
+-- ---- faults
 
 faults-some : (a : Actor) (kind : PanicKind) → not_empty (faults a kind) ≡ true
-faults-some a kind = elim (is_fatal kind) as (λ b. not_empty (choose b (dies a kind) (panics a kind)) ≡ true) [
-  | true ↦
-      refl
-  | false ↦ refl
-]
+faults-some a kind = elim (cases_Bool (is_fatal kind)) [ inl t ↦ rw t | inr f ↦ rw f ]
 
-module _ (act : Actor → List Change) (g after line : ℕ) (s : State) (st : Stands g after s) where
-  pub by-is : does_by act g line (find g s.goroutines) ≡ act (actor_of st line)
-  by-is = ap (does_by act g line) st.found
-
-  pub fits-panic : (kind : PanicKind) → act (actor_of st line) ≡ faults (actor_of st line) kind
-      → Fits (Outcome.Panic kind) act g line s s
-  fits-panic kind e =
-      let same = by-is ∙ e ∙ sym (ap (does_by (λ a. faults a kind) g line) st.found) in (
-        (refl, ap (λ (cs : List Change). apply_all cs s) same),
-        sym (ap (λ (cs : List Change). not_empty cs) (by-is ∙ e) ∙ faults-some (actor_of st line) kind),
-      )
+pub fits-panic : (act : Actor → List Change) {g after : ℕ} {s : State} (st : Stands g after s) (line : ℕ)
+    (kind : PanicKind) → act (actor_of st line) ≡ faults (actor_of st line) kind
+    → Fits (Outcome.Panic kind) act g line s s
+fits-panic act st line kind e = rw (st.found, e) ((refl, refl), sym (faults-some (actor_of st line) kind))
 
 -- ---- what is left to do
 
@@ -106,20 +85,23 @@ pub carried : (outcome : Outcome) (act : Actor → List Change) (g line : ℕ) (
     → u ≡ carries outcome g line t → u ≡ does act g line s
 carried Outcome.Done act g line s t u h e = e ∙ h.0
 carried Outcome.Blocked act g line s t u h e = e ∙ h.0
-carried (Outcome.Panic kind) act g line s t u h e = e ∙ ap (does (λ a. faults a kind) g line) h.0.0 ∙ sym h.0.1
-carried Outcome.Stuck act g line s t u h e = e ∙ h.0
-    ∙ sym (ap (λ (cs : List Change). apply_all cs s) (none_left _ (sym h.1)))
+carried (Outcome.Panic kind) act g line s t u h e = rw (e, h.0.0, h.0.1)
+carried Outcome.Stuck act g line s t u h e = rw (e, h.0, none_left _ (sym h.1))
+
+-- a goroutine that is found as before stands where it stood
+abbrev pub stands-in : {g after : ℕ} {s : State} → Stands g after s → (t : State)
+    → find g t.goroutines ≡ find g s.goroutines → Stands g after t
+stands-in st t same = record {
+  frame = st.frame;
+  callers = st.callers;
+  started = st.started;
+  found = same ∙ st.found;
+  next = st.next;
+}
 
 pub stands-to-fault : (outcome : Outcome) (act : Actor → List Change) (g after line : ℕ) (s t : State)
     → Stands g after s → Fits outcome act g line s t → StandsToFault outcome g after t
 stands-to-fault Outcome.Done act g after line s t st h = tt
 stands-to-fault Outcome.Blocked act g after line s t st h = tt
-stands-to-fault (Outcome.Panic kind) act g after line s t st h =
-    record {
-      frame = st.frame;
-      callers = st.callers;
-      started = st.started;
-      found = ap (λ (u : State). find g u.goroutines) h.0.0 ∙ st.found;
-      next = st.next;
-    }
+stands-to-fault (Outcome.Panic kind) act g after line s t st h = stands-in st t (rw h.0.0)
 stands-to-fault Outcome.Stuck act g after line s t st h = tt

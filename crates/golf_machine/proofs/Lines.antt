@@ -28,9 +28,7 @@ module _ (texts : List (List ℕ)) (values : List Value) where
   printed_first (suc i) v text bytes z l h e so_far = absurd (omega arith)
   printed_first zero v text bytes z l h e so_far =
       so_far ∙ ap (λ (vs : List Value). before (Some text) (line_bytes texts vs)) (drop_more values 0 v l)
-      ∙ ap (λ (w : Value). before (Some text) (before (bytes_of texts w) (spaced_bytes texts (drop 1 values)))) (sym h)
-      ∙ ap (λ (o : Option (List ℕ)). before (Some text) (before o (spaced_bytes texts (drop 1 values)))) e
-      ∙ before-some text bytes (spaced_bytes texts (drop 1 values))
+      ∙ rw (← h, e) (before-some text bytes (spaced_bytes texts (drop 1 values)))
 
   later : (n : ℕ) (i : ℕ) (vs : List Value) → n ≡ i + 1 → rest_bytes texts n vs ≡ spaced_bytes texts vs
   later zero i vs e = absurd (omega arith)
@@ -42,24 +40,23 @@ module _ (texts : List (List ℕ)) (values : List Value) where
   printed_later (suc i) v text bytes z l h e so_far =
       let rest = spaced_bytes texts (drop (suc i + 1) values) in
       so_far ∙ ap (λ (vs : List Value). before (Some text) (spaced_bytes texts vs)) (drop_more values (suc i) v l)
-      ∙ ap (λ (w : Value). before (Some text) (before (Some (32 ∷ [])) (before (bytes_of texts w) rest))) (sym h)
-      ∙ ap (λ (o : Option (List ℕ)). before (Some text) (before (Some (32 ∷ [])) (before o rest))) e
-      ∙ before-some text (32 ∷ []) (before (Some bytes) rest)
-      ∙ before-some (text ++ 32 ∷ []) bytes rest
-      ∙ ap (before (Some ((text ++ 32 ∷ []) ++ bytes))) (sym (later (suc i + 1) (suc i) (drop (suc i + 1) values) refl))
+      ∙ rw (
+        ← h,
+        e,
+        before-some text (32 ∷ []) (before (Some bytes) rest),
+        before-some (text ++ 32 ∷ []) bytes rest,
+        later (suc i + 1) (suc i) (drop (suc i + 1) values) refl,
+      )
 
 -- ---- zero values
 
 zeros-push : (vs : List Value) (v : Value) → zeros_of (vs ++ v ∷ []) ≡ zeros_of vs ++ zero_of v ∷ []
 zeros-push [] v = refl
-zeros-push (w ∷ vs) v = ap (λ (zs : List Value). zero_of w ∷ zs) (zeros-push vs v)
+zeros-push (w ∷ vs) v = rw (zeros-push vs v)
 
 pub zeros_more : (vs : List Value) (i : ℕ) (v : Value) (zs : List Value) → i < length vs → v ≡ get_or vs i v
     → zs ≡ zeros_of (take i vs) → zs ++ zero_of v ∷ [] ≡ zeros_of (take (i + 1) vs)
-zeros_more vs i v zs l h e =
-    ap (λ (ys : List Value). ys ++ zero_of v ∷ []) e
-    ∙ sym (ap zeros_of (take_more vs i v l ∙ ap (λ (w : Value). take i vs ++ w ∷ []) (sym h))
-    ∙ zeros-push (take i vs) v)
+zeros_more vs i v zs l h e = rw (e, take_more vs i v l, ← h, zeros-push (take i vs) v)
 
 -- a value that was added
 pub was_added : (o : Option (List ℕ)) (b : Bool) (t old : List ℕ) → b ≡ true

@@ -1,9 +1,8 @@
 -- Turns of the one goroutine that can run.
 -- For: `HasKeptOn` (golf_machine/specs/Taking.antt) and `keep_on`, `go_on_alone` (src/alone.rt)
 -- By: induction over the list of choices, one for each turn
-use Rattle.std.proofs.Common.{◌≡◌, ℕ, ◌+◌, ◌%◌, ◌/◌, true, false, List, [], ◌∷◌, ◌++◌, length, Option, Some, None, refl}
-use Rattle.std.proofs.Common.{sym, ap, ◌∙◌, arith, subst}
-use Rattle.std.specs.Prelude.{slice_get}
+use Rattle.std.proofs.Common.{◌≡◌, ℕ, ◌+◌, ◌/◌, true, false, List, [], ◌∷◌, ◌++◌, length, Option, Some, None, refl}
+use Rattle.std.proofs.Common.{sym, ap, ◌∙◌, arith}
 use Rattle.std.proofs.Math.Nat.{mod-one}
 use Rattle.std.proofs.lemmas.List.{length-append}
 use Rattle.golf_theory.specs.Maps.{find, IsRising}
@@ -11,30 +10,27 @@ use Rattle.golf_theory.proofs.MapFinds.{find-put, put-put}
 use Rattle.golf_theory.proofs.MapOrder.{Rises-put}
 use Rattle.golf_data.specs.declared.value.Value.{Value}
 use Rattle.golf_data.specs.declared.code.Code.{Code}
-use Rattle.golf_data.specs.declared.goroutine.Ending.{Ending}
 use Rattle.golf_data.specs.declared.goroutine.Mode.{Mode}
 use Rattle.golf_model.specs.Views.{FrameView, GoroutineView}
-use Rattle.golf_model.specs.State.{State, runnable, ending, not_empty}
+use Rattle.golf_model.specs.State.{State, runnable, ending}
 use Rattle.golf_model.specs.Changes.{become}
 use Rattle.golf_model.specs.Turn.{step, whose_turn, wants_collection}
 use Rattle.golf_model.specs.Running.{Event}
-use Rattle.golf_state.specs.Looked.{reframed, frames_of, frames_in, on_goroutine, runs, is_running_in}
+use Rattle.golf_state.specs.Looked.{reframed, frames_of, frames_in, runs}
 use Rattle.golf_state.specs.Doing.{Runs}
-use Rattle.golf_machine.specs.Turns.{turned_of}
 use Rattle.golf_machine.specs.Passing.{PassesOnTop, PassEach, HasPassedOnTop}
 use Rattle.golf_machine.specs.declared.passing.Passed.{Passed}
-use Rattle.golf_machine.specs.Taking.{turn_events, stops_after, steps, needs_outside, GoOn, HasGoneOn, HasKeptOn}
+use Rattle.golf_machine.specs.Taking.{stops_after, steps, GoOn, HasGoneOn, HasKeptOn}
 use Rattle.golf_machine.specs.Taking.{HasAsked, IsLone}
 use Rattle.golf_machine.proofs.Passes.{found, runnable-same, ending-same, reframed-is, turn-taken, collects-not}
-use Rattle.golf_machine.proofs.Sequence.{events-more}
+use Rattle.golf_machine.proofs.Sequence.{events-after}
 use Rattle.golf_machine.proofs.Turns.{step-taken as taken-is, wants-is, frames-are, turn-runs}
 
 -- ---- the frames
 
 passes-more : (code : Code) (globals : List Value) (cs : List ℕ) (c : ℕ) (fs ks hs : List FrameView)
     → PassEach code globals cs fs ks → PassesOnTop code globals ks hs → PassEach code globals (cs ++ c ∷ []) fs hs
-passes-more code globals [] c fs ks hs e p =
-    (hs, subst (λ (xs : List FrameView). PassesOnTop code globals xs hs) e p, refl)
+passes-more code globals [] c fs ks hs e p = (hs, rw (← e) p, refl)
 passes-more code globals (d ∷ cs) c fs ks hs e p = (e.0, e.1, passes-more code globals cs c e.0 ks hs e.2 p)
 
 pub one-kept : {passed : Passed} {code : Code} {globals : List Value} {fs ks hs : List FrameView}
@@ -46,10 +42,9 @@ one-kept {code = code} {globals} {fs} {ks} {hs} {rest = rest} {c = c} t w next m
     let count = w.count in
     record {
       taken = w.taken ++ c ∷ [];
-      order = w.order ∙ ap (λ (xs : List Event). turn_events w.taken ++ xs) next ∙ events-more w.taken c rest;
+      order = rw (w.order, next) (events-after w.taken (c ∷ []) rest);
       count = omega (arith, size, count, more);
-      passes = passes-more code globals w.taken c fs ks hs w.passes
-          (subst (λ (x : Passed). HasPassedOnTop x code globals ks hs) t p);
+      passes = passes-more code globals w.taken c fs ks hs w.passes (rw t at p);
     }
 
 -- ---- the state
@@ -63,10 +58,10 @@ pub record IsAlone (g : ℕ) (s : State) : Type 0 where
   pub rises : IsRising s.goroutines
   pub same : reframed g (frames_of g s) s ≡ s
 
-module _ (code : Code) (g : ℕ) (s : State) (a : IsAlone g s) (ks : List FrameView)
+module _ {code : Code} {g : ℕ} {s : State} (a : IsAlone g s) {ks : List FrameView}
     (p : PassesOnTop code s.globals (frames_of g s) ks) where
   are : a.runs.frames ≡ p.first ∷ p.callers
-  are = sym (frames-are g s a.runs) ∙ p.were
+  are = sym (frames-are a.runs) ∙ p.were
 
   abbrev with : FrameView → GoroutineView
   with x = record { frames = x ∷ p.callers; mode = Mode.Running; started = a.runs.started }
@@ -75,119 +70,83 @@ module _ (code : Code) (g : ℕ) (s : State) (a : IsAlone g s) (ks : List FrameV
   stepped = become g (with p.next) s
 
   after-is : reframed g ks s ≡ stepped
-  after-is = ap (λ (xs : List FrameView). reframed g xs s) p.are
-      ∙ reframed-is code g s a.runs p.first p.next p.callers are p.passes
+  after-is = ap (λ (xs : List FrameView). reframed g xs s) p.are ∙ reframed-is a.runs are p.passes
 
   turn-is : (c : ℕ) → whose_turn s c ≡ Some g
-  turn-is c = ap (λ (xs : List ℕ). slice_get xs (c % length xs)) a.alone ∙ ap (slice_get (g ∷ [])) (mod-one c)
+  turn-is c = rw (a.alone, mod-one c)
 
   step-taken : (c : ℕ) → reframed g ks s ≡ step code s c
-  step-taken c =
-      taken-is code s c g (turn-is c) (length (runnable s)) (c / length (runnable s)) (reframed g ks s) refl refl
-      (ap (λ (xs : List FrameView). reframed g xs s) p.are
-      ∙ turn-taken code g s a.runs p.first p.next p.callers are p.passes (c / length (runnable s)))
+  step-taken c = taken-is code s c g (turn-is c) _ _ _ refl refl
+      (ap (λ (xs : List FrameView). reframed g xs s) p.are ∙ turn-taken a.runs are p.passes (c / length (runnable s)))
 
   ending-is : ending (reframed g ks s) ≡ None
-  ending-is = ap ending after-is ∙ ending-same code g s a.runs p.first p.next p.callers are p.passes a.rises ∙ a.goes
+  ending-is = rw (after-is, ending-same a.runs are p.passes a.rises) a.goes
 
   wants-not : (c : ℕ) → wants_collection code s c ≡ false
-  wants-not c = wants-is code s c g (turn-is c) ∙ collects-not code g s a.runs p.first p.next p.callers are p.passes
+  wants-not c = rw (wants-is code s c g (turn-is c)) (collects-not a.runs are p.passes)
 
   stops-not : (c : ℕ) → stops_after code s c ≡ false
-  stops-not c =
-      ap (λ (t : State). needs_outside (turned_of (ending t) (wants_collection code s c)) t.output) (sym (step-taken c))
-      ∙ ap (λ (o : Option Ending). needs_outside (turned_of o (wants_collection code s c)) (reframed g ks s).output)
-      ending-is
-      ∙ ap (λ b. needs_outside (turned_of None b) (reframed g ks s).output) (wants-not c)
-      ∙ ap (λ (t : State). not_empty t.output) after-is
-      ∙ ap (λ (xs : List ℕ). not_empty xs) a.quiet
+  stops-not c = rw (← (step-taken c), ending-is, wants-not c, after-is, a.quiet)
 
   found-after : find g stepped.goroutines ≡ Some (with p.next)
-  found-after = find-put g (with p.next) s.goroutines (with p.first)
-      (found code g s a.runs p.first p.next p.callers are p.passes)
+  found-after = find-put g (with p.next) s.goroutines (with p.first) (found a.runs are p.passes)
 
   frames-after : frames_of g stepped ≡ ks
   frames-after = ap frames_in found-after ∙ sym p.are
 
   reframed-after : (hs : List FrameView) → reframed g hs stepped ≡ reframed g hs s
-  reframed-after hs =
-      ap (λ (o : Option GoroutineView). on_goroutine (λ q. become g (record q { frames = hs })) o stepped) found-after
-      ∙ ap (λ (es : List (ℕ × GoroutineView)). record s { goroutines = es })
-      (put-put g (let r : GoroutineView = record {
-        frames = hs;
-        mode = Mode.Running;
-        started = a.runs.started;
-      } in r) (with p.next) s.goroutines)
-      ∙ sym (ap (λ (o : Option GoroutineView). on_goroutine (λ q. become g (record q { frames = hs })) o s)
-      (found code g s a.runs p.first p.next p.callers are p.passes))
+  reframed-after hs = rw (found-after, found a.runs are p.passes, put-put g _ (with p.next) s.goroutines)
 
   alone-after : IsAlone g stepped
   alone-after = record {
     runs = record { frames = p.next ∷ p.callers; started = a.runs.started; found = found-after };
-    alone = runnable-same code g s a.runs p.first p.next p.callers are p.passes a.rises ∙ a.alone;
+    alone = rw (runnable-same a.runs are p.passes a.rises) a.alone;
     goes = ap ending (sym after-is) ∙ ending-is;
     quiet = a.quiet;
     rises = Rises-put 0 g (with p.next) s.goroutines a.rises;
-    same = reframed-after (frames_of g stepped) ∙ ap (λ (xs : List FrameView). reframed g xs s) frames-after ∙ after-is;
+    same = rw (reframed-after (frames_of g stepped), frames-after) after-is;
   }
 
 -- each turn is the goroutine's, and after none the outside is needed
 pub alone-steps : (code : Code) (g : ℕ) (s : State) (a : IsAlone g s) (cs : List ℕ) (hs : List FrameView)
     → PassEach code s.globals cs (frames_of g s) hs
     → (reframed g hs s ≡ steps code s cs) × GoOn code s cs × (ending (reframed g hs s) ≡ None)
-alone-steps code g s a [] hs e =
-    let is = ap (λ (xs : List FrameView). reframed g xs s) e ∙ a.same in
-    (is, tt, ap ending is ∙ a.goes)
+alone-steps code g s a [] hs e = rw e (a.same, tt, rw a.same a.goes)
 alone-steps code g s a (c ∷ cs) hs e =
-    let ks = e.0 in
     let p = e.1 in
-    let t = stepped code g s a ks p in
-    let rest = alone-steps code g t (alone-after code g s a ks p) cs hs
-    (subst (λ (xs : List FrameView). PassEach code s.globals cs xs hs) (sym (frames-after code g s a ks p)) e.2) in
-    let there = reframed-after code g s a ks p hs in
-    let is : t ≡ step code s c = sym (after-is code g s a ks p) ∙ step-taken code g s a ks p c in (
-      sym there ∙ rest.0 ∙ ap (λ (x : State). steps code x cs) is,
-      (stops-not code g s a ks p c, subst (λ (x : State). GoOn code x cs) is rest.1),
-      ap ending (sym there) ∙ rest.2,
-    )
+    let rest = alone-steps code g (stepped a p) (alone-after a p) cs hs (rw (frames-after a p) e.2) in
+    let there = reframed-after a p hs in
+    let is : stepped a p ≡ step code s c = sym (after-is a p) ∙ step-taken a p c in
+    (rw (← there, ← is) rest.0, (stops-not a p c, rw (← is) rest.1), rw (← there) rest.2)
 
--- the goroutines that can run are this one
-pub lone-runs : (g : ℕ) (s : State) → IsRising s.goroutines → runnable s ≡ g ∷ [] → Runs g s
-lone-runs g s rises e = turn-runs s 0 g rises
-    (ap (λ (xs : List ℕ). slice_get xs (0 % length xs)) e ∙ ap (slice_get (g ∷ [])) (mod-one 0))
+-- the goroutine that alone can run is running
+lone-runs : (g : ℕ) (s : State) → IsRising s.goroutines → runnable s ≡ g ∷ [] → Runs g s
+lone-runs g s rises e = turn-runs s 0 g rises (rw e)
 
-pub lone-is-running : (g : ℕ) (s : State) → Runs g s → runs g s ≡ true
-lone-is-running g s r = ap is_running_in r.found
+pub lone-is-running : {g : ℕ} {s : State} → IsRising s.goroutines → IsLone g s → runs g s ≡ true
+lone-is-running {g} {s} rises lone = rw (lone-runs g s rises lone.alone).found
 
--- what was asked of the frames that are lent, asked of the state
-module _ (code : Code) (g : ℕ) (s : State) (rises : IsRising s.goroutines) (lone : IsLone g s) (goes : ending s ≡ None)
-    (fs hs : List FrameView) (value : fs ≡ frames_of g s) (same : reframed g (frames_of g s) s ≡ s)
-    (globals : List Value) (are-those : globals ≡ s.globals) where
-  is-alone : IsAlone g s
-  is-alone = record {
-    runs = lone-runs g s rises lone.alone;
-    alone = lone.alone;
-    goes = goes;
-    quiet = lone.quiet;
-    rises = rises;
-    same = same;
-  }
-
+-- what was asked of the frames that are lent, asked of the state, which goes on
+module _ (code : Code) {g : ℕ} {s : State} (rises : IsRising s.goroutines) (lone : IsLone g s) (goes : ending s ≡ None)
+    (hs : List FrameView) {fs : List FrameView} (value : fs ≡ frames_of g s) (same : reframed g (frames_of g s) s ≡ s)
+    {globals : List Value} (are-those : globals ≡ s.globals) where
   gone : (before after : List Event) (given now : ℕ) → HasKeptOn code globals fs hs before after given now
       → HasGoneOn code s (reframed g hs s) before after given now × (ending (reframed g hs s) ≡ None)
   gone before after given now w =
-      let r = alone-steps code g s is-alone w.taken hs
-      (subst (λ (vs : List Value). PassEach code vs w.taken (frames_of g s) hs) are-those
-      (subst (λ (xs : List FrameView). PassEach code globals w.taken xs hs) value w.passes)) in
+      let r = alone-steps code g s (record {
+        runs = lone-runs g s rises lone.alone;
+        alone = lone.alone;
+        goes = goes;
+        quiet = lone.quiet;
+        rises = rises;
+        same = same;
+      }) w.taken hs (rw (← are-those, ← value) w.passes) in
       (record { taken = w.taken; order = w.order; count = w.count; silent = r.1; state = r.0 }, r.2)
 
   pub lone-asked : (o : Option ℕ) (before after : List Event) (given now : ℕ)
       → HasAsked o (λ es n. HasKeptOn code globals fs hs before es given n) after now
       → HasAsked o (λ es n. HasGoneOn code s (reframed g hs s) before es given n) after now
-  lone-asked None before after given now a = ((gone before after given now a.0).0, a.1)
-  lone-asked (Some c) before after given now a = (a.0, (gone before (Event.Turn c ∷ after) given a.0 a.1).0, a.2)
-
-  pub lone-goes : (o : Option ℕ) (before after : List Event) (given now : ℕ)
-      → HasAsked o (λ es n. HasKeptOn code globals fs hs before es given n) after now → ending (reframed g hs s) ≡ None
-  lone-goes None before after given now a = (gone before after given now a.0).1
-  lone-goes (Some c) before after given now a = (gone before (Event.Turn c ∷ after) given a.0 a.1).1
+      × (ending (reframed g hs s) ≡ None)
+  lone-asked None before after given now a = let w = gone before after given now a.0 in ((w.0, a.1), w.1)
+  lone-asked (Some c) before after given now a = let w = gone before (Event.Turn c ∷ after) given a.0 a.1 in
+      ((a.0, w.0, a.2), w.1)

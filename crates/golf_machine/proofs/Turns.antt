@@ -1,8 +1,8 @@
 -- Whose turn it is, and what the turn is.
 -- For: `whose_turn`, `step` (golf_model/specs/Turn.antt) and `turn` (src/turning.rt), `act` (src/stepping.rt)
 -- By: cases of the goroutine's mode and of its first frame; no induction
-use Rattle.std.proofs.Common.{◌≡◌, ℕ, ◌+◌, ◌<◌, ◌%◌, ◌/◌, Bool, true, not, ◌||◌, ◌==◌, List, [], ◌∷◌, length, Option}
-use Rattle.std.proofs.Common.{Some, None, refl, sym, ap, ◌∙◌, arith, subst, ◌^◌}
+use Rattle.std.proofs.Common.{◌≡◌, ℕ, ◌+◌, ◌<◌, ◌%◌, ◌/◌, true, not, ◌||◌, ◌==◌, List, [], ◌∷◌, length, Option}
+use Rattle.std.proofs.Common.{Some, None, refl, sym, ap, ◌∙◌, arith, ◌^◌}
 use Rattle.std.specs.Prelude.{slice_get, option_and_then}
 use Rattle.std.proofs.lemmas.Bool.{and_parts}
 use Rattle.golf_data.specs.declared.code.Code.{Code}
@@ -18,14 +18,13 @@ use Rattle.golf_data.specs.declared.code.Function.{Function}
 use Rattle.golf_data.specs.Places.{IsShort, HasPlaces}
 use Rattle.golf_model.specs.Views.{FrameView, GoroutineView}
 use Rattle.golf_model.specs.State.{State, is_running, not_empty, can_run, runnable, ending, ending_of}
-use Rattle.golf_model.specs.Changes.{apply_all, behind_first}
-use Rattle.golf_model.specs.Clearing.{clearing}
-use Rattle.golf_model.specs.Turn.{turned, turn_changes, whose_turn, step, wants_collection, goroutine_collects}
-use Rattle.golf_model.specs.Turn.{moves_on, clears_nothing, line_at}
+use Rattle.golf_model.specs.Changes.{behind_first}
+use Rattle.golf_model.specs.Turn.{whose_turn, step, wants_collection, goroutine_collects}
+use Rattle.golf_model.specs.Turn.{line_at}
 use Rattle.golf_state.specs.Looked.{frames_of, frames_in}
 use Rattle.golf_state.specs.Doing.{Stands, Runs}
 use Rattle.golf_state.specs.Outcomes.{StaysIn}
-use Rattle.golf_machine.specs.Passing.{IsAtTop, acted, keeps_all, taken}
+use Rattle.golf_machine.specs.Passing.{IsAtTop, taken}
 
 -- ---- whose turn it is
 
@@ -40,8 +39,7 @@ some_run s goes = awake s.recorded (runnable s) goes
 -- the goroutine at the place that the number gives
 pub whose : (s : State) (n g place count : ℕ) → slice_get (runnable s) place ≡ Some g → place ≡ n % count
     → count ≡ length (runnable s) → whose_turn s n ≡ Some g
-whose s n g place count at is told = ap (λ k. slice_get (runnable s) (n % k)) (sym told)
-    ∙ ap (λ p. slice_get (runnable s) p) (sym is) ∙ at
+whose s n g place count at is told = rw (← told, ← is) at
 
 mode-running : (m : Mode) → is_running m ≡ true → m ≡ Mode.Running
 mode-running Mode.Running h = refl
@@ -66,41 +64,21 @@ turn-runs s n g r h =
 -- ---- the step
 
 module _ (code : Code) (s : State) (n g : ℕ) (turn : whose_turn s n ≡ Some g) where
-  turned-is : acted code g (n / length (runnable s)) s ≡ turned code s n
-  turned-is = sym (ap (λ (o : Option ℕ). apply_all (turn_changes code (n / length (runnable s)) s o) s) turn)
-
   pub wants-is : wants_collection code s n ≡ goroutine_collects code (find g s.goroutines)
-  wants-is = ap (λ (o : Option ℕ). goroutine_collects code (option_and_then (λ k. find k s.goroutines) o)) turn
-
-  clears-is : clears_nothing code s n ≡ keeps_all code g (n / length (runnable s)) s
-  clears-is =
-      ap (λ (b : Bool). b || not (moves_on code s n)) wants-is
-      ∙ ap (λ (o : Option ℕ). goroutine_collects code (find g s.goroutines)
-      || not (not_empty (turn_changes code (n / length (runnable s)) s o))) turn
-
-  taken-is : taken code g (n / length (runnable s)) s ≡ step code s n
-  taken-is =
-      ap (λ c. apply_all (clearing code c (Some g) (acted code g (n / length (runnable s)) s))
-      (acted code g (n / length (runnable s)) s)) (sym clears-is)
-      ∙ ap (λ (m : Option ℕ). apply_all (clearing code (clears_nothing code s n) m
-      (acted code g (n / length (runnable s)) s)) (acted code g (n / length (runnable s)) s)) (sym turn)
-      ∙ ap (λ (t : State). apply_all (clearing code (clears_nothing code s n) (whose_turn s n) t) t) turned-is
+  wants-is = rw turn
 
   -- the turn, and what is cleared after it, by the choice that the number was divided into
   pub step-taken : (count choice : ℕ) (t : State) → count ≡ length (runnable s) → choice ≡ n / count
       → t ≡ taken code g choice s → t ≡ step code s n
-  step-taken count choice t told e is = is ∙ ap (λ k. taken code g k s) (e ∙ ap (λ k. n / k) told) ∙ taken-is
-
-  pub wants-taken : (b : Bool) → b ≡ goroutine_collects code (find g s.goroutines) → wants_collection code s n ≡ b
-  wants-taken b h = wants-is ∙ sym h
+  step-taken count choice t told e is = rw turn (rw (e, told) at is)
 
 -- ---- the goroutine's frames
 
-pub first-is : (fs : List FrameView) (f : FrameView) → Some f ≡ slice_get fs 0 → fs ≡ f ∷ behind_first fs
-first-is [] f h = cc
-first-is (g ∷ fs) f h = let same : g ≡ f = cc in ap (λ (x : FrameView). x ∷ fs) same
+pub first-is : {X : Type 0} (xs : List X) (x : X) → Some x ≡ slice_get xs 0 → xs ≡ x ∷ behind_first xs
+first-is [] x h = cc
+first-is {X} (y ∷ xs) x h = let same : y ≡ x = cc in ap (λ (z : X). z ∷ xs) same
 
-module _ (g : ℕ) (s : State) (r : Runs g s) where
+module _ {g : ℕ} {s : State} (r : Runs g s) where
   pub frames-are : frames_of g s ≡ r.frames
   frames-are = ap frames_in r.found
 
@@ -109,33 +87,24 @@ module _ (g : ℕ) (s : State) (r : Runs g s) where
     frame = f;
     callers = behind_first r.frames;
     started = r.started;
-    found = r.found ∙ ap (λ (fs : List FrameView). let x : GoroutineView =
-        record { frames = fs; mode = Mode.Running; started = r.started } in Some x)
-        (first-is r.frames f (e ∙ ap (λ (fs : List FrameView). slice_get fs 0) frames-are));
+    found = rw (first-is r.frames f (rw frames-are at e)) at r.found;
     next = refl;
   }
 
 -- the turn of a goroutine at an instruction
-module _ (code : Code) (g after : ℕ) (s : State) (r : Runs g s) (line : CodeLine)
+module _ {code : Code} {g after : ℕ} {s : State} (r : Runs g s) {line : CodeLine}
     (top : IsAtTop code (frames_of g s) line after) where
-  abbrev pub view : GoroutineView
-  view = record { frames = top.frame ∷ top.callers; mode = Mode.Running; started = r.started }
-
-  pub view-found : find g s.goroutines ≡ Some view
-  view-found = r.found ∙ ap (λ (fs : List FrameView). let x : GoroutineView =
-      record { frames = fs; mode = Mode.Running; started = r.started } in Some x) (sym (frames-are g s r) ∙ top.are)
-
   abbrev pub stands-there : Stands g after s
   stands-there = record {
     frame = top.frame;
     callers = top.callers;
     started = r.started;
-    found = view-found;
+    found = rw (sym (frames-are r) ∙ top.are) at r.found;
     next = top.at.2;
   }
 
   pub stays-there : StaysIn (frames_of g s)
-  stays-there = subst StaysIn (sym top.are) top.at.0
+  stays-there = rw top.are top.at.0
 
 -- ---- places
 

@@ -90,18 +90,8 @@ pub fn last_values(state: &State, g: GoroutineId, count: u32) -> Option<&[Value]
     }
 }
 
-// Ends the program: the goroutine would have one frame too many.
-fn overflow(state: &mut State, g: GoroutineId, line: u32)
-    ensures { state.new ≡ finish (Ending.Panicked PanicKind.StackOverflow g line) state.old }
-{
-    state.finish(Ending::Panicked {
-        kind: PanicKind::StackOverflow,
-        goroutine: g,
-        line,
-    });
-}
-
 /// Calls a function with the last `count` operands. One frame too many is a fatal error.
+#[tactic(auto, using(crate::proofs::Frames::kept))]
 pub fn call(
     alloc: Global,
     code: &Code,
@@ -160,19 +150,8 @@ pub fn go(
     Ok(Outcome::Done)
 }
 
-// A deferred call of a function with these values as its arguments.
-fn deferred_of(alloc: Global, function: u32, values: &[Value]) -> Result<Deferred, Memory>
-    ensures { IfOk result (λ deferred. deferred ≡ record { function = function; arguments = values.now }) }
-{
-    let mut arguments = List::new(alloc);
-    arguments.extend_from_slice(values)?;
-    Ok(Deferred {
-        function,
-        arguments,
-    })
-}
-
 /// Defers a call of a function with the last `count` operands.
+#[tactic(auto, using(crate::proofs::Frames::kept))]
 pub fn defer_call(
     alloc: Global,
     state: &mut State,
@@ -188,16 +167,14 @@ pub fn defer_call(
     let Some(values) = last_values(state, g, count) else {
         return Ok(Outcome::Stuck);
     };
-    let deferred = deferred_of(alloc, number, values)?;
+    let mut arguments = List::new(alloc);
+    arguments.extend_from_slice(values)?;
+    let deferred = Deferred {
+        function: number,
+        arguments,
+    };
     defer(state.frames_mut(g), acting.after, count as usize, deferred)?;
     Ok(Outcome::Done)
-}
-
-// The last item.
-fn last(items: &[Deferred]) -> Option<&Deferred>
-    ensures { option_map (λ d. d.now) result ≡ slice_get (reverse items.now) 0 }
-{
-    items.last()
 }
 
 /// Returns the latest deferred call of a goroutine's innermost frame, or `None`.
@@ -205,11 +182,12 @@ pub fn latest_deferred(state: &State, g: GoroutineId) -> Option<&Deferred>
     ensures { option_map (λ d. d.now) result ≡ slice_get (deferred_of g.0 state.now) 0 }
 {
     let frame = state.frame(g)?;
-    last(frame.deferred.as_slice())
+    frame.deferred.as_slice().last()
 }
 
 /// Begins the latest deferred call of a goroutine's innermost frame, if it has one. Returns whether a rule
 /// fits.
+#[tactic(auto, using(crate::proofs::Frames::kept))]
 pub fn begin_deferred(
     alloc: Global,
     code: &Code,
@@ -230,7 +208,12 @@ pub fn begin_deferred(
         return Ok(false);
     };
     if state.depth(g) >= MOST_FRAMES {
-        overflow(state, g, line);
+        // One frame too many ends the program.
+        state.finish(Ending::Panicked {
+            kind: PanicKind::StackOverflow,
+            goroutine: g,
+            line,
+        });
         return Ok(true);
     }
     enter_deferred(state.frames_mut(g), frame)?;
@@ -240,6 +223,7 @@ pub fn begin_deferred(
 /// Takes the first entry of the finaliser queue and begins its function on its object. The goroutine has no
 /// frame. Returns whether a rule fits: the goroutine is goroutine 0, the queue has an entry, and the code
 /// has the function.
+#[tactic(auto, using(crate::proofs::Frames::kept))]
 pub fn begin_queued(
     alloc: Global,
     code: &Code,

@@ -15,28 +15,6 @@ use golf_base::{Memory, ObjectId};
 use golf_data::PanicKind;
 use golf_state::{Acting, Outcome, Reference, State, last_operand, proceed, reference_in};
 
-// Sets the finaliser of a struct.
-fn finalise_at(
-    state: &mut State,
-    acting: Acting,
-    object: ObjectId,
-    function: u32,
-) -> Result<Outcome, Memory>
-    requires { Stands acting.goroutine.0 acting.after state.old }
-    ensures ok { IfOk result (λ outcome. Fits outcome (λ a. at_struct (λ fields. finalises_by a (drop 1 a.frame.operands) function object.0 (find object.0 state.old.finalisers)) (find object.0 state.old.objects)) acting.goroutine.0 acting.line state.old state.new) }
-    ensures err { OnErr result (state.new ≡ state.old) }
-{
-    if !is_struct(state, object) {
-        return Ok(Outcome::Stuck);
-    }
-    if state.finaliser(object).is_some() {
-        return Ok(Outcome::Panic(PanicKind::FinalizerSet));
-    }
-    state.set_finaliser(object, function)?;
-    proceed(state, acting, acting.after, 1);
-    Ok(Outcome::Done)
-}
-
 /// Sets the finaliser of the struct that the last operand refers to. If the struct has one already, that is
 /// a fatal error. It panics on nil.
 pub fn finalise(state: &mut State, acting: Acting, function: u32) -> Result<Outcome, Memory>
@@ -48,24 +26,20 @@ pub fn finalise(state: &mut State, acting: Acting, function: u32) -> Result<Outc
         return Ok(Outcome::Stuck);
     };
     match reference_in(value) {
-        Reference::To(object) => finalise_at(state, acting, object, function),
+        Reference::To(object) => {
+            if !is_struct(state, object) {
+                return Ok(Outcome::Stuck);
+            }
+            if state.finaliser(object).is_some() {
+                return Ok(Outcome::Panic(PanicKind::FinalizerSet));
+            }
+            state.set_finaliser(object, function)?;
+            proceed(state, acting, acting.after, 1);
+            Ok(Outcome::Done)
+        }
         Reference::Nil => Ok(Outcome::Panic(PanicKind::NilPointer)),
         Reference::Misfit => Ok(Outcome::Stuck),
     }
-}
-
-// Removes the finaliser of a struct, if it has one.
-fn unfinalise_at(state: &mut State, acting: Acting, object: ObjectId) -> Result<Outcome, Memory>
-    requires { Stands acting.goroutine.0 acting.after state.old }
-    ensures ok { IfOk result (λ outcome. Fits outcome (λ a. at_struct (λ fields. Change.ClearFinaliser object.0 ∷ goes a (drop 1 a.frame.operands)) (find object.0 state.old.objects)) acting.goroutine.0 acting.line state.old state.new) }
-    ensures err { OnErr result (state.new ≡ state.old) }
-{
-    if !is_struct(state, object) {
-        return Ok(Outcome::Stuck);
-    }
-    state.clear_finaliser(object);
-    proceed(state, acting, acting.after, 1);
-    Ok(Outcome::Done)
 }
 
 /// Removes the finaliser of the struct that the last operand refers to. On nil it only goes on.
@@ -78,7 +52,14 @@ pub fn unfinalise(state: &mut State, acting: Acting) -> Result<Outcome, Memory>
         return Ok(Outcome::Stuck);
     };
     match reference_in(value) {
-        Reference::To(object) => unfinalise_at(state, acting, object),
+        Reference::To(object) => {
+            if !is_struct(state, object) {
+                return Ok(Outcome::Stuck);
+            }
+            state.clear_finaliser(object);
+            proceed(state, acting, acting.after, 1);
+            Ok(Outcome::Done)
+        }
         Reference::Nil => {
             proceed(state, acting, acting.after, 1);
             Ok(Outcome::Done)

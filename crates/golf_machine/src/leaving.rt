@@ -31,6 +31,7 @@ fn end(state: &mut State, g: GoroutineId)
 }
 
 // Leaves the innermost frame by a return. The program ends with goroutine 1.
+#[tactic(auto, using(crate::proofs::Frames::kept))]
 fn return_to(state: &mut State, g: GoroutineId, value: Option<Value>) -> Result<(), Memory>
     requires { Acts g.0 state.old }
     ensures ok { OnOk result ((line : ℕ) → state.new ≡ does (λ a. returns_to a value a.callers) g.0 line state.old) }
@@ -67,10 +68,7 @@ fn unwind_to(state: &mut State, g: GoroutineId, fault: Fault)
 fn has_deferred(state: &State, g: GoroutineId) -> bool
     ensures { result ≡ not_empty (deferred_of g.0 state.now) }
 {
-    match latest_deferred(state, g) {
-        Some(_) => true,
-        None => false,
-    }
+    latest_deferred(state, g).is_some()
 }
 
 /// Returns without a value. If the innermost frame has deferred calls, it becomes a returning frame, and

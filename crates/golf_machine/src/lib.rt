@@ -11,7 +11,6 @@ mod entering;
 mod finalising;
 mod leaving;
 mod numbers;
-mod operands;
 mod passing;
 mod performing;
 mod printing;

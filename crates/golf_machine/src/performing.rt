@@ -42,8 +42,7 @@ fn outcome_in(came: Within) -> Outcome
     match came {
         Within::Done => Outcome::Done,
         Within::ZeroDivisor => Outcome::Panic(PanicKind::DivideByZero),
-        Within::Stuck => Outcome::Stuck,
-        Within::Beyond => Outcome::Stuck,
+        Within::Stuck | Within::Beyond => Outcome::Stuck,
     }
 }
 
@@ -181,12 +180,7 @@ fn operate(
 fn is_fit(outcome: Outcome) -> bool
     ensures { result ≡ is_fit outcome }
 {
-    match outcome {
-        Outcome::Done => true,
-        Outcome::Blocked => true,
-        Outcome::Panic(_) => true,
-        Outcome::Stuck => false,
-    }
+    !matches!(outcome, Outcome::Stuck)
 }
 
 /// Does an instruction of a frame that is not leaving. A `select` takes the ready case at the place

@@ -27,25 +27,16 @@ fn add_value(
         Value::Int(n) => {
             let digits = n.to_string(alloc)?;
             text.extend_from_slice(digits.as_bytes())?;
-            Ok(true)
         }
-        Value::Bool(true) => {
-            text.extend_from_slice(b"true")?;
-            Ok(true)
-        }
-        Value::Bool(false) => {
-            text.extend_from_slice(b"false")?;
-            Ok(true)
-        }
+        Value::Bool(true) => text.extend_from_slice(b"true")?,
+        Value::Bool(false) => text.extend_from_slice(b"false")?,
         Value::Text(k) => match texts.get(k as usize) {
-            Some(found) => {
-                text.extend_from_slice(found.as_slice())?;
-                Ok(true)
-            }
-            None => Ok(false),
+            Some(found) => text.extend_from_slice(found.as_slice())?,
+            None => return Ok(false),
         },
-        Value::Unit | Value::Nil | Value::Ref(_) => Ok(false),
+        Value::Unit | Value::Nil | Value::Ref(_) => return Ok(false),
     }
+    Ok(true)
 }
 
 /// Returns the line of these values, with one space between and a newline at the end, or `None` if a value

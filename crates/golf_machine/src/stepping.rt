@@ -52,14 +52,6 @@ pub fn return_line(code: &Code, frame: &Frame) -> u32
     }
 }
 
-// Whether an instruction is a collection.
-#[inline(always)]
-fn is_collection(instr: &Instr) -> bool
-    ensures { result ≡ is_collection instr.now }
-{
-    matches!(instr, Instr::Collect)
-}
-
 /// Takes the turn of a goroutine that runs and is at this instruction, before the place `after`. A `select`
 /// takes the ready case at the place `choice`, counted round.
 pub fn act(
@@ -84,7 +76,7 @@ pub fn act(
         after,
     };
     let fits = perform(alloc, code, state, acting, &line.instr, choice)?;
-    if is_collection(&line.instr) {
+    if matches!(line.instr, Instr::Collect) {
         return Ok(Acted::Collects);
     }
     Ok(went_if(fits))
@@ -115,19 +107,14 @@ pub fn act_nowhere(
     ensures err { OnErr result (state.new ≡ state.old) }
 {
     let Some(frame) = state.frame(g) else {
-        let fits = begin_queued(alloc, code, state, g)?;
-        return Ok(went_if(fits));
+        return Ok(went_if(begin_queued(alloc, code, state, g)?));
     };
     match frame.leaving {
         Leaving::No => Ok(Acted::Stuck),
         Leaving::Returning(value) => {
             let line = return_line(code, frame);
-            let fits = leave_returning(alloc, code, state, g, line, value)?;
-            Ok(went_if(fits))
+            Ok(went_if(leave_returning(alloc, code, state, g, line, value)?))
         }
-        Leaving::Unwinding(fault) => {
-            let fits = leave_unwinding(alloc, code, state, g, fault)?;
-            Ok(went_if(fits))
-        }
+        Leaving::Unwinding(fault) => Ok(went_if(leave_unwinding(alloc, code, state, g, fault)?)),
     }
 }

@@ -9,7 +9,9 @@ ghost use Rattle.golf_model.specs.Conditions.{makes_condition, gets_mutex};
 ghost use Rattle.golf_model.specs.Structures.{makes, makes_struct, gets_field, sets_field, field_set, makes_slice};
 ghost use Rattle.golf_model.specs.Structures.{makes_channel, gets_element, sets_element, element_set, element, within};
 ghost use Rattle.golf_model.specs.Structures.{measures, length_of};
-ghost use Rattle.golf_model.specs.Values.{zeros_of};
+ghost use Rattle.golf_model.specs.Values.{zero_of, zeros_of};
+ghost use Rattle.golf_state.specs.Operands.{operands_of};
+ghost use Rattle.golf_machine.specs.Operations.{int_in};
 ghost use Rattle.golf_data.specs.declared.goroutine.PanicKind.{PanicKind};
 ghost use Rattle.golf_data.specs.declared.value.Object.{Object};
 ghost use Rattle.golf_state.specs.Doing.{Stands};
@@ -17,8 +19,7 @@ ghost use Rattle.golf_machine.specs.Fits.{Fits};
 ghost use Rattle.golf_machine.specs.Objects.{struct_of, slice_of, has_place, is_nil_or_mutex, field_changed};
 ghost use Rattle.golf_machine.specs.Objects.{element_changed, measured};
 
-use crate::operands::{last_int, zero_of};
-use golf_base::{List, Memory, ObjectId};
+use golf_base::{GoroutineId, List, Memory, ObjectId};
 use golf_data::{Channel, Code, Object, PanicKind, Value};
 use golf_ring::Ring;
 use golf_state::{
@@ -58,6 +59,23 @@ fn slice_at(state: &State, object: ObjectId) -> Option<&List<Value>>
     }
 }
 
+// The last operand of a goroutine's innermost frame if it is an integer, or `None`.
+fn last_int(state: &State, g: GoroutineId) -> Option<i64>
+    ensures { result ≡ int_in (operands_of g.0 state.now) }
+{
+    int_in(last_operand(state, g)?)
+}
+
+// The zero value for a value in the code: nil for a reference, and else the value itself.
+fn zero_of(value: Value) -> Value
+    ensures { result ≡ zero_of value }
+{
+    match value {
+        Value::Ref(_) => Value::Nil,
+        _ => value,
+    }
+}
+
 /// Returns the zero values of globals or fields.
 pub fn zeros_of(alloc: Global, values: &[Value]) -> Result<List<Value>, Memory>
     ensures { IfOk result (λ zeros. zeros ≡ zeros_of values.now) }
@@ -91,43 +109,12 @@ pub fn new_struct(
     ensures ok { IfOk result (λ outcome. Fits outcome (λ a. makes_struct code.now a row state.old) acting.goroutine.0 acting.line state.old state.new) }
     ensures err { OnErr result (state.new ≡ state.old) }
 {
-    match code.structs.as_slice().get(row as usize) {
-        Some(zeros) => {
-            let fields = zeros_of(alloc, zeros.as_slice())?;
-            make_onto(state, acting, Object::Struct(fields))?;
-            Ok(Outcome::Done)
-        }
-        None => Ok(Outcome::Stuck),
-    }
-}
-
-// Pushes the field at a place of the struct that a value refers to.
-fn get_field_of(
-    state: &mut State,
-    acting: Acting,
-    object: Value,
-    field: u32,
-) -> Result<Outcome, Memory>
-    requires { Stands acting.goroutine.0 acting.after state.old }
-    ensures ok { IfOk result (λ outcome. Fits outcome (λ a. at_reference a (λ o. at_struct (λ fields. leaves a (drop 1 a.frame.operands) (slice_get fields field)) (find o state.old.objects)) object) acting.goroutine.0 acting.line state.old state.new) }
-    ensures err { OnErr result (state.new ≡ state.old) }
-{
-    match reference_in(object) {
-        Reference::To(object) => {
-            let Some(fields) = struct_at(state, object) else {
-                return Ok(Outcome::Stuck);
-            };
-            match fields.as_slice().get(field as usize).copied() {
-                Some(value) => {
-                    proceed_with(state, acting, acting.after, 1, Given::One(value))?;
-                    Ok(Outcome::Done)
-                }
-                None => Ok(Outcome::Stuck),
-            }
-        }
-        Reference::Nil => Ok(Outcome::Panic(PanicKind::NilPointer)),
-        Reference::Misfit => Ok(Outcome::Stuck),
-    }
+    let Some(zeros) = code.structs.as_slice().get(row as usize) else {
+        return Ok(Outcome::Stuck);
+    };
+    let fields = zeros_of(alloc, zeros.as_slice())?;
+    make_onto(state, acting, Object::Struct(fields))?;
+    Ok(Outcome::Done)
 }
 
 /// Replaces the last operand, which refers to a struct, by one of its fields. It panics on nil.
@@ -136,9 +123,22 @@ pub fn get_field(state: &mut State, acting: Acting, field: u32) -> Result<Outcom
     ensures ok { IfOk result (λ outcome. Fits outcome (λ a. gets_field a field state.old) acting.goroutine.0 acting.line state.old state.new) }
     ensures err { OnErr result (state.new ≡ state.old) }
 {
-    match last_operand(state, acting.goroutine) {
-        Some(object) => get_field_of(state, acting, object, field),
-        None => Ok(Outcome::Stuck),
+    let Some(value) = last_operand(state, acting.goroutine) else {
+        return Ok(Outcome::Stuck);
+    };
+    match reference_in(value) {
+        Reference::To(object) => {
+            let Some(fields) = struct_at(state, object) else {
+                return Ok(Outcome::Stuck);
+            };
+            let Some(value) = fields.as_slice().get(field as usize).copied() else {
+                return Ok(Outcome::Stuck);
+            };
+            proceed_with(state, acting, acting.after, 1, Given::One(value))?;
+            Ok(Outcome::Done)
+        }
+        Reference::Nil => Ok(Outcome::Panic(PanicKind::NilPointer)),
+        Reference::Misfit => Ok(Outcome::Stuck),
     }
 }
 
@@ -163,18 +163,15 @@ fn has_field(state: &State, object: ObjectId, field: u32) -> bool
     }
 }
 
-// Sets the field at a place of the struct that a value refers to.
-fn set_field_of(
-    state: &mut State,
-    acting: Acting,
-    object: Value,
-    field: u32,
-    value: Value,
-) -> Result<Outcome, Memory>
+/// Stores the last operand in a field of the struct that the operand before it refers to. It panics on nil.
+pub fn set_field(state: &mut State, acting: Acting, field: u32) -> Result<Outcome, Memory>
     requires { Stands acting.goroutine.0 acting.after state.old }
-    ensures ok { IfOk result (λ outcome. Fits outcome (λ a. at_reference a (λ o. at_struct (field_set a field value (drop 2 a.frame.operands) o) (find o state.old.objects)) object) acting.goroutine.0 acting.line state.old state.new) }
+    ensures ok { IfOk result (λ outcome. Fits outcome (λ a. sets_field a field state.old) acting.goroutine.0 acting.line state.old state.new) }
     ensures err { OnErr result (state.new ≡ state.old) }
 {
+    let Some((object, value)) = last_operands(state, acting.goroutine) else {
+        return Ok(Outcome::Stuck);
+    };
     match reference_in(object) {
         Reference::To(object) => {
             if !has_field(state, object, field) {
@@ -186,18 +183,6 @@ fn set_field_of(
         }
         Reference::Nil => Ok(Outcome::Panic(PanicKind::NilPointer)),
         Reference::Misfit => Ok(Outcome::Stuck),
-    }
-}
-
-/// Stores the last operand in a field of the struct that the operand before it refers to. It panics on nil.
-pub fn set_field(state: &mut State, acting: Acting, field: u32) -> Result<Outcome, Memory>
-    requires { Stands acting.goroutine.0 acting.after state.old }
-    ensures ok { IfOk result (λ outcome. Fits outcome (λ a. sets_field a field state.old) acting.goroutine.0 acting.line state.old state.new) }
-    ensures err { OnErr result (state.new ≡ state.old) }
-{
-    match last_operands(state, acting.goroutine) {
-        Some((object, value)) => set_field_of(state, acting, object, field, value),
-        None => Ok(Outcome::Stuck),
     }
 }
 
@@ -290,17 +275,19 @@ fn element_at(elements: &[Value], index: i64) -> Option<Value>
     }
 }
 
-// Pushes the element at an index of the slice that a value refers to.
-fn get_element_of(
-    state: &mut State,
-    acting: Acting,
-    slice: Value,
-    index: i64,
-) -> Result<Outcome, Memory>
+/// Replaces the last two operands, a slice and an index, by the element there. It panics if the index is
+/// out of range. Nil has no elements.
+pub fn get_element(state: &mut State, acting: Acting) -> Result<Outcome, Memory>
     requires { Stands acting.goroutine.0 acting.after state.old }
-    ensures ok { IfOk result (λ outcome. Fits outcome (λ a. at_reference_or (panics a (PanicKind.Index index 0)) (λ o. at_slice (λ xs. within a index (length xs) (λ v. goes a (v ∷ drop 2 a.frame.operands)) (element xs index)) (find o state.old.objects)) slice) acting.goroutine.0 acting.line state.old state.new) }
+    ensures ok { IfOk result (λ outcome. Fits outcome (λ a. gets_element a state.old) acting.goroutine.0 acting.line state.old state.new) }
     ensures err { OnErr result (state.new ≡ state.old) }
 {
+    let Some((slice, index)) = last_operands(state, acting.goroutine) else {
+        return Ok(Outcome::Stuck);
+    };
+    let Some(index) = int_in(index) else {
+        return Ok(Outcome::Stuck);
+    };
     match reference_in(slice) {
         Reference::To(object) => {
             let Some(elements) = slice_at(state, object) else {
@@ -320,22 +307,6 @@ fn get_element_of(
             Ok(Outcome::Panic(PanicKind::Index { at, length }))
         }
         Reference::Misfit => Ok(Outcome::Stuck),
-    }
-}
-
-/// Replaces the last two operands, a slice and an index, by the element there. It panics if the index is
-/// out of range. Nil has no elements.
-pub fn get_element(state: &mut State, acting: Acting) -> Result<Outcome, Memory>
-    requires { Stands acting.goroutine.0 acting.after state.old }
-    ensures ok { IfOk result (λ outcome. Fits outcome (λ a. gets_element a state.old) acting.goroutine.0 acting.line state.old state.new) }
-    ensures err { OnErr result (state.new ≡ state.old) }
-{
-    let Some((slice, index)) = last_operands(state, acting.goroutine) else {
-        return Ok(Outcome::Stuck);
-    };
-    match int_in(index) {
-        Some(index) => get_element_of(state, acting, slice, index),
-        None => Ok(Outcome::Stuck),
     }
 }
 
@@ -375,28 +346,6 @@ fn set_element_at(
     Ok(Outcome::Done)
 }
 
-// Sets the element at an index of the slice that a value refers to.
-fn set_element_of(
-    state: &mut State,
-    acting: Acting,
-    slice: Value,
-    index: i64,
-    value: Value,
-) -> Result<Outcome, Memory>
-    requires { Stands acting.goroutine.0 acting.after state.old }
-    ensures ok { IfOk result (λ outcome. Fits outcome (λ a. at_reference_or (panics a (PanicKind.Index index 0)) (λ o. at_slice (element_set a index value (drop 3 a.frame.operands) o) (find o state.old.objects)) slice) acting.goroutine.0 acting.line state.old state.new) }
-    ensures err { OnErr result (state.new ≡ state.old) }
-{
-    match reference_in(slice) {
-        Reference::To(object) => set_element_at(state, acting, object, index, value),
-        Reference::Nil => {
-            let (at, length) = (index, 0);
-            Ok(Outcome::Panic(PanicKind::Index { at, length }))
-        }
-        Reference::Misfit => Ok(Outcome::Stuck),
-    }
-}
-
 /// Stores the last operand in a slice. The slice and the index are the two operands before it. It panics if
 /// the index is out of range. Nil has no elements.
 pub fn set_element(state: &mut State, acting: Acting) -> Result<Outcome, Memory>
@@ -407,9 +356,16 @@ pub fn set_element(state: &mut State, acting: Acting) -> Result<Outcome, Memory>
     let Some((slice, index, value)) = last_three_operands(state, acting.goroutine) else {
         return Ok(Outcome::Stuck);
     };
-    match int_in(index) {
-        Some(index) => set_element_of(state, acting, slice, index, value),
-        None => Ok(Outcome::Stuck),
+    let Some(index) = int_in(index) else {
+        return Ok(Outcome::Stuck);
+    };
+    match reference_in(slice) {
+        Reference::To(object) => set_element_at(state, acting, object, index, value),
+        Reference::Nil => {
+            let (at, length) = (index, 0);
+            Ok(Outcome::Panic(PanicKind::Index { at, length }))
+        }
+        Reference::Misfit => Ok(Outcome::Stuck),
     }
 }
 
@@ -454,12 +410,15 @@ pub fn measure(state: &mut State, acting: Acting) -> Result<Outcome, Memory>
     Ok(Outcome::Done)
 }
 
-// Pushes the mutex of the condition that a value refers to.
-fn get_mutex_of(state: &mut State, acting: Acting, condition: Value) -> Result<Outcome, Memory>
+/// Replaces the last operand, which refers to a condition, by its mutex. It panics on nil.
+pub fn get_mutex(state: &mut State, acting: Acting) -> Result<Outcome, Memory>
     requires { Stands acting.goroutine.0 acting.after state.old }
-    ensures ok { IfOk result (λ outcome. Fits outcome (λ a. at_reference a (λ o. at_condition (λ m. goes a (m ∷ drop 1 a.frame.operands)) (find o state.old.objects)) condition) acting.goroutine.0 acting.line state.old state.new) }
+    ensures ok { IfOk result (λ outcome. Fits outcome (λ a. gets_mutex a state.old) acting.goroutine.0 acting.line state.old state.new) }
     ensures err { OnErr result (state.new ≡ state.old) }
 {
+    let Some(condition) = last_operand(state, acting.goroutine) else {
+        return Ok(Outcome::Stuck);
+    };
     match reference_in(condition) {
         Reference::To(object) => match condition_at(state, object) {
             Some(mutex) => {
@@ -470,17 +429,5 @@ fn get_mutex_of(state: &mut State, acting: Acting, condition: Value) -> Result<O
         },
         Reference::Nil => Ok(Outcome::Panic(PanicKind::NilPointer)),
         Reference::Misfit => Ok(Outcome::Stuck),
-    }
-}
-
-/// Replaces the last operand, which refers to a condition, by its mutex. It panics on nil.
-pub fn get_mutex(state: &mut State, acting: Acting) -> Result<Outcome, Memory>
-    requires { Stands acting.goroutine.0 acting.after state.old }
-    ensures ok { IfOk result (λ outcome. Fits outcome (λ a. gets_mutex a state.old) acting.goroutine.0 acting.line state.old state.new) }
-    ensures err { OnErr result (state.new ≡ state.old) }
-{
-    match last_operand(state, acting.goroutine) {
-        Some(condition) => get_mutex_of(state, acting, condition),
-        None => Ok(Outcome::Stuck),
     }
 }

@@ -182,9 +182,9 @@ fn drop_last(frame: &mut Frame) -> Within
     requires place { frame.old.at + 1 < 2 ^ 32 }
     ensures { HasGone true result drops (frame_view frame.old) (frame_view frame.new) }
 {
-    if frame.operands.is_empty() {
+    let Some(_) = last(frame) else {
         return Within::Stuck;
-    }
+    };
     let after = frame.at + 1;
     go_to(frame, after, 1);
     Within::Done
@@ -298,15 +298,6 @@ fn equate(frame: &mut Frame) -> Within
     Within::Done
 }
 
-// Goes on at the target.
-#[inline(always)]
-fn jump(frame: &mut Frame, target: u32) -> Within
-    ensures { HasGone true result (λ a. jumps a target a.frame.operands) (frame_view frame.old) (frame_view frame.new) }
-{
-    go_to(frame, target, 0);
-    Within::Done
-}
-
 // Goes on at the target if the last operand is false.
 #[inline(always)]
 fn jump_unless(frame: &mut Frame, target: u32) -> Within
@@ -355,7 +346,10 @@ pub(crate) fn perform_within(
         Instr::Eq => Ok(equate(frame)),
         Instr::Less => Ok(compare(frame, Comparison::Less)),
         Instr::AtMost => Ok(compare(frame, Comparison::AtMost)),
-        Instr::Jump(target) => Ok(jump(frame, *target)),
+        Instr::Jump(target) => {
+            go_to(frame, *target, 0);
+            Ok(Within::Done)
+        }
         Instr::JumpIfNot(target) => Ok(jump_unless(frame, *target)),
         _ => Ok(Within::Beyond),
     }

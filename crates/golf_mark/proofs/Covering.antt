@@ -1,15 +1,15 @@
 -- What each place that was claimed comes to.
 -- For: `IsCovered` and `KnowsWon`, specs/Scanning.antt
 -- By: cases of which list a place is in; no induction
-use Rattle.std.proofs.Common.{◌≡◌, ℕ, ◌⊎◌, inl, inr, List, [], ◌∷◌, ◌++◌, sym, subst}
+use Rattle.std.proofs.Common.{◌≡◌, ℕ, ◌⊎◌, inl, inr, List, [], ◌∷◌, ◌++◌, refl, sym, subst}
 use Rattle.golf_theory.specs.Membership.{In}
-use Rattle.golf_theory.proofs.Lists.{In-left, In-right, In-cases}
+use Rattle.golf_theory.proofs.Lists.{In-left, In-right, In-cases, In-push}
 use Rattle.golf_base.specs.Roomy.{Roomy}
 use Rattle.golf_marks.specs.declared.marks.Marks.{Marks}
 use Rattle.golf_marks.specs.Seats.{graph_in, claimed, known}
 use Rattle.golf_mark.specs.declared.scanner.Scanner.{Scanner}
 use Rattle.golf_mark.specs.Scanning.{IsCovered, KnowsWon, Wins, with_won}
-use Rattle.golf_mark.specs.Working.{IsScanned}
+use Rattle.golf_mark.specs.Working.{IsScanned, IsTaken}
 
 -- what it wins it knows
 pub own_wins : (marks : Marks) (a b : Scanner) → Wins marks a b → KnowsWon marks a → KnowsWon marks b
@@ -29,6 +29,21 @@ last_or place all rest is p h = elim (In-cases p rest (place ∷ []) (subst (λ 
   | inl i ↦ inr i
   | inr i ↦ elim i [ inl e ↦ inl e | inr none ↦ absurd none ]
 ]
+
+-- the last place, or the first one, is taken out
+pub taken_last : (place : ℕ) (all rest : List ℕ) → all ≡ rest ++ place ∷ [] → IsTaken place all rest
+taken_last place all rest is = record {
+  there = subst (λ (l : List ℕ). In place l) (sym is) (In-push place rest);
+  rest = last_or place all rest is;
+  part = λ p h. subst (λ (l : List ℕ). In p l) (sym is) (In-left p rest (place ∷ []) h);
+}
+
+pub taken_first : (place : ℕ) (all rest : List ℕ) → all ≡ place ∷ rest → IsTaken place all rest
+taken_first place all rest is = record {
+  there = subst (λ (l : List ℕ). In place l) (sym is) (inl refl);
+  rest = λ p h. subst (λ (l : List ℕ). In p l) is h;
+  part = λ p h. subst (λ (l : List ℕ). In p l) (sym is) (inr h);
+}
 
 module _ (Elsewhere : ℕ → Type 0) where
   -- what it wins is in its own list

@@ -6,7 +6,6 @@ use Rattle.std.proofs.Common.{refl, sym, ap, ◌∙◌, subst, inl, inr, arith}
 use Rattle.std.proofs.lemmas.Bool.{cases_eq}
 use Rattle.std.proofs.lemmas.List.{length_push}
 use Rattle.golf_theory.specs.Membership.{In}
-use Rattle.golf_theory.proofs.Lists.{In-left}
 use Rattle.golf_base.specs.Roomy.{Roomy}
 use Rattle.golf_marks.specs.declared.marks.Marks.{Marks}
 use Rattle.golf_marks.specs.Flags.{IsSet}
@@ -19,8 +18,8 @@ use Rattle.golf_mark.specs.declared.marker.Marker.{Marker}
 use Rattle.golf_mark.specs.declared.scanner.Scanner.{Scanner}
 use Rattle.golf_mark.specs.Turning.{IsMarkerOf, Keeps, Attends, Runs, EachRuns, is_one}
 use Rattle.golf_mark.specs.Scanning.{IsCovered, Wins, with_won}
-use Rattle.golf_mark.specs.Working.{IsScanned}
-use Rattle.golf_mark.proofs.Covering.{own_wins, own_less, covered_same, last_or, covered_scan, covered_share}
+use Rattle.golf_mark.specs.Working.{IsScanned, IsTaken}
+use Rattle.golf_mark.proofs.Covering.{own_wins, own_less, covered_same, covered_scan, covered_share}
 
 pub Keeps-trans : (a b c : Marker) → Keeps a b → Keeps b c → Keeps a c
 Keeps-trans a b c f g = record {
@@ -121,21 +120,21 @@ Runs-idle marks pool a won hand fits items spare same =
     (record { known = λ p h. h; parts = refl; number = same.number })
     same.took refl
 
--- the last place of its own list is scanned
+-- a place of its own list is scanned
 pub Runs-own : (marks : Marks) (pool : GreyPool) (place : ℕ) (a : Marker) (won : Roomy ℕ) (s : Scanner)
-    → IsMarkerOf marks pool a → a.scanner.won.items ≡ won.items ++ place ∷ []
+    → IsMarkerOf marks pool a → IsTaken place a.scanner.won.items won.items
     → Wins marks (with_won a.scanner won) s → IsScanned (graph_in marks) (known s.seat) place
     → Runs marks pool a (record a { scanner = s })
-Runs-own marks pool place a won s fits items wins scanned =
+Runs-own marks pool place a won s fits taken wins scanned =
     let rest : Scanner = with_won a.scanner won in
     Runs-still marks pool a (record a { scanner = s })
     (record {
       scanner = wins.fits;
       own = own_wins marks rest s wins (own_less marks a.scanner rest (λ p h. h)
-          (λ p h. subst (λ (l : List ℕ). In p l) (sym items) (In-left p won.items (place ∷ []) h)) fits.own);
+          taken.part fits.own);
       hand = fits.hand;
-      covered = covered_scan (λ p. In p (pushed a.hand)) marks place a.scanner s won
-          (last_or place a.scanner.won.items won.items items) wins scanned fits.covered;
+      covered = covered_scan (λ p. In p (pushed a.hand)) marks place a.scanner s won taken.rest wins scanned
+          fits.covered;
       budget = fits.budget;
       deferred = fits.deferred;
       places = fits.places;

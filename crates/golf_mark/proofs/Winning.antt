@@ -1,17 +1,19 @@
 -- One claim after another.
 -- For: `Wins`, specs/Scanning.antt; `claim`, src/scanner.rt
--- By: cases of whether the claim is won; no induction
+-- By: one clause after the other; no induction
 use Rattle.std.proofs.Common.{◌≡◌, ℕ, ◌+◌, ◌<◌, ◌≤◌, inl, inr, List, [], ◌∷◌, ◌++◌, length, sym, ap, ◌∙◌, subst}
-use Rattle.std.proofs.Common.{append_assoc, append-nil, arith}
-use Rattle.std.proofs.lemmas.List.{length_push}
+use Rattle.std.proofs.Common.{refl, append_assoc, append-nil, arith}
+use Rattle.std.proofs.lemmas.List.{length-append}
 use Rattle.golf_theory.specs.Membership.{In}
 use Rattle.golf_theory.proofs.Lists.{In-left, In-right, In-cases}
+use Rattle.golf_theory.proofs.Derivations.{Follows-grows}
+use Rattle.golf_model.specs.Graph.{Justifies}
 use Rattle.golf_marks.specs.declared.marks.Marks.{Marks}
 use Rattle.golf_marks.specs.declared.marks.MarkSeat.{MarkSeat}
 use Rattle.golf_marks.specs.Places.{place_count}
 use Rattle.golf_marks.specs.Seats.{graph_in, claimed, known, IsSeatOf, IsSameSeat}
 use Rattle.golf_mark.specs.declared.scanner.Scanner.{Scanner}
-use Rattle.golf_mark.specs.Scanning.{IsScannerOf, Wins, with_seat}
+use Rattle.golf_mark.specs.Scanning.{AreClaimable, IsScannerOf, Wins, with_seat}
 
 pub Wins-trans : (marks : Marks) (a b c : Scanner) → Wins marks a b → Wins marks b c → Wins marks a c
 Wins-trans marks a b c f g = record {
@@ -56,57 +58,49 @@ Wins-looked marks a seat fits same looked = record {
   won = ([], looked.claimed ∙ sym (append-nil (claimed a.seat)), sym (append-nil a.won.items), λ p h. absurd h);
 }
 
--- the seat has claimed the place, and the list of what was won has it at its end
-pub record HasWon (marks : Marks) (a b : Scanner) (place : ℕ) : Type 0 where
+-- nothing is claimed
+pub Wins-none : (marks : Marks) (a : Scanner) → IsScannerOf marks a → Wins marks a a
+Wins-none marks a fits = Wins-looked marks a a.seat fits (record { table = refl; graph = refl; parts = refl })
+    (record { claimed = refl; known = λ p h. h })
+
+-- the seat has claimed these of the places, and the list of what was won has them at its end
+pub record HasWon (marks : Marks) (a b : Scanner) (places more : List ℕ) : Type 0 where
   pub same : IsSameSeat a.seat b.seat
+  pub part : (p : ℕ) → In p more → In p places
   pub bounded : length (claimed b.seat) ≤ place_count (graph_in marks)
-  pub claimed : claimed b.seat ≡ claimed a.seat ++ place ∷ []
-  pub known : known b.seat ≡ known a.seat ++ place ∷ []
-  pub items : b.won.items ≡ a.won.items ++ place ∷ []
-  pub spare : b.won.spare + 1 ≡ a.won.spare
+  pub claimed : claimed b.seat ≡ claimed a.seat ++ more
+  pub known : known b.seat ≡ known a.seat ++ places
+  pub items : b.won.items ≡ a.won.items ++ more
+  pub spare : b.won.spare + length more ≡ a.won.spare
 
 -- the claim is won
-pub Wins-won : (marks : Marks) (a b : Scanner) (place : ℕ) → place < place_count (graph_in marks) → IsScannerOf marks a
-    → HasWon marks a b place → Wins marks a b
-Wins-won marks a b place low fits has = record {
+pub Wins-won : (marks : Marks) (a b : Scanner) (places more : List ℕ)
+    → ((p : ℕ) → In p places → p < place_count (graph_in marks)) → IsScannerOf marks a → HasWon marks a b places more
+    → Wins marks a b
+Wins-won marks a b places more low fits has = record {
   fits = record {
     seat = same_seat marks a b fits has.same;
     bounded = has.bounded;
-    room = omega (arith, fits.room, has.spare, ap length has.claimed, length_push (claimed a.seat) place);
+    room = omega (arith, fits.room, has.spare, ap length has.claimed, length-append (claimed a.seat) more);
   };
-  known = keeps_known a.seat b.seat place has.known;
+  known = λ p h. subst (λ (l : List ℕ). In p l) (sym has.known) (In-left p (known a.seat) places h);
   parts = has.same.parts;
   won = (
-    place ∷ [],
+    more,
     has.claimed,
     has.items,
-    λ p h. elim h [
-      | inl e ↦ (
-        omega (arith, e, low),
-        subst (λ (l : List ℕ). In p l) (sym has.known)
-            (In-right p (known a.seat) (place ∷ []) (inl e)),
-      )
-      | inr none ↦ absurd none
-    ],
+    λ p h. (
+      low p (has.part p h),
+      subst (λ (l : List ℕ). In p l) (sym has.known) (In-right p (known a.seat) places (has.part p h)),
+    ),
   );
 }
 
--- the claim is lost
-pub Wins-lost : (marks : Marks) (a b : Scanner) (place : ℕ) → IsScannerOf marks a → IsSameSeat a.seat b.seat
-    → claimed b.seat ≡ claimed a.seat → known b.seat ≡ known a.seat ++ place ∷ []
-    → b.won ≡ a.won → Wins marks a b
-Wins-lost marks a b place fits same claims knows won = record {
-  fits = record {
-    seat = same_seat marks a b fits same;
-    bounded = omega (arith, fits.bounded, ap length claims);
-    room = omega (arith, fits.room, ap length claims, ap (λ r. r.spare) won);
-  };
-  known = keeps_known a.seat b.seat place knows;
-  parts = same.parts;
-  won = (
-    [],
-    claims ∙ sym (append-nil (claimed a.seat)),
-    ap (λ r. r.items) won ∙ sym (append-nil a.won.items),
-    λ p h. absurd h,
-  );
-}
+-- what could be claimed before can be claimed still
+pub claimable_wins : (marks : Marks) (a b : Scanner) (places : List ℕ) → Wins marks a b → AreClaimable marks a places
+    → AreClaimable marks b places
+claimable_wins marks a b places wins can p h = (
+  (can p h).0,
+  Follows-grows (λ q. In q (graph_in marks).roots) (Justifies (graph_in marks)) (known a.seat) (known b.seat) p
+      wins.known (can p h).1,
+)

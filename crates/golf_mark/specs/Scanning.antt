@@ -4,7 +4,7 @@ use Rattle.golf_theory.specs.Membership.{In}
 use Rattle.golf_base.specs.Roomy.{Roomy}
 use Rattle.golf_marks.specs.declared.marks.Marks.{Marks}
 use Rattle.golf_marks.specs.declared.marks.MarkSeat.{MarkSeat}
-use Rattle.golf_marks.specs.Places.{place_count}
+use Rattle.golf_marks.specs.Places.{place_count, IsJustified}
 use Rattle.golf_marks.specs.Seats.{graph_in, claimed, known, parts, IsSeatOf}
 use Rattle.golf_mark.specs.declared.scanner.Scanner.{Scanner}
 use Rattle.golf_mark.specs.Working.{IsScanned}
@@ -39,3 +39,8 @@ pub record Wins (marks : Marks) (old new : Scanner) : Type 0 where
       × ((p : ℕ) → In p more → (p < place_count (graph_in marks)) × In p (known new.seat))
   pub known : (p : ℕ) → In p (known old.seat) → In p (known new.seat)
   pub parts : parts new.seat ≡ parts old.seat
+
+-- the places are places of the graph, and a root or a place that the scanner knows justifies each of them
+abbrev pub AreClaimable : Marks → Scanner → List ℕ → Type 0
+AreClaimable marks s places =
+    (p : ℕ) → In p places → (p < place_count (graph_in marks)) × IsJustified (graph_in marks) (known s.seat) p

@@ -1,5 +1,5 @@
 -- A marking under way in one thread.
-use Rattle.std.specs.Prelude.{◌≡◌, ◌+◌, ◌<◌, ◌≤◌, ◌↔◌, ◌++◌, ℕ, List, Bool, not, count_by, length, slice_index_or}
+use Rattle.std.specs.Prelude.{◌≡◌, ◌+◌, ◌<◌, ◌≤◌, ◌↔◌, ◌++◌, ◌⊎◌, ℕ, List, Bool, not, count_by, length, slice_index_or}
 use Rattle.golf_theory.specs.Membership.{In}
 use Rattle.golf_base.specs.Roomy.{Roomy}
 use Rattle.golf_model.specs.declared.graph.GraphParts.{GraphParts}
@@ -33,3 +33,9 @@ pub record IsUnderWay (g : GraphParts) (w : Working) (scanned : ℕ) : Type 0 wh
   pub sound : (p : ℕ) → In p w.order → Least g p
   pub roots : (p : ℕ) → In p g.roots → In p w.order
   pub done : (k : ℕ) → k < scanned → IsScanned g w.order (slice_index_or w.order k 0)
+
+-- one list is the other one without this place
+pub record IsTaken (place : ℕ) (old new : List ℕ) : Type 0 where
+  pub there : In place old
+  pub rest : (p : ℕ) → In p old → (p ≡ place) ⊎ In p new
+  pub part : (p : ℕ) → In p new → In p old

@@ -60,14 +60,14 @@ pub(crate) struct Marker {
     pub(crate) apart: [u64; 16],
 }
 
-// Scans the last place of the marker's own list. Returns false if the list is empty.
+// Scans a place of the marker's own list. Returns false if the list is empty.
 fn scan_own(shared: &Shared, marker: &mut Marker) -> bool
     requires fits { IsMarkerOf shared.now.marks.now shared.now.pool.now marker.old }
     requires graph { graph_in shared.now.marks.now ≡ shared.now.graph.now }
     requires waiters { IsWaiters shared.now.graph.now shared.now.waiters.now }
     ensures { Runs shared.now.marks.now shared.now.pool.now marker.old marker.new }
 {
-    let Some(place) = marker.scanner.won.pop() else {
+    let Some(place) = marker.scanner.won.take() else {
         return false;
     };
     scan(
@@ -107,7 +107,7 @@ fn share(shared: &Shared, marker: &mut Marker, turn: u64)
     requires { IsMarkerOf shared.now.marks.now shared.now.pool.now marker.old }
     ensures { Runs shared.now.marks.now shared.now.pool.now marker.old marker.new }
 {
-    if turn % LOOK_EVERY != 0 || marker.budget == 0 || marker.scanner.won.len() < 2 {
+    if marker.budget == 0 || turn % LOOK_EVERY != 0 || marker.scanner.won.len() < 2 {
         return;
     }
     if shared.pool.len(&mut marker.hand) >= SHARED {

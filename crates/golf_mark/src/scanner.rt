@@ -2,17 +2,18 @@
 //!
 //! A claim that sets the bit wins the place. Only its winner scans the place, or shares it.
 
-ghost use Rattle.std.specs.Prelude.{◌^◌, ◌≡◌, ◌+◌, ◌<◌, ℕ};
+ghost use Rattle.std.specs.Prelude.{◌^◌, ◌/◌, ◌≡◌, ◌+◌, ◌<◌, ◌⊎◌, ℕ, length};
 ghost use Rattle.golf_theory.specs.Membership.{In, Every};
+ghost use Rattle.golf_marks.specs.Batches.{batched};
 ghost use Rattle.golf_marks.specs.Places.{place_count, IsJustified};
 ghost use Rattle.golf_marks.specs.Seats.{graph_in, known};
-ghost use Rattle.golf_mark.specs.Scanning.{IsScannerOf, Wins};
+ghost use Rattle.golf_mark.specs.Scanning.{AreClaimable, IsScannerOf, Wins};
 ghost use Rattle.golf_mark.specs.Waiters.{IsWaiters};
 ghost use Rattle.golf_mark.specs.Working.{IsScanned};
 
 use crate::waiters::Waiters;
 use crate::worklist::Worklist;
-use golf_marks::{MarkSeat, Marks};
+use golf_marks::{Batch, MarkSeat, Marks};
 use golf_model::Graph;
 
 /// A seat, and the places that its claims have won and that are neither scanned nor shared.
@@ -22,7 +23,24 @@ pub(crate) struct Scanner {
     pub(crate) won: Worklist,
 }
 
-/// Claims a place. It glances first, since a glance costs less if another marker has marked the place.
+// Claims the places of a batch. It glances first, since a glance costs less if they are marked.
+#[inline(always)]
+fn claim_batch(marks: &Marks, scanner: &mut Scanner, batch: &Batch)
+    requires fits { IsScannerOf marks.now scanner.old }
+    requires some { 0 < length (batched batch.now) }
+    requires claimable { AreClaimable marks.now scanner.old (batched batch.now) }
+    ensures wins { Wins marks.now scanner.old scanner.new }
+    ensures there { (p : ℕ) → In p (batched batch.now) → In p (known scanner.new.seat) }
+{
+    let missing = marks.glance(&mut scanner.seat, batch);
+    if missing.is_empty() {
+        return;
+    }
+    let won = marks.claim(&mut scanner.seat, &missing);
+    scanner.won.push_all(won);
+}
+
+/// Claims a place.
 pub(crate) fn claim(marks: &Marks, scanner: &mut Scanner, place: u32)
     requires fits { IsScannerOf marks.now scanner.old }
     requires place { place < place_count (graph_in marks.now) }
@@ -30,15 +48,29 @@ pub(crate) fn claim(marks: &Marks, scanner: &mut Scanner, place: u32)
     ensures wins { Wins marks.now scanner.old scanner.new }
     ensures there { In place (known scanner.new.seat) }
 {
-    if marks.glance(&mut scanner.seat, place) {
-        return;
-    }
-    if marks.claim(&mut scanner.seat, place) {
-        scanner.won.push(place);
+    claim_batch(marks, scanner, &Batch::of(place));
+}
+
+// Makes a batch ready for a place. If the place is in another word, the batch is claimed, and it is empty
+// afterwards.
+#[inline(always)]
+fn make_ready(marks: &Marks, scanner: &mut Scanner, batch: &mut Batch, place: u32)
+    requires fits { IsScannerOf marks.now scanner.old }
+    requires some { 0 < length (batched batch.old) }
+    requires claimable { AreClaimable marks.now scanner.old (batched batch.old) }
+    ensures wins { Wins marks.now scanner.old scanner.new }
+    ensures word { place / 64 ≡ batch.new.word }
+    ensures part { (p : ℕ) → In p (batched batch.new) → In p (batched batch.old) }
+    ensures there { (p : ℕ) → In p (batched batch.old) → In p (batched batch.new) ⊎ In p (known scanner.new.seat) }
+{
+    if !batch.is_beside(place) {
+        claim_batch(marks, scanner, batch);
+        batch.renew(place);
     }
 }
 
-/// Claims these places.
+/// Claims these places. Those that follow each other in one word are claimed in one step.
+#[inline(always)]
 pub(crate) fn claim_all(marks: &Marks, scanner: &mut Scanner, places: &[u32])
     requires fits { IsScannerOf marks.now scanner.old }
     requires places { Every (λ p. p < place_count (graph_in marks.now)) places.now }
@@ -46,9 +78,15 @@ pub(crate) fn claim_all(marks: &Marks, scanner: &mut Scanner, places: &[u32])
     ensures wins { Wins marks.now scanner.old scanner.new }
     ensures there { (p : ℕ) → In p places.now → In p (known scanner.new.seat) }
 {
-    for place in places {
-        claim(marks, scanner, *place);
+    let Some((first, rest)) = places.split_first() else {
+        return;
+    };
+    let mut batch = Batch::of(*first);
+    for place in rest {
+        make_ready(marks, scanner, &mut batch, *place);
+        batch.insert(*place);
     }
+    claim_batch(marks, scanner, &batch);
 }
 
 // Claims these sleepers of a graph with `nodes` nodes.
@@ -66,6 +104,7 @@ fn awaken(marks: &Marks, scanner: &mut Scanner, nodes: u32, sleepers: &[u32])
 }
 
 /// Claims all places that a known place justifies.
+#[inline(always)]
 pub(crate) fn scan(
     marks: &Marks,
     graph: &Graph,

@@ -1,12 +1,18 @@
 //! The marker's own worklist.
 //!
-//! No other marker sees it. The marker scans places from its end, and shares places from its front.
+//! No other marker sees it. The marker mostly scans places from its end, and shares places from its front.
 
 ghost use Rattle.std.specs.Prelude.{◌≡◌, ◌+◌, ◌<◌, ◌≤◌, ◌∷◌, ◌++◌, [], IfOk, MatchOption, length};
+ghost use Rattle.golf_marks.specs.Batches.{batched};
+ghost use Rattle.golf_mark.specs.Working.{IsTaken};
 
 use golf_base::Memory;
+use golf_marks::Batch;
 use std::alloc::Global;
 use std::marker::Model;
+
+/// From this many places on, `take` takes the first one.
+const MANY: usize = 64;
 
 /// A list of places that grows at its end, and shrinks at its end and at its front.
 ///
@@ -64,6 +70,19 @@ impl Worklist {
         self.places.push_reserved(place);
     }
 
+    /// Adds the places of a batch at the end, in rising order. The list has room for them.
+    #[inline(always)]
+    pub(crate) fn push_all(&mut self, batch: Batch)
+        requires { length (batched batch) ≤ self.old.spare }
+        ensures items { self.new.items ≡ self.old.items ++ batched batch }
+        ensures spare { self.new.spare + length (batched batch) ≡ self.old.spare }
+    {
+        let mut batch = batch;
+        while let Some(place) = batch.pop() {
+            self.push(place);
+        }
+    }
+
     /// Takes the last place, or returns `None`.
     pub(crate) fn pop(&mut self) -> Option<u32>
         ensures items { MatchOption result ((self.old.items ≡ []) × (self.new ≡ self.old)) (λ last. self.old.items ≡ self.new.items ++ last ∷ []) }
@@ -83,6 +102,22 @@ impl Worklist {
         let first = self.places.as_slice().get(self.skipped).copied()?;
         self.skipped += 1;
         Some(first)
+    }
+
+    /// Takes the last place, or the first one if there are many, or returns `None`.
+    ///
+    /// The last place is near the places that were scanned before it. If there are many, the next places are
+    /// known early, and their rows can be fetched side by side.
+    #[inline(always)]
+    pub(crate) fn take(&mut self) -> Option<u32>
+        ensures items { MatchOption result ((self.old.items ≡ []) × (self.new ≡ self.old)) (λ place. IsTaken place self.old.items self.new.items) }
+        ensures spare { self.old.spare ≤ self.new.spare }
+    {
+        if self.len() < MANY {
+            self.pop()
+        } else {
+            self.shift()
+        }
     }
 
     /// Drops all places.

@@ -1,7 +1,7 @@
 -- Each step of the mark words keeps their rule.
--- For: `Holds`, golf_marks/specs/Rule.antt; `put_bit`, `find_bit` and `glance`, src/marks.rt.
+-- For: `Holds`, golf_marks/specs/Rule.antt; `claim`, `find_bit` and `glance`, src/marks.rt.
 -- By: cases of the step; induction over the list of views only for the view that was set.
-use Rattle.std.proofs.Common.{◌≡◌, ◌≢◌, ℕ, zero, suc, ◌+◌, ◌==◌, ◌<◌, ◌≤◌, List, [], ◌∷◌, ◌++◌, length, set, Bool, cond}
+use Rattle.std.proofs.Common.{◌≡◌, ◌≢◌, ℕ, zero, suc, ◌+◌, ◌==◌, ◌^◌, ◌<◌, ◌≤◌, ◌⊎◌, List, [], ◌∷◌, ◌++◌, length, set, Bool, cond}
 use Rattle.std.proofs.Common.{refl, sym, ap, ◌∙◌, subst, arith, ⊎_elim, inl, inr, eq-eqb, ne_eqb}
 use Rattle.std.specs.Prelude.{bit_or, replicate, slice_index}
 use Rattle.std.proofs.lemmas.List.{get_or-replicate, get_or_past, get_or_default}
@@ -19,16 +19,17 @@ use Rattle.golf_theory.specs.Reached.{Follows}
 use Rattle.golf_theory.proofs.Lists.{In-left, In-right, In-cases, Every-from}
 use Rattle.golf_theory.proofs.Derivations.{Follows-grows, Derived-closed}
 use Rattle.golf_theory.proofs.Sums.{total_set, total_at, total_alone}
-use Rattle.golf_theory.proofs.Times.{times-push, times-append, length-counted, sum-bits}
+use Rattle.golf_theory.proofs.Times.{times-append, length-counted, sum-bits}
 use Rattle.golf_model.specs.declared.graph.GraphParts.{GraphParts}
 use Rattle.golf_model.specs.Graph.{Justifies, Least}
 use Rattle.golf_marks.specs.declared.rule.View.{View}
 use Rattle.golf_marks.specs.declared.rule.Plan.{Plan}
-use Rattle.golf_marks.specs.Bits.{word_of, mask_of, bit_in, bit_at, marked_in}
+use Rattle.golf_marks.specs.Bits.{word_of, mask_of, bit_in, bit_at, marked_in, unset_in}
 use Rattle.golf_marks.specs.Places.{place_count, word_count, IsJustified}
 use Rattle.golf_marks.specs.Rule.{view_of, graph_of, Fits, Holds, first_view, Claims, Looks, Glances, ClaimTells}
 use Rattle.golf_marks.specs.Rule.{LookTells, GlanceTells, left_view, right_view, both_views, spent_view}
-use Rattle.golf_marks.proofs.BitLaws.{bit_small, one_bit, with_place, bit_with, no_bit, told_set}
+use Rattle.golf_marks.proofs.BitLaws.{bit_small, one_bit, no_bit, or_bit, unset_bit, gained_bit, with_bits, bits_there}
+use Rattle.golf_marks.proofs.BitLaws.{bits_elsewhere, marked_set, set_marked, marked_times, marked_elsewhere}
 
 -- what is justified by places of the least closed set is in it
 least_justified : (g : GraphParts) (known : List ℕ) (p : ℕ) → ((q : ℕ) → In q known → Least g q) → IsJustified g known p
@@ -140,105 +141,9 @@ module _ (plan : Plan) (s : State (Unit {0}) View) (id : ℕ) (v : View) (i : �
   here : word_of i < length s.words
   here = omega (arith, h.size, in_range)
 
-  claim_known : IsJustified v.graph v.known i → Least (graph_of plan) i
-  claim_known just =
-      let f = h.views id v at in
-      least_justified (graph_of plan) v.known i (λ y c. h.sound y (f.known y c))
-      (subst (λ (g : GraphParts). IsJustified g v.known i) (f.graph live) just)
-
-  fits_more : (claimed : List ℕ) → ((x : ℕ) → In x claimed → In x (v.known ++ i ∷ []))
-      → Fits (graph_of plan) (with_place s.words i) (view_of v.graph v.parts claimed (v.known ++ i ∷ []))
-  fits_more claimed own =
-      let f = h.views id v at in
-      record {
-        idle = λ none. absurd (omega arith);
-        ignorant = λ none. absurd (omega arith);
-        graph = f.graph;
-        own = own;
-        known = λ x c. elim (bit_with s.words i x here) [
-          | inl t ↦ t.1
-          | inr t ↦ t.1 ∙ elim (In-cases x v.known (i ∷ []) c) [
-            | inl k ↦ f.known x k
-            | inr k ↦ elim k [ inl e ↦ absurd (t.0 e) | inr none ↦ absurd none ]
-          ]
-        ];
-      }
-
   -- what was claimed is known still
   own_more : (x : ℕ) → In x v.claimed → In x (v.known ++ i ∷ [])
   own_more x c = In-left x v.known (i ∷ []) ((h.views id v at).own x c)
-
-  own_push : (x : ℕ) → In x (v.claimed ++ i ∷ []) → In x (v.known ++ i ∷ [])
-  own_push x c = elim (In-cases x v.claimed (i ∷ []) c) [ inl k ↦ own_more x k | inr k ↦ In-right x v.known (i ∷ []) k ]
-
-  grows_one : (x : ℕ) → bit_at s.words x ≡ 1 → bit_at (with_place s.words i) x ≡ 1
-  grows_one x e = elim (bit_with s.words i x here) [ inl t ↦ t.1 | inr t ↦ t.1 ∙ e ]
-
-  low_one : (x : ℕ) → bit_at (with_place s.words i) x ≡ 1 → x < place_count (graph_of plan)
-  low_one x e = elim (bit_with s.words i x here) [
-    | inl t ↦ omega (arith, t.0, in_range)
-    | inr t ↦ h.low x
-        (sym t.1 ∙ e)
-  ]
-
-  sound_one : Least (graph_of plan) i → (x : ℕ) → bit_at (with_place s.words i) x ≡ 1 → Least (graph_of plan) x
-  sound_one just x e = elim (bit_with s.words i x here) [
-    | inl t ↦ subst (Least (graph_of plan)) (sym t.0) just
-    | inr t ↦
-        h.sound x (sym t.1 ∙ e)
-  ]
-
-  same_length : length (with_place s.words i) ≡ length s.words
-  same_length = length-set s.words (word_of i) (bit_or found (mask_of i))
-
-  -- the claim found the bit clear
-  claim_won : IsJustified v.graph v.known i → bit_in i found ≡ 0
-      → Holds plan (WithWords s (with_place s.words i) id
-      (view_of v.graph v.parts (v.claimed ++ i ∷ []) (v.known ++ i ∷ [])))
-  claim_won just zero_is = stepped plan s id v (view_of v.graph v.parts (v.claimed ++ i ∷ []) (v.known ++ i ∷ []))
-      (with_place s.words i) h at (record {
-        long = same_length;
-        parts = refl;
-        claims = λ x. elim (bit_with s.words i x here) [
-          | inl t ↦
-              let one = ap (λ (b : Bool). let n : ℕ = cond b 1 0 in n) (eq-eqb i x (sym t.0)) in
-              let z : bit_at s.words x ≡ 0 = ap (λ (k : ℕ). bit_at s.words k) t.0 ∙ zero_is in
-              omega (arith, times-push x v.claimed i, one, z, t.1)
-          | inr t ↦
-              let none = ap (λ (b : Bool). let n : ℕ = cond b 1 0 in n) (ne_eqb i x (λ e. t.0 (sym e))) in
-              omega (arith, times-push x v.claimed i, none, t.1)
-        ];
-        grows = grows_one;
-        fits = fits_more (v.claimed ++ i ∷ []) own_push;
-        low = low_one;
-        sound = sound_one (claim_known just);
-      })
-
-  -- the claim found it set
-  claim_lost : bit_in i found ≡ 1 → Holds plan
-      (WithWords s (with_place s.words i) id (view_of v.graph v.parts v.claimed (v.known ++ i ∷ [])))
-  claim_lost one_is = stepped plan s id v (view_of v.graph v.parts v.claimed (v.known ++ i ∷ []))
-      (with_place s.words i) h at (record {
-        long = same_length;
-        parts = refl;
-        claims = λ x. elim (bit_with s.words i x here) [
-          | inl t ↦ let z : bit_at s.words x ≡ 1 = ap (λ (k : ℕ). bit_at s.words k) t.0
-              ∙ one_is in omega (arith, z, t.1)
-          | inr t ↦ omega (arith, t.1)
-        ];
-        grows = grows_one;
-        fits = fits_more v.claimed own_more;
-        low = low_one;
-        sound = sound_one (h.sound i one_is);
-      })
-
-  bounded_after : (words : List ℕ) (w : View) → Holds plan (WithWords s words id w)
-      → length w.claimed ≤ place_count v.graph
-  bounded_after words w k = omega (
-    arith,
-    claimed_bound plan (WithWords s words id w) id w k (still_there s.views id v w at),
-    ap place_count same_graph,
-  )
 
   bounded_now : length v.claimed ≤ place_count v.graph
   bounded_now = omega (arith, claimed_bound plan s id v h at, ap place_count same_graph)
@@ -247,40 +152,6 @@ module _ (plan : Plan) (s : State (Unit {0}) View) (id : ℕ) (v : View) (i : �
   unclaimed : bit_in i found ≡ 0 → times i v.claimed ≡ 0
   unclaimed zero_is = let b = total_at (λ (u : View). times i u.claimed) s.views id v at in omega
       (arith, b, h.claims i, zero_is)
-
-  set_now : bit_in i found ≢ 0 → bit_in i found ≡ 1
-  set_now apart = let b = bit_small i found in omega (arith, b, apart)
-
-  claims_at : IsJustified v.graph v.known i → (w : View) × Holds plan (WithWords s (with_place s.words i) id w)
-      × Claims i v (bit_in i found) w
-  claims_at just =
-      let known : List ℕ = v.known ++ i ∷ [] in
-      elim (cases_eq (bit_in i found) 0) [
-        | inl clear ↦
-            let won : View = view_of v.graph v.parts (v.claimed ++ i ∷ []) known in (
-              won,
-              claim_won just clear,
-              record {
-                small = bit_small i found;
-                view = ap (λ (b : Bool). view_of v.graph v.parts (cond b (v.claimed ++ i ∷ []) v.claimed) known)
-                    (sym (eq-eqb (bit_in i found) 0 clear));
-                once = unclaimed;
-                bounded = bounded_after (with_place s.words i) won (claim_won just clear);
-              },
-            )
-        | inr apart ↦
-            let lost : View = view_of v.graph v.parts v.claimed known in (
-              lost,
-              claim_lost (set_now apart),
-              record {
-                small = bit_small i found;
-                view = ap (λ (b : Bool). view_of v.graph v.parts (cond b (v.claimed ++ i ∷ []) v.claimed) known)
-                    (sym (ne_eqb (bit_in i found) 0 apart));
-                once = unclaimed;
-                bounded = bounded_after (with_place s.words i) lost (claim_lost (set_now apart));
-              },
-            )
-      ]
 
   words_same : set s.words (word_of i) found ≡ s.words
   words_same = set_again s.words (word_of i) found
@@ -327,22 +198,164 @@ module _ (plan : Plan) (s : State (Unit {0}) View) (id : ℕ) (v : View) (i : �
     )
   ]
 
-pub claims : (plan : Plan) (slots id : ℕ) (v : View) (c : List (ℕ × Unit {0})) (i : ℕ) → 0 < v.parts
-    → i < place_count v.graph → IsJustified v.graph v.known i
-    → Allows (Holds plan) slots id (v, c) (word_of i) (λ n. bit_or n (mask_of i))
-    (ClaimTells (step slots (word_of i) (mask_of i) 0 mathlib.Core.Option.none) (v, c))
-claims plan slots id v c i live low just s h _ at small =
-    let r = claims_at plan s id v i h at live low just in
-    let n : ℕ = slice_index s.words (word_of i) in (
-      r.0,
+-- a claim of the places in the mask m of the word w
+module _ (plan : Plan) (s : State (Unit {0}) View) (id : ℕ) (v : View) (w m : ℕ) (h : Holds plan s)
+    (at : get_elem? s.views id ≡ some v) (live : 0 < v.parts) (within : w < length s.words)
+    (small : slice_index s.words w < 2 ^ 64) (low : (p : ℕ) → In p (marked_in w m) → p < place_count v.graph)
+    (just : (p : ℕ) → In p (marked_in w m) → IsJustified v.graph v.known p) where
+  abbrev before : ℕ
+  before = slice_index s.words w
+
+  abbrev after : List ℕ
+  after = with_bits s.words w m
+
+  abbrev fresh : List ℕ
+  fresh = marked_in w (unset_in m before)
+
+  abbrev claimer : View
+  claimer = view_of v.graph v.parts (v.claimed ++ fresh) (v.known ++ marked_in w m)
+
+  own_graph : v.graph ≡ graph_of plan
+  own_graph = (h.views id v at).graph live
+
+  bit_before : (x : ℕ) → word_of x ≡ w → bit_at s.words x ≡ bit_in x before
+  bit_before x e = ap (λ (k : ℕ). bit_in x (slice_index s.words k)) e
+
+  claim_grows : (x : ℕ) → bit_at s.words x ≡ 1 → bit_at after x ≡ 1
+  claim_grows x one = elim (cases_eq (word_of x) w) [
+    | inl e ↦ omega (
+      arith,
+      bits_there s.words w m x within e,
+      or_bit x before m,
+      bit_before x e,
+      one,
+      bit_small x m,
+    )
+    | inr ne ↦ bits_elsewhere s.words w m x ne ∙ one
+  ]
+
+  claim_sets : (x : ℕ) → In x (marked_in w m) → bit_at after x ≡ 1
+  claim_sets x k = let t = marked_set w m x k in omega (
+    arith,
+    bits_there s.words w m x within t.0,
+    or_bit x before m,
+    t.1,
+    bit_small x before,
+  )
+
+  -- a bit that is set after it was set before, or is in the mask
+  set_by : (x : ℕ) → bit_at after x ≡ 1 → (bit_at s.words x ≡ 1) ⊎ In x (marked_in w m)
+  set_by x one = elim (cases_eq (word_of x) w) [
+    | inl e ↦ elim (cases_eq (bit_in x m) 1) [
+      | inl mine ↦ inr (set_marked w m x e mine)
+      | inr other ↦ inl (omega (
+        arith,
+        bits_there s.words w m x within e,
+        or_bit x before m,
+        bit_before x e,
+        bit_small x m,
+        one,
+        other,
+      ))
+    ]
+    | inr ne ↦ inl (sym (bits_elsewhere s.words w m x ne) ∙ one)
+  ]
+
+  fresh_part : (x : ℕ) → In x fresh → In x (marked_in w m)
+  fresh_part x k =
+      let t = marked_set w (unset_in m before) x k in
+      set_marked w m x t.0 (omega (arith, unset_bit x m before small, t.1, bit_small x m))
+
+  claim_counts : (x : ℕ) → times x (v.claimed ++ fresh) + bit_at s.words x ≡ times x v.claimed + bit_at after x
+  claim_counts x = elim (cases_eq (word_of x) w) [
+    | inl e ↦ omega (
+      arith,
+      times-append x v.claimed fresh,
+      marked_times w (unset_in m before) x e,
+      gained_bit x m before small,
+      bit_before x e,
+      bits_there s.words w m x within e,
+    )
+    | inr ne ↦ omega (
+      arith,
+      times-append x v.claimed fresh,
+      marked_elsewhere w (unset_in m before) x ne,
+      bits_elsewhere s.words w m x ne,
+    )
+  ]
+
+  claim_fits : Fits (graph_of plan) after claimer
+  claim_fits =
+      let f = h.views id v at in
+      record {
+        idle = λ none. absurd (omega arith);
+        ignorant = λ none. absurd (omega arith);
+        graph = f.graph;
+        own = λ x c. elim (In-cases x v.claimed fresh c) [
+          | inl k ↦ In-left x v.known (marked_in w m) (f.own x k)
+          | inr k ↦ In-right x v.known (marked_in w m) (fresh_part x k)
+        ];
+        known = λ x c. elim (In-cases x v.known (marked_in w m) c) [
+          | inl k ↦ claim_grows x (f.known x k)
+          | inr k ↦ claim_sets x k
+        ];
+      }
+
+  claim_sound : (x : ℕ) → bit_at after x ≡ 1 → Least (graph_of plan) x
+  claim_sound x one = elim (set_by x one) [
+    | inl was ↦ h.sound x was
+    | inr k ↦
+        let f = h.views id v at in
+        least_justified (graph_of plan) v.known x (λ y c. h.sound y (f.known y c))
+        (subst (λ (g : GraphParts). IsJustified g v.known x) own_graph (just x k))
+  ]
+
+  claim_holds : Holds plan (WithWords s after id claimer)
+  claim_holds = stepped plan s id v claimer after h at (record {
+    long = length-set s.words w (bit_or before m);
+    parts = refl;
+    claims = claim_counts;
+    grows = claim_grows;
+    fits = claim_fits;
+    low = λ x one. elim (set_by x one) [
+      | inl was ↦ h.low x was
+      | inr k ↦ omega (arith, low x k, ap place_count own_graph)
+    ];
+    sound = claim_sound;
+  })
+
+  claim_tells : Claims w m v before claimer
+  claim_tells = record {
+    view = refl;
+    once = λ x k.
+        let t = marked_set w (unset_in m before) x k in
+        let b = total_at (λ (u : View). times x u.claimed) s.views id v at in omega (
+          arith,
+          b,
+          h.claims x,
+          bit_before x t.0,
+          unset_bit x m before small,
+          t.1,
+        );
+    bounded = omega (
+      arith,
+      claimed_bound plan (WithWords s after id claimer) id claimer claim_holds (still_there s.views id v claimer at),
+      ap place_count own_graph,
+    );
+  }
+
+pub claims : (plan : Plan) (slots id : ℕ) (v : View) (c : List (ℕ × Unit {0})) (w m : ℕ) → 0 < v.parts
+    → w < word_count v.graph → ((p : ℕ) → In p (marked_in w m) → p < place_count v.graph)
+    → ((p : ℕ) → In p (marked_in w m) → IsJustified v.graph v.known p)
+    → Allows (Holds plan) slots id (v, c) w (λ n. bit_or n m)
+    (ClaimTells (step slots w m 0 mathlib.Core.Option.none) (v, c))
+claims plan slots id v c w m live word low just s h _ at small =
+    let within : w < length s.words = omega (arith, h.size, word, ap word_count ((h.views id v at).graph live)) in (
+      claimer plan s id v w m h at live within small low just,
       keeps,
       tt,
-      r.1,
-      (
-        (λ p word mask. subst (λ (q : ℕ). Claims q v (bit_in q n) r.0)
-            (one_bit i p (sym word) (sym mask)) r.2),
-        refl,
-      ),
+      claim_holds plan s id v w m h at live within small low just,
+      (claim_tells plan s id v w m h at live within small low just, refl),
     )
 
 -- a glance at a word
@@ -367,7 +380,7 @@ glances_at plan s id v i h at live here =
             own = λ x c. In-left x v.known (marked_in i n) (f.own x c);
             known = λ x c. elim (In-cases x v.known (marked_in i n) c) [
               | inl k ↦ f.known x k
-              | inr k ↦ let t = told_set i n 64 x (omega arith) k in bit_of x t.0 ∙ t.1
+              | inr k ↦ let t = marked_set i n x k in bit_of x t.0 ∙ t.1
             ];
           }))),
       record {

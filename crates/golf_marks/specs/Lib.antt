@@ -1,3 +1,4 @@
+pub mod Batches
 pub mod Bits
 pub mod Flags
 pub mod Places

@@ -9,7 +9,7 @@ use Rattle.golf_model.specs.declared.graph.GraphParts.{GraphParts}
 use Rattle.golf_model.specs.Graph.{Least}
 use Rattle.golf_marks.specs.declared.rule.View.{View}
 use Rattle.golf_marks.specs.declared.rule.Plan.{Plan}
-use Rattle.golf_marks.specs.Bits.{word_of, mask_of, bit_in, bit_at, marked_in}
+use Rattle.golf_marks.specs.Bits.{word_of, mask_of, bit_in, bit_at, marked_in, unset_in}
 use Rattle.golf_marks.specs.Places.{place_count, word_count}
 
 abbrev pub view_of : GraphParts → ℕ → List ℕ → List ℕ → View
@@ -41,12 +41,10 @@ pub record Holds (plan : Plan) (s : State (Unit {0}) View) : Type 0 where
 abbrev pub first_view : Plan → View
 first_view plan = view_of (graph_of plan) plan.seats [] []
 
--- what a claim tells that found this bit
-pub record Claims (place : ℕ) (v : View) (bit : ℕ) (w : View) : Type 0 where
-  pub small : bit ≤ 1
-  pub view : w ≡ view_of v.graph v.parts (if bit == 0 then v.claimed ++ place ∷ [] else v.claimed)
-      (v.known ++ place ∷ [])
-  pub once : bit ≡ 0 → times place v.claimed ≡ 0
+-- what a claim of the places in the mask tells that found the word n: it claims those whose bits were not set
+pub record Claims (word mask : ℕ) (v : View) (n : ℕ) (w : View) : Type 0 where
+  pub view : w ≡ view_of v.graph v.parts (v.claimed ++ marked_in word (unset_in mask n)) (v.known ++ marked_in word mask)
+  pub once : (p : ℕ) → In p (marked_in word (unset_in mask n)) → times p v.claimed ≡ 0
   pub bounded : length w.claimed ≤ place_count v.graph
 
 -- what a look tells that found this bit
@@ -57,11 +55,11 @@ pub record Looks (place : ℕ) (v : View) (bit : ℕ) (w : View) : Type 0 where
   pub unclaimed : bit ≡ 0 → times place v.claimed ≡ 0
   pub bounded : length v.claimed ≤ place_count v.graph
 
--- the word and the first operand of a step name its place
+-- a claim names its places by the word and the first operand
 abbrev pub ClaimTells : Step (Unit {0}) → Me (Unit {0}) View → ℕ → Me (Unit {0}) View → Type 0
-ClaimTells step me n now = ((p : ℕ) → word_of p ≡ step.word → mask_of p ≡ step.first → Claims p me.0 (bit_in p n) now.0)
-    × (now.1 ≡ me.1)
+ClaimTells step me n now = Claims step.word step.first me.0 n now.0 × (now.1 ≡ me.1)
 
+-- a look names its place by the word and the first operand
 abbrev pub LookTells : Step (Unit {0}) → Me (Unit {0}) View → ℕ → Me (Unit {0}) View → Type 0
 LookTells step me n now = ((p : ℕ) → word_of p ≡ step.word → mask_of p ≡ step.first → Looks p me.0 (bit_in p n) now.0)
     × (now.1 ≡ me.1)

@@ -10,12 +10,14 @@
 //! Steps take no memory and never wait.
 #![tactic(auto)]
 
+mod batch;
 mod bits;
 mod close;
 mod deal;
 mod marks;
 mod rule;
 
+pub use batch::Batch;
 pub use close::numbers_of;
 pub use marks::{MarkSeat, Marks};
 pub use rule::{Plan, View};

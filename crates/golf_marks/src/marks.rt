@@ -4,11 +4,12 @@
 //! marked.
 
 ghost use Rattle.std.specs.Prelude.{◌^◌, ◌≡◌, ◌<◌, ◌≤◌, ◌+◌, ◌++◌, ◌∷◌, ℕ, [], length, IfOk, IsTrue, if◌then◌else◌};
-ghost use Rattle.std.specs.Prelude.{false};
+ghost use Rattle.std.specs.Prelude.{◌⊎◌, false};
 ghost use Rattle.golf_model.specs.Graph.{node_count, sleeper_count};
 ghost use Rattle.golf_marks.specs.Places.{place_count, word_count};
-ghost use Rattle.golf_marks.specs.Rule.{graph_of, Claims, Looks};
+ghost use Rattle.golf_marks.specs.Rule.{graph_of, Looks};
 
+use crate::batch::Batch;
 use crate::bits::{bit, mask};
 use crate::close::{fill, numbers_of};
 use crate::deal::deal;
@@ -48,6 +49,7 @@ impl Marks {
     ghost use Rattle.golf_theory.specs.Membership.{In, Every};
     ghost use Rattle.golf_theory.specs.Counting.{times};
     ghost use Rattle.golf_model.specs.Graph.{Least};
+    ghost use Rattle.golf_marks.specs.Batches.{batched};
     ghost use Rattle.golf_marks.specs.Flags.{HasMarked};
     ghost use Rattle.golf_marks.specs.Places.{IsJustified};
     ghost use Rattle.golf_marks.specs.Seats.{graph_in, seat_count, claimed, known, parts, claim_count, part_count, IsSeatOf, IsSameSeat, IsNewSeatOf};
@@ -84,23 +86,6 @@ impl Marks {
         Ok((marks, list))
     }
 
-    // Sets the bit of a place, and returns the bit before.
-    fn put_bit(&self, seat: &mut MarkSeat, place: u32) -> u64
-        requires seat { IsSeatOf self.now seat.old }
-        requires place { place < place_count (graph_in self.now) }
-        requires justified { IsJustified (graph_in self.now) (known seat.old) place }
-        ensures table { seat.new.seat.table_id ≡ seat.old.seat.table_id }
-        ensures tells { Claims place seat.old.seat.me.0 result seat.new.seat.me.0 }
-    {
-        let at = place as usize;
-        let own = mask(at);
-        let found = self
-            .table
-            .shared
-            .fetch_or::<Claim>(&mut seat.seat, at / 64, own);
-        bit(found, at)
-    }
-
     // The bit of a place. A step names the place by a mask, and a load has no mask. So this is an exchange
     // that changes nothing.
     fn find_bit(&self, seat: &mut MarkSeat, place: u32) -> u64
@@ -118,19 +103,26 @@ impl Marks {
         bit(found, at)
     }
 
-    /// Marks a place that is a root, or that a known place justifies. Returns true exactly when this step
-    /// set the bit. It is false only if the bit was set before.
-    pub fn claim(&self, seat: &mut MarkSeat, place: u32) -> bool
+    /// Marks the places of a batch, in one step. Each is a root, or a known place justifies it. Returns the
+    /// places whose bits this step set. The others of the batch were marked before.
+    #[inline(always)]
+    pub fn claim(&self, seat: &mut MarkSeat, batch: &Batch) -> Batch
         requires seat { IsSeatOf self.now seat.old }
-        requires place { place < place_count (graph_in self.now) }
-        requires justified { IsJustified (graph_in self.now) (known seat.old) place }
+        requires some { 0 < length (batched batch.now) }
+        requires places { Every (λ p. p < place_count (graph_in self.now)) (batched batch.now) }
+        requires justified { Every (IsJustified (graph_in self.now) (known seat.old)) (batched batch.now) }
         ensures same { IsSameSeat seat.old seat.new }
-        ensures claimed { claimed seat.new ≡ (if result then claimed seat.old ++ place ∷ [] else claimed seat.old) }
-        ensures known { known seat.new ≡ known seat.old ++ place ∷ [] }
-        ensures once { IsTrue result → times place (claimed seat.old) ≡ 0 }
+        ensures part { (p : ℕ) → In p (batched result) → In p (batched batch.now) }
+        ensures claimed { claimed seat.new ≡ claimed seat.old ++ batched result }
+        ensures known { known seat.new ≡ known seat.old ++ batched batch.now }
+        ensures once { (p : ℕ) → In p (batched result) → times p (claimed seat.old) ≡ 0 }
         ensures bounded { length (claimed seat.new) ≤ place_count (graph_in self.now) }
     {
-        self.put_bit(seat, place) == 0
+        let was = self
+            .table
+            .shared
+            .fetch_or::<Claim>(&mut seat.seat, batch.word as usize, batch.bits);
+        batch.without(was)
     }
 
     /// Returns whether a place is marked. It is never false for a place that the seat knows or claimed.
@@ -147,21 +139,26 @@ impl Marks {
         self.find_bit(seat, place) == 1
     }
 
-    /// Returns whether a place is marked. The seat then knows all marked places in the same word. This step
-    /// only loads, whereas `is_marked` and `claim` are steps that write.
-    pub fn glance(&self, seat: &mut MarkSeat, place: u32) -> bool
+    /// Returns the places of a batch that are not marked. The seat then knows all marked places in the same
+    /// word. This step only loads, whereas `is_marked` and `claim` are steps that write.
+    #[inline(always)]
+    pub fn glance(&self, seat: &mut MarkSeat, batch: &Batch) -> Batch
         requires seat { IsSeatOf self.now seat.old }
-        requires place { place < place_count (graph_in self.now) }
+        requires some { 0 < length (batched batch.now) }
+        requires places { Every (λ p. p < place_count (graph_in self.now)) (batched batch.now) }
         ensures same { IsSameSeat seat.old seat.new }
+        ensures part { (p : ℕ) → In p (batched result) → In p (batched batch.now) }
         ensures claimed { claimed seat.new ≡ claimed seat.old }
         ensures kept { (p : ℕ) → In p (known seat.old) → In p (known seat.new) }
-        ensures there { IsTrue result → In place (known seat.new) }
-        ensures knew { In place (known seat.old) → IsTrue result }
-        ensures unclaimed { result ≡ false → times place (claimed seat.old) ≡ 0 }
+        ensures there { (p : ℕ) → In p (batched batch.now) → In p (batched result) ⊎ In p (known seat.new) }
+        ensures knew { (p : ℕ) → In p (batched result) → In p (known seat.old) → ⊥ }
+        ensures unclaimed { (p : ℕ) → In p (batched result) → times p (claimed seat.old) ≡ 0 }
     {
-        let at = place as usize;
-        let found = self.table.shared.load::<Glance>(&mut seat.seat, at / 64);
-        bit(found, at) == 1
+        let found = self
+            .table
+            .shared
+            .load::<Glance>(&mut seat.seat, batch.word as usize);
+        batch.without(found)
     }
 
     /// Merges another seat into this one: its claimed places, its known places and its parts.

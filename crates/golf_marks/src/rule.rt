@@ -37,7 +37,7 @@ impl TableRule<(), View, Plan> for Ruled {
     ghost first = { first_view };
 }
 
-/// The step that claims a place.
+/// The step that claims places of a word.
 pub struct Claim;
 
 impl Play<(), View> for Claim {

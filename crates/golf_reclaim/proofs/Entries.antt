@@ -2,7 +2,7 @@
 -- For: `entries`, src/reported.rt; `entries`, golf_model/specs/Reporting.antt
 -- By: induction over the list of goroutines
 use Rattle.std.proofs.Common.{◌≡◌, ℕ, ◌+◌, ◌<◌, List, [], ◌∷◌, ◌++◌, length, map, take, get_or, Option, Some, None, inl}
-use Rattle.std.proofs.Common.{inr, refl, sym, ap, subst, ◌∙◌, append_assoc, append-nil}
+use Rattle.std.proofs.Common.{inr, refl, ap, subst, ◌∙◌, append_assoc, append-nil}
 use Rattle.std.proofs.lemmas.List.{take_more, map-append}
 use Rattle.golf_theory.specs.Maps.{find}
 use Rattle.golf_theory.specs.Membership.{In}
@@ -17,8 +17,7 @@ use Rattle.golf_model.specs.Reporting.{numbers, entry_by, entry_of, entries}
 entries-append : (s : State) (gs hs : List ℕ) → entries s (gs ++ hs) ≡ entries s gs ++ entries s hs
 entries-append s [] hs = refl
 entries-append s (g ∷ gs) hs =
-    ap (λ (l : List Entry). entry_of g (find g s.goroutines) ++ l) (entries-append s gs hs)
-    ∙ sym (append_assoc (entry_of g (find g s.goroutines)) (entries s gs) (entries s hs))
+    rw (entries-append s gs hs, append_assoc (entry_of g (find g s.goroutines)) (entries s gs) (entries s hs))
 
 numbers-more : (gs : List GoroutineId) (i : ℕ) (d : GoroutineId) → i < length gs
     → numbers (take (i + 1) gs) ≡ numbers (take i gs) ++ (get_or gs i d).0 ∷ []
@@ -28,16 +27,12 @@ pub entries-more : (s : State) (gs : List GoroutineId) (i : ℕ) (d : GoroutineI
     → old ≡ entries s (numbers (take i gs)) → new ≡ old
     ++ entry_of (get_or gs i d).0 (find (get_or gs i d).0 s.goroutines) → new ≡ entries s (numbers (take (i + 1) gs))
 entries-more s gs i d old new l so made =
-    made ∙ ap (λ (z : List Entry). z ++ entry_of (get_or gs i d).0 (find (get_or gs i d).0 s.goroutines)) so
-    ∙ ap (λ (z : List Entry). entries s (numbers (take i gs)) ++ z)
-    (sym (append-nil (entry_of (get_or gs i d).0 (find (get_or gs i d).0 s.goroutines))))
-    ∙ sym (entries-append s (numbers (take i gs)) ((get_or gs i d).0 ∷ []))
-    ∙ ap (entries s) (sym (numbers-more gs i d l))
+    rw (made, so, numbers-more gs i d l, entries-append s (numbers (take i gs)) ((get_or gs i d).0 ∷ []), append-nil)
 
 pub numbers-ids : (gs : List GoroutineId)
     → map (λ (n : ℕ). let g : GoroutineId = record { 0 = n } in g) (numbers gs) ≡ gs
 numbers-ids [] = refl
-numbers-ids (g ∷ gs) = ap (λ (z : List GoroutineId). g ∷ z) (numbers-ids gs)
+numbers-ids (g ∷ gs) = rw (numbers-ids gs)
 
 -- ---- whom entries name
 

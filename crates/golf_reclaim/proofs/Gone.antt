@@ -1,11 +1,11 @@
 -- Who is removed: the sleepers that are neither awake nor kept.
 -- For: `find_dead`, src/marking.rt; `IsUnkept`, specs/Flags.antt
 -- By: cases of the goroutines that are blocked; no induction
-use Rattle.std.proofs.Common.{◌≡◌, ℕ, Bool, true, false, not, ◌||◌, ◌&&◌, List, map, filter, get_or, Some, refl, sym}
-use Rattle.std.proofs.Common.{ap, ◌∙◌, slice_get, ◌==◌}
+use Rattle.std.proofs.Common.{◌≡◌, ℕ, Bool, true, false, not, ◌||◌, ◌&&◌, List, map, filter, get_or, Some, refl}
+use Rattle.std.proofs.Common.{◌∙◌, slice_get, ◌==◌}
 use Rattle.std.proofs.lemmas.Bool.{and_parts, and_from, not-true, not_from_false, both_ways, false_from_ne_true}
 use Rattle.std.proofs.lemmas.List.{length-map}
-use Rattle.golf_theory.proofs.Lists.{Every-from, filter-same, In-slice_get}
+use Rattle.golf_theory.proofs.Lists.{In-slice_get}
 use Rattle.golf_theory.proofs.Tests.{same_test}
 use Rattle.golf_base.specs.declared.ids.GoroutineId.{GoroutineId}
 use Rattle.golf_model.specs.Views.{GoroutineView}
@@ -16,7 +16,6 @@ use Rattle.golf_model.specs.Futures.{Numbered}
 use Rattle.golf_model.specs.Presence.{IsWhole}
 use Rattle.golf_model.specs.Reporting.{numbers}
 use Rattle.golf_model.specs.declared.graph.Marked.{Marked}
-use Rattle.golf_model.specs.Sleepers.{Sleeper}
 use Rattle.golf_model.proofs.Agreeing.{live_list-sound, live_list-complete, has_goroutine-sound, has_goroutine-complete}
 use Rattle.golf_model.proofs.Agreeing.{keeps-sound, keeps-complete}
 use Rattle.golf_heap.specs.Objects.{left_out}
@@ -73,27 +72,21 @@ module _ (s : State) (n : Numbered s) (w : IsWhole s) (sets : Bool) (m : Marked)
     gone-are =
         let live : ℕ × GoroutineView → Bool = λ e. has_goroutine (live_list s) e.0 in
         let kept : ℕ × GoroutineView → Bool = λ e. not (has_goroutine (live_list s) e.0) && keeps s sets e.0 in
-        let ids : List GoroutineId = map (λ (x : Sleeper). x.goroutine) (live_parts s).sleepers in
-        ap (λ (l : List Bool). numbers (left_out (either l flags) ids)) (awake-flags s n w m marks)
-        ∙ ap (λ (l : List Bool). numbers (left_out (either (map live (sleeping s)) l) ids)) kept-are
-        ∙ ap (λ (l : List Bool). numbers (left_out l ids)) (either-map live kept (sleeping s))
-        ∙ ap (λ (l : List GoroutineId). numbers (left_out (map (λ e. live e || kept e) (sleeping s)) l))
-        (sleepers-goroutines s.objects (sleeping s))
-        ∙ ap numbers (left_out-filter (λ e. live e || kept e) goroutine_of (sleeping s))
-        ∙ numbers-goroutines (filter (λ (e : ℕ × GoroutineView). not (live e || kept e)) (sleeping s))
-        ∙ ap (map (λ (e : ℕ × GoroutineView). e.0))
-        (filter-same (λ (e : ℕ × GoroutineView). not (live e || kept e))
-        (λ (e : ℕ × GoroutineView). not (live e) && not (keeps s sets e.0)) (sleeping s)
-        (Every-from (λ (e : ℕ × GoroutineView). not (live e || kept e) ≡ (not (live e) && not (keeps s sets e.0)))
-        (sleeping s) (λ e i. neither (live e) (keeps s sets e.0))))
-        ∙ ap (map (λ (e : ℕ × GoroutineView). e.0))
-        (sym (filter-both (λ (e : ℕ × GoroutineView). not (keeps s sets e.0))
-        (λ (e : ℕ × GoroutineView). not (live e)) (sleeping s)))
-        ∙ sym (map-filter-swap (λ (e : ℕ × GoroutineView). e.0) (λ g. not (keeps s sets g))
-        (filter (λ (e : ℕ × GoroutineView). not (live e)) (sleeping s)))
-        ∙ ap (filter (λ g. not (keeps s sets g))) (dead-asleep s)
+        rw (
+          awake-flags s n w m marks,
+          kept-are,
+          either-map live kept (sleeping s),
+          sleepers-goroutines s.objects (sleeping s),
+          left_out-filter (λ e. live e || kept e) goroutine_of (sleeping s),
+          numbers-goroutines (filter (λ (e : ℕ × GoroutineView). not (live e || kept e)) (sleeping s)),
+          ← (dead-asleep s),
+          map-filter-swap (λ (e : ℕ × GoroutineView). e.0) (λ g. not (keeps s sets g))
+              (filter (λ (e : ℕ × GoroutineView). not (live e)) (sleeping s)),
+          filter-both (λ (e : ℕ × GoroutineView). not (keeps s sets e.0)) (λ (e : ℕ × GoroutineView). not (live e))
+              (sleeping s),
+        ) (simp neither)
 
   pub removed-are : (recover : Bool) (gone : List GoroutineId) → IsUnkept recover sets (live_parts s) m gone
       → numbers gone ≡ removed s recover sets
-  removed-are true gone h = ap numbers h.2 ∙ gone-are h.0 h.1
-  removed-are false gone h = ap numbers h
+  removed-are true gone h = rw h.2 (gone-are h.0 h.1)
+  removed-are false gone h = rw h

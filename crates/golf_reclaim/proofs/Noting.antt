@@ -1,8 +1,8 @@
 -- Who stays reported, as the book grows.
 -- For: `staying_after`, `Ledger::unreported` and `Ledger::note`, src/ledger.rt; `HasStaying`, specs/Noting.antt
 -- By: cases of the lists in which a number stands; no induction
-use Rattle.std.proofs.Common.{◌≡◌, ℕ, ◌+◌, ◌≤◌, Bool, true, false, not, cond, ◌&&◌, ◌||◌, List, [], ◌∷◌, ◌++◌, filter}
-use Rattle.std.proofs.Common.{Result, Ok, Err, inl, inr, refl, sym, ap, ◌∙◌, arith}
+use Rattle.std.proofs.Common.{◌≡◌, ℕ, ◌+◌, ◌≤◌, Bool, true, false, not, cond, ◌&&◌, ◌||◌, List, [], ◌++◌, filter}
+use Rattle.std.proofs.Common.{Result, Ok, Err, inl, inr, refl, sym, ◌∙◌, arith}
 use Rattle.std.specs.Prelude.{IsOk, is_ok, nat_lt}
 use Rattle.std.specs.List.Sorted.{IsNonDecreasingBy, IsPermutation}
 use Rattle.std.proofs.lemmas.Bool.{and_parts, and_from, cases_Bool, lt-ltb, le-ltb, true≢false}
@@ -11,7 +11,8 @@ use Rattle.std.proofs.lemmas.List.Elements.{filter-append}
 use Rattle.std.proofs.lemmas.List.Sorted.{Contains-permutation, IsPermutation-sym}
 use Rattle.golf_theory.specs.Counting.{times}
 use Rattle.golf_theory.specs.Membership.{In, is_in}
-use Rattle.golf_theory.proofs.Lists.{In-filter, In-filter_old, In-Contains, Contains-In, filter-same, Every-from}
+use Rattle.golf_theory.proofs.Lists.{In-map, In-map_back}
+use Rattle.golf_theory.proofs.Lists.{In-filter, In-filter_old, In-Contains, Contains-In}
 use Rattle.golf_theory.proofs.Tests.{is_in-from, In-from, not_in-from, is_in-append, is_in-same, same_test}
 use Rattle.golf_theory.proofs.Times.{times-append, times-In, times-none}
 use Rattle.golf_base.specs.declared.ids.GoroutineId.{GoroutineId}
@@ -45,10 +46,8 @@ pub unreported-alike : (book : Book) (staying goroutines : List GoroutineId)
     → filter (λ g. not (is_in g.0 (numbers staying))) goroutines ≡ filter
     (λ g. not (stays_reported book g.0)) goroutines
 unreported-alike book staying goroutines has =
-    filter-same (λ (g : GoroutineId). not (is_in g.0 (numbers staying)))
-    (λ (g : GoroutineId). not (stays_reported book g.0)) goroutines
-    (Every-from (λ (g : GoroutineId). not (is_in g.0 (numbers staying)) ≡ not (stays_reported book g.0)) goroutines
-    (λ g i. ap not (sym (stays-alike book staying g.0 has))))
+    let alike : (g : ℕ) → stays_reported book g ≡ is_in g (numbers staying) = λ g. stays-alike book staying g has in
+    simp alike
 
 -- ---- once more is noted
 
@@ -85,20 +84,20 @@ staying-noted book new gone staying after has can rises members = record {
       let r : ℕ = times g (numbers book.reported) in
       let c : ℕ = times g (numbers book.reclaimed) in
       let same = stays-alike book staying g has in
-      let stays : is_in g (numbers after) ≡ (not o && (b || n)) =
-      members g ∙ among-filtered (λ k. not (is_in k (numbers gone))) g (numbers (staying ++ new))
-      ∙ ap (λ d. not o && d) (ap (is_in g) (numbers-append staying new)
-      ∙ is_in-append g (numbers staying) (numbers new)) in
-      ap (times g) (numbers-append book.reported new)
-      ∙ times-append g (numbers book.reported) (numbers new)
-      ∙ ap (λ k. r + k) (once g (numbers new) (can.new_once g))
-      ∙ counted-by b n o r c (has.counts g) (λ t. sym same ∙ can.unreported g (In-from g (numbers new) t))
-      (λ t. ap (λ d. d || n) (sym same) ∙ can.reported g (In-from g (numbers gone) t))
-      ∙ ap (λ k. (c + k) + cond (not o && (b || n)) 1 0) (sym (once g (numbers gone) (can.gone_once g)))
-      ∙ ap (λ k. k + cond (not o && (b || n)) 1 0)
-      (sym (ap (times g) (numbers-append book.reclaimed gone)
-      ∙ times-append g (numbers book.reclaimed) (numbers gone)))
-      ∙ ap (λ d. times g (numbers (book.reclaimed ++ gone)) + cond d 1 0) (sym stays);
+      rw (
+        numbers-append book.reported new,
+        times-append g (numbers book.reported) (numbers new),
+        once g (numbers new) (can.new_once g),
+        numbers-append book.reclaimed gone,
+        times-append g (numbers book.reclaimed) (numbers gone),
+        once g (numbers gone) (can.gone_once g),
+        members g,
+        among-filtered (λ k. not (is_in k (numbers gone))) g (numbers (staying ++ new)),
+        numbers-append staying new,
+        is_in-append g (numbers staying) (numbers new),
+      )
+      (counted-by b n o r c (has.counts g) (λ t. sym same ∙ can.unreported g (In-from g (numbers new) t))
+      (λ t. rw same at (can.reported g (In-from g (numbers gone) t))));
 }
 
 -- gathered in two steps, and then in another order
@@ -107,32 +106,19 @@ pub staying-among : {now then after : List GoroutineId} (staying new gone : List
     ++ filter (λ g. not (is_in g.0 (numbers gone))) new → IsPermutation then after
     → is_in n (numbers after) ≡ is_in n (filter (λ k. not (is_in k (numbers gone))) (numbers (staying ++ new)))
 staying-among {now} {then} {after} staying new gone n first second moved =
-    is_in-same n (numbers after) (numbers then) (λ i. members after then (IsPermutation-sym then after moved) i)
-    (λ i. members then after moved i)
-    ∙ ap (λ (l : List GoroutineId). is_in n (numbers l))
-    (second ∙ ap (λ (l : List GoroutineId). l ++ filter p new) first ∙ sym (filter-append p staying new))
-    ∙ ap (is_in n) (sym (map-filter-swap (λ (g : GoroutineId). g.0) (λ k. not (is_in k (numbers gone)))
-    (staying ++ new)))
+    is_in-same n (numbers after) (numbers then) (members after then (IsPermutation-sym then after moved))
+    (members then after moved)
+    ∙ rw (
+      second,
+      first,
+      map-filter-swap (λ (g : GoroutineId). g.0) (λ k. not (is_in k (numbers gone))) (staying ++ new),
+      filter-append (λ (g : GoroutineId). not (is_in g.0 (numbers gone))) staying new,
+    )
   where
-    p : GoroutineId → Bool
-    p g = not (is_in g.0 (numbers gone))
-
-    named : GoroutineId
-    named = record { 0 = n }
-
-    to : (xs : List GoroutineId) → In n (numbers xs) → In named xs
-    to [] h = absurd h
-    to (x ∷ xs) (inl e) = inl (ap (λ (k : ℕ). let g : GoroutineId = record { 0 = k } in g) e)
-    to (x ∷ xs) (inr i) = inr (to xs i)
-
-    from : (xs : List GoroutineId) → In named xs → In n (numbers xs)
-    from [] h = absurd h
-    from (x ∷ xs) (inl e) = inl (ap (λ (g : GoroutineId). g.0) e)
-    from (x ∷ xs) (inr i) = inr (from xs i)
-
     members : (xs ys : List GoroutineId) → IsPermutation xs ys → In n (numbers xs) → In n (numbers ys)
-    members xs ys q i = from ys (In-Contains ys named
-        (Contains-permutation xs ys named q (Contains-In xs named (to xs i))))
+    members xs ys q i = let b = In-map_back (λ (g : GoroutineId). g.0) n xs i in
+        rw b.1 (In-map (λ (g : GoroutineId). g.0) b.0 ys
+        (In-Contains ys b.0 (Contains-permutation xs ys b.0 q (Contains-In xs b.0 b.2))))
 
 -- what room was taken for is added
 pub added : {A E : Type 0} (r : Result A E) (old xs after : List GoroutineId) → IsOk r

@@ -1,8 +1,8 @@
 -- If no goroutine of the state was removed before, a collection's report and book are those over plain states.
 -- For: `collect`, src/collection.rt; `report` and `book_after`, golf_model/specs/Reporting.antt
 -- By: induction over the map of goroutines, for what the sources are; no other induction
-use Rattle.std.proofs.Common.{◌≡◌, ℕ, ◌+◌, Bool, true, false, not, ◌||◌, List, [], ◌∷◌, ◌++◌, length, map, filter, inl}
-use Rattle.std.proofs.Common.{inr, refl, sym, ap, ◌∙◌, arith}
+use Rattle.std.proofs.Common.{◌≡◌, ℕ, Bool, true, false, not, List, [], ◌∷◌, length, inl}
+use Rattle.std.proofs.Common.{inr, refl, ap, arith}
 use Rattle.std.specs.Prelude.{nat_lt}
 use Rattle.std.proofs.lemmas.Bool.{lt-ltb, ltb-true}
 use Rattle.golf_theory.specs.Counting.{times}
@@ -14,39 +14,31 @@ use Rattle.golf_theory.proofs.Times.{times-In, In-times, times-none}
 use Rattle.golf_theory.proofs.MapEntries.{In-keys}
 use Rattle.golf_data.specs.declared.report.Book.{Book}
 use Rattle.golf_model.specs.Views.{GoroutineView}
-use Rattle.golf_model.specs.Refs.{refs_if, goroutine_refs, goroutine_refs_where, queue_refs, refs_where, has_finaliser}
-use Rattle.golf_model.specs.Values.{refs}
-use Rattle.golf_model.specs.Living.{dead, live_objects}
-use Rattle.golf_model.specs.Reaching.{reach, sources}
+use Rattle.golf_model.specs.Refs.{goroutine_refs_where}
+use Rattle.golf_model.specs.Living.{dead}
+use Rattle.golf_model.specs.Reaching.{sources}
 use Rattle.golf_model.specs.Collecting.{keeps, unkept, removed}
-use Rattle.golf_model.specs.Reporting.{goroutine_id, numbers, entries, without, new_dead, new_gone, all_gone}
+use Rattle.golf_model.specs.Reporting.{numbers, without, new_dead, new_gone, all_gone}
 use Rattle.golf_model.specs.Reporting.{retained_objects, book_after, report}
 use Rattle.golf_model.specs.State.{State}
 use Rattle.golf_model.proofs.Agreeing.{dead-sound}
-use Rattle.golf_reclaim.specs.Noting.{stays_reported, AreGone, noted}
+use Rattle.golf_reclaim.specs.Noting.{stays_reported, AreGone}
 use Rattle.golf_reclaim.specs.Collected.{new_in, noted_by, report_of}
 
 -- the sources depend on those who are there alone
 refs_where-there : (p q : ℕ → Bool) (es : List (ℕ × GoroutineView)) → ((g : ℕ) → In g (keys es) → p g ≡ q g)
     → goroutine_refs_where p es ≡ goroutine_refs_where q es
 refs_where-there p q [] h = refl
-refs_where-there p q (e ∷ es) h =
-    ap (λ b. refs_if b (goroutine_refs e.1) ++ goroutine_refs_where p es) (h e.0 (inl refl))
-    ∙ ap (λ (l : List ℕ). refs_if (q e.0) (goroutine_refs e.1) ++ l) (refs_where-there p q es (λ g i. h g (inr i)))
-
-out-of-both : (a b : Bool) → a ≡ false → (a || b) ≡ b
-out-of-both true b e = cc
-out-of-both false b e = refl
+refs_where-there p q (e ∷ es) h = rw (h e.0 (inl refl), refs_where-there p q es (λ g i. h g (inr i)))
 
 -- one who was never removed stays reported if it was ever reported
 stays-by : (b : Book) (g : ℕ) → (In g (numbers b.reclaimed) → ⊥) → stays_reported b g ≡ is_in g (numbers b.reported)
 stays-by b g never =
     let none = times-none g (numbers b.reclaimed) never in
     let r : ℕ = times g (numbers b.reported) in
-    ap (λ k. nat_lt k r) none
-    ∙ same_test (nat_lt 0 r) (is_in g (numbers b.reported))
+    rw none (same_test (nat_lt 0 r) (is_in g (numbers b.reported))
     (λ t. is_in-from g (numbers b.reported) (In-times g (numbers b.reported) (omega (arith, ltb-true 0 r t))))
-    (λ t. lt-ltb 0 r (omega (arith, times-In g (numbers b.reported) (In-from g (numbers b.reported) t))))
+    (λ t. lt-ltb 0 r (omega (arith, times-In g (numbers b.reported) (In-from g (numbers b.reported) t)))))
 
 module _ (s : State) (b : Book) (recover sets : Bool) (apart : AreGone b s) where
   dead-there : (g : ℕ) → In g (dead s) → In g (keys s.goroutines)
@@ -70,45 +62,24 @@ module _ (s : State) (b : Book) (recover sets : Bool) (apart : AreGone b s) wher
   gone-there : (g : ℕ) → In g (keys s.goroutines)
       → is_in g (all_gone recover sets b s) ≡ is_in g (removed s recover sets)
   gone-there g h =
-      is_in-append g (numbers b.reclaimed) (new_gone recover sets b s)
-      ∙ out-of-both (is_in g (numbers b.reclaimed)) (is_in g (new_gone recover sets b s)) (not-before g h)
-      ∙ ap (is_in g) (gone-by recover)
+      rw (is_in-append g (numbers b.reclaimed) (new_gone recover sets b s), not-before g h, gone-by recover)
 
   same-sources : sources s (all_gone recover sets b s) ≡ sources s (removed s recover sets)
-  same-sources = ap (λ (l : List ℕ). refs s.globals
-      ++ (queue_refs s.queue ++ (l ++ refs_where (has_finaliser s) s.objects)))
-      (refs_where-there (λ g. not (is_in g (all_gone recover sets b s)))
+  same-sources = rw (refs_where-there (λ g. not (is_in g (all_gone recover sets b s)))
       (λ g. not (is_in g (removed s recover sets))) s.goroutines (λ g i. ap not (gone-there g i)))
 
   left-same : length (retained_objects s (all_gone recover sets b s)) ≡ length
       (retained_objects s (removed s recover sets))
-  left-same = ap (λ (os : List ℕ). length (filter (λ o. is_in o (reach s os ++ keys s.finalisers)) (keys s.objects)))
-      same-sources
+  left-same = rw same-sources
 
   kept-same : length (without (dead s) (all_gone recover sets b s)) ≡ length (without (dead s) (removed s recover sets))
-  kept-same = ap (λ (l : List ℕ). length l)
-      (filter-same (λ g. not (is_in g (all_gone recover sets b s))) (λ g. not (is_in g (removed s recover sets)))
-      (dead s)
+  kept-same = rw (filter-same (λ g. not (is_in g (all_gone recover sets b s)))
+      (λ g. not (is_in g (removed s recover sets))) (dead s)
       (Every-from (λ g. not (is_in g (all_gone recover sets b s)) ≡ not (is_in g (removed s recover sets))) (dead s)
       (λ g i. ap not (gone-there g (dead-there g i)))))
 
   pub report-plain : report_of recover sets b s ≡ report recover sets b s
-  report-plain =
-      let told : entries s (new_in b s) ≡ entries s (new_dead b s) = ap (entries s) new-same in
-      let many : length (without (dead s) (removed s recover sets)) ≡ length
-      (without (dead s) (all_gone recover sets b s)) = sym kept-same in
-      let count : length (removed s recover sets) ≡ length (new_gone recover sets b s) =
-      ap length (sym (gone-by recover)) in
-      let left : length (retained_objects s (removed s recover sets)) ≡ length
-      (retained_objects s (all_gone recover sets b s)) = sym left-same in
-      λ i. record {
-        number = b.collections + 1;
-        marked = length (live_objects s);
-        reported = told i;
-        kept = many i;
-        reclaimed = count i;
-        objects = left i;
-      }
+  report-plain = rw (new-same, kept-same, left-same, gone-by recover)
 
   pub book-plain : noted_by recover sets b s ≡ book_after recover sets b s
-  book-plain = λ i. noted (map goroutine_id (new-same i)) (map goroutine_id (sym (gone-by recover) i)) b
+  book-plain = rw (new-same, gone-by recover)

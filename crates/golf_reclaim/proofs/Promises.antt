@@ -16,7 +16,6 @@ use Rattle.golf_model.specs.Collecting.{plain_collect, keeps, removed, retained,
 use Rattle.golf_model.specs.Futures.{Numbered, Leads, futures}
 use Rattle.golf_model.proofs.Agreeing.{dead-sound, dead-complete, keeps-sound, keeps-complete, retained-sound}
 use Rattle.golf_model.proofs.Agreeing.{retained-complete}
-use Rattle.golf_model_futures.specs.Telling.{named}
 use Rattle.golf_model_futures.proofs.DeadStill.{dead_still}
 use Rattle.golf_model_futures.proofs.Recovering.{recovery-unseen}
 use Rattle.golf_model_progress.proofs.Leading.{never-stuck}
@@ -28,7 +27,7 @@ use Rattle.golf_reclaim.specs.Promises.{AreStill, IsUnseen, IsRemoved, LeavesExa
 pub are-still : (s : State) (b : Book) (recover sets : Bool) (r : Report) → Numbered s → r ≡ report_of recover sets b s
     → AreStill r s
 are-still s b recover sets r n e = λ code g h.
-    let i = entries-name s g (new_in b s) (subst (In g) (ap named e) h) in
+    let i = entries-name s g (new_in b s) (rw e at h) in
     dead_still code s g n (dead-sound s g (In-filter (λ k. not (stays_reported b k)) g (dead s) i).0)
 
 module _ (s t : State) (recover sets : Bool) (is : t ≡ real_collect s recover sets) where
@@ -69,18 +68,18 @@ module _ (s t : State) (recover sets : Bool) (is : t ≡ real_collect s recover 
       record {
         goroutines = λ g. (
           λ h. let i = In-filter (λ k. not (is_in k out)) g (keys s.goroutines)
-              (subst (In g) who h) in (
+              (rw who at h) in (
                 i.0,
                 λ r. both_ways (is_in g out) (not-true (is_in g out) i.1)
                     (is_in-from g out (removed-gone recover g r)),
               ),
-          λ h. subst (In g) (sym who) (In-filter_old (λ k. not (is_in k out)) g (keys s.goroutines)
+          λ h. rw who (In-filter_old (λ k. not (is_in k out)) g (keys s.goroutines)
               (not_from_false (is_in g out) (is_in-out g out (λ i. h.1 (gone-removed recover g i)))) h.0),
         );
         objects = λ o. (
           λ h. let i = In-filter (λ k. is_in k (retained s out)) o (keys s.objects)
-              (subst (In o) what h) in (i.0, retained-sound s out o (In-from o (retained s out) i.1)),
-          λ h. subst (In o) (sym what) (In-filter_old (λ k. is_in k (retained s out)) o (keys s.objects)
+              (rw what at h) in (i.0, retained-sound s out o (In-from o (retained s out) i.1)),
+          λ h. rw what (In-filter_old (λ k. is_in k (retained s out)) o (keys s.objects)
               (is_in-from o (retained s out) (retained-complete s out o h.1)) h.0),
         );
       }

@@ -16,8 +16,8 @@ use Rattle.golf_reclaim.proofs.Entries.{numbers-ids}
 use Rattle.golf_reclaim.proofs.Flags.{map-filter-swap}
 
 by-numbers : (gs hs : List GoroutineId) → numbers gs ≡ numbers hs → gs ≡ hs
-by-numbers gs hs e = sym (numbers-ids gs) ∙ ap (map (λ (n : ℕ). let g : GoroutineId = record { 0 = n } in g)) e
-    ∙ numbers-ids hs
+by-numbers gs hs e = rw (numbers-ids gs, numbers-ids hs) at
+    (ap (map (λ (n : ℕ). let g : GoroutineId = record { 0 = n } in g)) e)
 
 module _ (s : State) (rises : IsRising s.goroutines) (found gone : List GoroutineId)
     (are : numbers found ≡ dead s) where

@@ -1,20 +1,19 @@
 -- The state after a collection, from what was found.
 -- For: `collect`, src/collection.rt; `real_collect`, golf_model/specs/Collecting.antt
 -- By: induction over the list of entries
-use Rattle.std.proofs.Common.{◌≡◌, ℕ, Bool, true, false, not, ◌&&◌, cond, List, [], ◌∷◌, map, filter, ◌⊎◌, inl, inr}
-use Rattle.std.proofs.Common.{refl, sym, ap, subst, ◌∙◌}
+use Rattle.std.proofs.Common.{◌≡◌, ℕ, Bool, true, not, ◌&&◌, List, [], ◌∷◌, map, filter, ◌⊎◌, inl, inr}
+use Rattle.std.proofs.Common.{◌++◌, refl, ap}
 use Rattle.std.proofs.lemmas.Bool.{or_parts, both_ways, cases_Bool, not-false}
 use Rattle.std.specs.Prelude.{is_some}
 use Rattle.golf_theory.specs.Membership.{In, is_in}
-use Rattle.golf_theory.specs.Maps.{find, keys, only}
-use Rattle.golf_theory.proofs.Lists.{In-left, In-right, In-cases, In-filter, In-filter_old}
-use Rattle.golf_theory.proofs.Tests.{is_in-from, In-from, is_in-same, same_test}
+use Rattle.golf_theory.specs.Maps.{find, keys}
+use Rattle.golf_theory.proofs.Lists.{In-left, In-right, In-cases}
+use Rattle.golf_theory.proofs.Tests.{is_in-from, In-from, is_in-same}
 use Rattle.golf_theory.proofs.MapEntries.{In-keys}
 use Rattle.golf_theory.proofs.MapFinds.{find-Entry, find-only}
 use Rattle.golf_theory.proofs.Derivations.{Reached-least, Reached-over, Reached-root}
 use Rattle.golf_base.specs.declared.ids.GoroutineId.{GoroutineId}
 use Rattle.golf_model.specs.Values.{refs}
-use Rattle.golf_model.specs.Views.{GoroutineView}
 use Rattle.golf_model.specs.State.{State}
 use Rattle.golf_model.specs.Refs.{queue_refs, goroutine_refs_where, has_finaliser, refs_of_goroutine}
 use Rattle.golf_model.specs.Reaching.{RefersTo, reach, sources}
@@ -25,6 +24,7 @@ use Rattle.golf_model.specs.Presence.{IsWhole}
 use Rattle.golf_model.proofs.Agreeing.{reach-sound, reach-complete, refs_where-sound, goroutine_refs_where-sound}
 use Rattle.golf_heap.specs.Objects.{kept}
 use Rattle.golf_heap.proofs.Flagged.{kept-only}
+use Rattle.golf_reclaim.proofs.Flags.{among-those}
 use Rattle.golf_model_futures.proofs.Collecting.{In-goroutine_refs_where, reach-from}
 use Rattle.golf_model_futures.proofs.CutCollecting.{queue_outside-same}
 use Rattle.golf_model_futures.proofs.Removing.{gone-dead, stays_by, reach-step, removed-ok, source-global, source-queue}
@@ -33,17 +33,17 @@ use Rattle.golf_model_futures.proofs.Removing.{source-goroutine, source-finalise
 -- the keys of flagged entries are those that pass
 kept-keys : {X : Type 0} (p : ℕ → Bool) (es : List (ℕ × X)) → kept (map (λ e. p e.0) es) (keys es) ≡ filter p (keys es)
 kept-keys p [] = refl
-kept-keys {X = X} p (e ∷ es) = let rest = kept-keys p es in
-    elim (p e.0) as (λ b. cond b (e.0 ∷ kept (map (λ (d : ℕ × X). p d.0) es) (keys es))
-    (kept (map (λ (d : ℕ × X). p d.0) es) (keys es)) ≡ cond b (e.0 ∷ filter p (keys es)) (filter p (keys es))) [
-      | true ↦ ap (λ (ks : List ℕ). e.0 ∷ ks) rest
-      | false ↦ rest
-    ]
+kept-keys p (e ∷ es) = elim (cases_Bool (p e.0)) [
+  | inl t ↦ rw (t, kept-keys p es)
+  | inr f ↦ rw (f, kept-keys p es)
+]
 
-among-those : (p : ℕ → Bool) (ks : List ℕ) (o : ℕ) → In o ks → is_in o (filter p ks) ≡ p o
-among-those p ks o h = same_test (is_in o (filter p ks)) (p o)
-    (λ t. (In-filter p o ks (In-from o (filter p ks) t)).1)
-    (λ t. is_in-from o (filter p ks) (In-filter_old p o ks t h))
+In-both : (o : ℕ) (xs ys zs ws : List ℕ) → (In o xs → In o ys) → (In o zs → In o ws) → In o (xs ++ zs)
+    → In o (ys ++ ws)
+In-both o xs ys zs ws f g h = elim (In-cases o xs zs h) [
+  | inl a ↦ In-left o ys ws (f a)
+  | inr b ↦ In-right o ys ws (g b)
+]
 
 module _ (s : State) (n : Numbered s) (recover sets : Bool) where
   from-source : (o : ℕ) → In o (sources s [])
@@ -62,11 +62,11 @@ module _ (s : State) (n : Numbered s) (recover sets : Bool) where
                 elim (cases_Bool (stays_by out r.0)) [
                   | inl t ↦ inl (reach-from s (sources s out) o (source-goroutine s n out dead_all o r.0 r.1 r.3 t r.4))
                   | inr f ↦
-                      let are = ap refs_of_goroutine (find-Entry s.goroutines r.0 r.1 n.goroutines_rise r.3) in
+                      let are = find-Entry s.goroutines r.0 r.1 n.goroutines_rise r.3 in
                       inr (
                         r.0,
                         In-from r.0 out (not-false (is_in r.0 out) f),
-                        reach-from s (refs_of_goroutine (find r.0 s.goroutines)) o (subst (In o) (sym are) r.4),
+                        reach-from s (refs_of_goroutine (find r.0 s.goroutines)) o (rw are r.4),
                       )
                 ]
             | inr d ↦
@@ -91,22 +91,14 @@ module _ (s : State) (n : Numbered s) (recover sets : Bool) where
 
   -- without them no more is reached
   fewer-sources : (o : ℕ) → In o (sources s (removed s recover sets)) → In o (sources s [])
-  fewer-sources o h =
-      let out : List ℕ = removed s recover sets in
-      elim (In-cases o (refs s.globals) _ h) [
-        | inl a ↦ In-left o (refs s.globals) _ a
-        | inr a ↦ In-right o (refs s.globals) _ (elim (In-cases o (queue_refs s.queue) _ a) [
-          | inl b ↦ In-left o (queue_refs s.queue) _ b
-          | inr b ↦ In-right o (queue_refs s.queue) _
-              (elim (In-cases o (goroutine_refs_where (λ g. not (is_in g out)) s.goroutines) _ b) [
-                | inl d ↦
-                    let r = goroutine_refs_where-sound (λ g. not (is_in g out)) s.goroutines o d in
-                    In-left o (goroutine_refs_where (λ g. not (is_in g [])) s.goroutines) _
-                    (In-goroutine_refs_where (λ g. not (is_in g [])) s.goroutines r.0 o r.1 r.3 refl r.4)
-                | inr d ↦ In-right o (goroutine_refs_where (λ g. not (is_in g [])) s.goroutines) _ d
-              ])
-        ])
-      ]
+  fewer-sources o =
+      let all = goroutine_refs_where (λ g. not (is_in g [])) s.goroutines in
+      let out = goroutine_refs_where (λ g. not (is_in g (removed s recover sets))) s.goroutines in
+      In-both o (refs s.globals) (refs s.globals) _ _ (λ a. a)
+      (In-both o (queue_refs s.queue) (queue_refs s.queue) _ _ (λ a. a)
+      (In-both o out all _ _ (λ d. let r = goroutine_refs_where-sound (λ g. not (is_in g (removed s recover sets)))
+      s.goroutines o d in In-goroutine_refs_where (λ g. not (is_in g [])) s.goroutines r.0 o r.1 r.3 refl r.4)
+      (λ d. d)))
 
   fewer-reached : (o : ℕ) → In o (reach s (sources s (removed s recover sets))) → In o (reach s (sources s []))
   fewer-reached o h = reach-complete s (sources s []) o
@@ -130,10 +122,13 @@ module _ (s : State) (n : Numbered s) (recover sets : Bool) where
       → flags ≡ map (λ e. is_in e.0 (reach s (sources s (removed s recover sets)))) s.objects
       → queue_outside (kept flags (keys s.objects)) s ≡ plain_collect s
   queued-alike w flags is = queue_outside-same (kept flags (keys s.objects)) (reach s (sources s [])) s (λ o f e.
-      ap (λ (fs : List Bool). is_in o (kept fs (keys s.objects))) is
-      ∙ ap (is_in o) (kept-keys (λ k. is_in k (reach s (sources s (removed s recover sets)))) s.objects)
-      ∙ among-those (λ k. is_in k (reach s (sources s (removed s recover sets)))) (keys s.objects) o (w.finalised o f e)
-      ∙ finalised-alike o (In-keys s.finalisers o f e))
+      rw (
+        is,
+        kept-keys (λ k. is_in k (reach s (sources s (removed s recover sets)))) s.objects,
+        among-those (λ k. is_in k (reach s (sources s (removed s recover sets)))) (keys s.objects) o
+            (w.finalised o f e),
+      )
+      (finalised-alike o (In-keys s.finalisers o f e)))
 
   -- and the state after is the real collection
   pub collected : (t : State) (stays keep : List Bool) → t ≡ plain_collect s
@@ -141,16 +136,13 @@ module _ (s : State) (n : Numbered s) (recover sets : Bool) where
       → keep ≡ map (λ e. is_in e.0 (retained s (removed s recover sets))) s.objects
       → ◌≡◌ {A = State} (record t { goroutines = kept stays t.goroutines; objects = kept keep t.objects })
       (real_collect s recover sets)
-  collected t stays keep is who what =
-      let p : State = plain_collect s in
-      let a : kept stays s.goroutines ≡ only (λ g. not (is_in g (removed s recover sets))) s.goroutines =
-      ap (λ (fs : List Bool). kept fs s.goroutines) who
-      ∙ kept-only (λ g. not (is_in g (removed s recover sets))) s.goroutines in
-      let b : kept keep s.objects ≡ only (λ o. is_in o (retained s (removed s recover sets))) s.objects =
-      ap (λ (fs : List Bool). kept fs s.objects) what
-      ∙ kept-only (λ o. is_in o (retained s (removed s recover sets))) s.objects in
-      ap (λ (u : State). record u { goroutines = kept stays u.goroutines; objects = kept keep u.objects }) is
-      ∙ (λ i. record p { goroutines = a i; objects = b i })
+  collected t stays keep is who what = rw (
+    is,
+    who,
+    what,
+    kept-only (λ g. not (is_in g (removed s recover sets))) s.goroutines,
+    kept-only (λ o. is_in o (retained s (removed s recover sets))) s.objects,
+  )
 
 -- goroutine 0 is removed by no collection
 pub zero-stays : (s : State) (recover sets : Bool) (stays : List Bool)
@@ -163,9 +155,7 @@ zero-stays s recover sets stays who there =
           (Reached-root (LiveRoot s) (LiveStep s) (Node.AGoroutine 0) LiveRoot.FinaliserGoroutine))
       | inr f ↦ ap not f
     ] in
-    ap (λ (fs : List Bool). is_some (find 0 (kept fs s.goroutines))) who
-    ∙ ap (λ (es : List (ℕ × GoroutineView)). is_some (find 0 es)) (kept-only p s.goroutines)
-    ∙ ap is_some (find-only p s.goroutines 0 out) ∙ there
+    rw (who, kept-only p s.goroutines, find-only p s.goroutines 0 out) there
 
 -- flags of the list of goroutines are flags of their entries
 pub stays-are : {X : Type 0} (p : ℕ → Bool) (gs : List GoroutineId) (es : List (ℕ × X)) → map (λ g. g.0) gs ≡ keys es
@@ -176,5 +166,4 @@ stays-are p (g ∷ gs) [] h = cc
 stays-are p (g ∷ gs) (e ∷ es) h =
     let first : g.0 ≡ e.0 = cc in
     let rest : map (λ (x : GoroutineId). x.0) gs ≡ keys es = cc in
-    ap (λ (k : ℕ). p k ∷ map (λ (x : GoroutineId). p x.0) gs) first
-    ∙ ap (λ (l : List Bool). p e.0 ∷ l) (stays-are p gs es rest)
+    rw (first, stays-are p gs es rest)

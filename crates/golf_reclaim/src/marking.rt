@@ -78,6 +78,8 @@ pub(crate) fn find_dead<R: Threads + Sync, G: Gate + Sync>(
     ensures objects { IfOk result (λ found. found.objects ≡ length (live_objects state.now)) }
     ensures dead { IfOk result (λ found. numbers found.dead ≡ dead state.now) }
     ensures gone { IfOk result (λ found. numbers found.gone ≡ removed state.now options.recover options.sets_finalisers) }
+    ensures rises { IfOk result (λ found. IsNonDecreasingBy (λ g. g.0) found.gone) }
+    ensures fewer { IfOk result (λ found. length found.gone ≤ length found.dead) }
     ensures few { IfOk result (λ found. length found.dead < 2 ^ 32) }
     ensures numbered { IfOk result (λ found. Numbered state.now) }
 {
@@ -166,8 +168,7 @@ fn either(alloc: Global, flags: &[bool], others: &[bool]) -> Result<List<bool>, 
 {
     let mut both = List::new(alloc);
     for at in 0..flags.len() {
-        let is_set = flags[at] || others[at];
-        both.push(is_set)?;
+        both.push(flags[at] | others[at])?;
     }
     Ok(both)
 }
@@ -180,13 +181,13 @@ fn retained(alloc: Global, graph: &Graph, marked: &[bool]) -> Result<List<bool>,
 {
     let mut keep = List::new(alloc);
     for node in 0..graph.nodes() {
-        let stays = marked[node as usize] || graph.finalised(node);
-        keep.push(stays)?;
+        keep.push(marked[node as usize] | graph.finalised(node))?;
     }
     Ok(keep)
 }
 
 // How many nodes have a true flag.
+#[tactic(auto, using(crate::proofs::Flags::one_more))]
 fn count_set(graph: &Graph, flags: &[bool]) -> u32
     requires { length flags.now ≡ node_count graph.now }
     ensures { result ≡ count_set flags.now }

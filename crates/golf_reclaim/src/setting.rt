@@ -11,10 +11,7 @@ use golf_data::{Code, CodeLine, Function, Instr};
 fn is_setting(line: &CodeLine) -> bool
     ensures { result ≡ is_setting_of line.now.instr }
 {
-    match line.instr {
-        Instr::SetFinalizer(_) => true,
-        _ => false,
-    }
+    matches!(line.instr, Instr::SetFinalizer(_))
 }
 
 fn sets_one(function: &Function) -> bool

@@ -1,7 +1,7 @@
 -- What is found at the place of a number.
 -- For: `IsPlace` (golf_state_goroutines/specs/Blocks.antt) and src/finding.rt
 -- By: the laws of blocks; no induction
-use Rattle.std.proofs.Common.{◌≡◌, ℕ, ◌+◌, ◌*◌, ◌/◌, List, Some, None, sym, ap, ◌∙◌, subst, arith, slice_get}
+use Rattle.std.proofs.Common.{◌≡◌, ℕ, ◌*◌, ◌/◌, List, Some, None, sym, ap, ◌∙◌, subst, slice_get}
 use Rattle.golf_theory.specs.Maps.{find, Rises}
 use Rattle.golf_heap.specs.Objects.{rank}
 use Rattle.golf_model.specs.Views.{goroutine_view}
@@ -9,9 +9,8 @@ use Rattle.golf_state_goroutines.specs.Places.{plain_entries}
 use Rattle.golf_state_goroutines.specs.Blocks.{AreBlocks, IsPlace, places_in}
 use Rattle.golf_state_goroutines.specs.declared.blocks.Block.{Block}
 use Rattle.golf_state_goroutines.specs.declared.places.NumberedGoroutine.{NumberedGoroutine}
-use Rattle.golf_state_goroutines.proofs.Ranges.{in-rises}
 use Rattle.golf_state_goroutines.proofs.PlaceLaws.{found-there, absent-there, absent-past}
-use Rattle.golf_state_goroutines.proofs.Splits.{Sides, sides, find-in}
+use Rattle.golf_state_goroutines.proofs.Splits.{Sides, sides, rises-in, find-in}
 
 module _ (bs : List Block) (i j g : ℕ) (b : Block) (ps : List NumberedGoroutine) (a : AreBlocks 0 bs)
     (p : IsPlace g bs i j)
@@ -21,8 +20,7 @@ module _ (bs : List Block) (i j g : ℕ) (b : Block) (ps : List NumberedGoroutin
 
   rises : Rises (g / 256 * 256) (plain_entries ps)
   rises = subst (λ (qs : List NumberedGoroutine). Rises (g / 256 * 256) (plain_entries qs)) (sym list)
-      (in-rises (g / 256 * 256) (b.key * 256) (b.key * 256 + 256) (plain_entries b.places.items)
-      (omega (arith, side.key)) side.block.places)
+      (rises-in bs i g b side)
 
   index : j ≡ rank g (plain_entries ps)
   index = p.place b here ∙ ap (λ (qs : List NumberedGoroutine). rank g (plain_entries qs)) (sym list)

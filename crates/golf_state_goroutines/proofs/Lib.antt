@@ -11,5 +11,6 @@ pub mod Summing
 pub mod BlockLaws
 pub mod Openings
 pub mod Rosters
+pub mod Present
 pub mod Retains
 pub mod Readings

@@ -1,7 +1,7 @@
 -- Places by number, in a list whose numbers rise from some number on.
 -- For: `plain_entries` (golf_state_goroutines/specs/Places.antt) and src/places.rt
 -- By: induction over the list of places or of entries
-use Rattle.std.proofs.Common.{◌≡◌, ℕ, zero, suc, ◌+◌, ◌<◌, ◌≤◌, Bool, true, false, not, cond, List, [], ◌∷◌, ◌++◌}
+use Rattle.std.proofs.Common.{◌≡◌, ℕ, zero, suc, ◌<◌, ◌≤◌, Bool, true, false, not, cond, List, [], ◌∷◌, ◌++◌}
 use Rattle.std.proofs.Common.{length, filter, Option, Some, None, ◌==◌, nat_lt, refl, sym, ap, ◌∙◌, arith, slice_get}
 use Rattle.std.proofs.Common.{slice_set}
 use Rattle.std.specs.Prelude.{option_map, remove}

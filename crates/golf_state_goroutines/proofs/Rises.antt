@@ -7,7 +7,7 @@ use Rattle.std.specs.Prelude.{insert, remove}
 use Rattle.std.specs.List.Sorted.{IsNonDecreasingBy}
 use Rattle.std.proofs.lemmas.Bool.{eq-eqb, ne_eqb, lt-ltb, le-ltb, ltb-true, ltb-false}
 use Rattle.std.specs.Prelude.{option_map}
-use Rattle.std.proofs.lemmas.Option.{slice_get_read, slice_get-map}
+use Rattle.std.proofs.lemmas.Option.{slice_get_read, slice_get-map, slice_get-get_or, get_or_from_slice_get}
 use Rattle.golf_base.specs.declared.ids.GoroutineId.{GoroutineId}
 use Rattle.golf_theory.specs.Maps.{keys_where, Rises}
 use Rattle.golf_theory.specs.Stored.{placed, without}
@@ -59,6 +59,23 @@ leading-is bound zero (x ∷ xs) l a b = sym
 leading-is bound (suc i) (x ∷ xs) l a b =
     ap suc (leading-is bound i xs (omega arith) (λ m d h. a (suc m) d (omega arith)) (λ d h. b d (omega arith)))
     ∙ sym (ap (λ t. cond t (suc (leading bound (numbers xs))) 0) (lt-ltb x.0 bound (a 0 x (omega arith))))
+
+-- the numbers just before and just after a place decide whether it is the one
+pub leading-at : (bound i : ℕ) (xs : List GoroutineId) (e : GoroutineId) → RisesFrom 0 (numbers xs) → i ≤ length xs
+    → ((n : ℕ) → n + 1 ≡ i → (get_or xs n e).0 < bound)
+    → (i < length xs → bound ≤ (get_or xs i e).0) → i ≡ leading bound (numbers xs)
+leading-at bound i xs e r l a b = leading-is bound i xs l (below i l a) (λ d h. omega (arith, b h, same i d h))
+  where
+    same : (n : ℕ) (d : GoroutineId) → n < length xs → (get_or xs n d).0 ≡ (get_or xs n e).0
+    same n d h = ap (λ (g : GoroutineId). g.0)
+        (get_or_from_slice_get xs n (get_or xs n e) d (slice_get-get_or xs n e h))
+
+    below : (j : ℕ) → j ≤ length xs → ((n : ℕ) → n + 1 ≡ j → (get_or xs n e).0 < bound)
+        → (m : ℕ) (d : GoroutineId) → m < j → (get_or xs m d).0 < bound
+    below zero l a m d h = absurd (omega (arith, h))
+    below (suc n) l a m d h =
+        let s = rising 0 xs m n d r (omega (arith, h)) (omega (arith, l)) in
+        omega (arith, s, same n d (omega (arith, l)), a n (omega arith))
 
 pub at-number : (xs : List GoroutineId) (i : ℕ) (x : GoroutineId) → i < length xs → x ≡ get_or xs i x
     → slice_get (numbers xs) i ≡ Some x.0

@@ -5,7 +5,7 @@ use Rattle.std.proofs.Common.{◌≡◌, ℕ, zero, suc, ◌+◌, ◌*◌, ◌/�
 use Rattle.std.proofs.Common.{◌++◌, length, filter, take, drop, Option, Some, ◌==◌, nat_lt, refl, sym, ap, ◌∙◌, subst}
 use Rattle.std.proofs.Common.{arith, slice_get, slice_set}
 use Rattle.std.specs.Prelude.{option_map}
-use Rattle.std.proofs.lemmas.Bool.{ltb-true}
+use Rattle.std.proofs.lemmas.Bool.{le-ltb, ltb-true}
 use Rattle.std.proofs.lemmas.List.{length-map, take-map, take_all}
 use Rattle.std.proofs.lemmas.Option.{slice_get-map}
 use Rattle.golf_theory.specs.Maps.{find, keys, Rises, AllBelow}
@@ -153,6 +153,16 @@ sides bs i g b a e h =
           (high g b.key least) (running-within (suc b.key) (2 ^ 24) (drop (suc i) bs) d n m);
     }
 
+-- no block is before the block of a number below 256
+first-block : (g : ℕ) (bs : List Block) → g < 256 → 0 ≡ rank (g / 256) (keyed_blocks bs)
+first-block g [] l = refl
+first-block g (b ∷ bs) l = sym (ap (λ t. cond t (suc (rank (g / 256) (keyed_blocks bs))) 0)
+    (le-ltb b.key (g / 256) (omega (arith, l))))
+
+pub first-sides : (bs : List Block) (g : ℕ) (b : Block) → AreBlocks 0 bs → g < 256 → slice_get bs 0 ≡ Some b
+    → Sides bs 0 g b
+first-sides bs g b a l h = sides bs 0 g b a (first-block g bs l) h
+
 -- if all blocks have smaller keys, all numbers are smaller
 pub all-under : (bs : List Block) (i g : ℕ) → AreBlocks 0 bs → i ≡ rank (g / 256) (keyed_blocks bs) → length bs ≤ i
     → AllUnder g (keys (plain_entries (places_in bs))) × AllUnder g (running_in bs)
@@ -183,6 +193,10 @@ module _ (bs : List Block) (i g : ℕ) (b : Block) (s : Sides bs i g b) where
   pub entries-split : plain_entries (places_in bs) ≡ plain_entries (places_in (take i bs))
       ++ (plain_entries b.places.items ++ plain_entries (places_in (drop (suc i) bs)))
   entries-split = ap (λ (ps : List NumberedGoroutine). plain_entries ps) split-places ∙ three-entries b.places.items
+
+  pub rises-in : Rises (g / 256 * 256) (plain_entries b.places.items)
+  rises-in = in-rises (g / 256 * 256) (b.key * 256) (b.key * 256 + 256) (plain_entries b.places.items)
+      (omega (arith, s.key)) s.block.places
 
   pub find-in : find g (plain_entries (places_in bs)) ≡ find g (plain_entries b.places.items)
   find-in = ap (find g) entries-split ∙ find-middle g (plain_entries (places_in (take i bs)))

@@ -1,9 +1,9 @@
 //! Finds goroutines by number.
 //!
-//! A search looks first at the place that the goroutine has if no block and no goroutine before it is gone.
-//! If that fails, two binary searches find it.
+//! A search looks first in the first block, if the number is below 256. Then it looks at the place that the
+//! goroutine has if no block and no goroutine before it is gone. If both fail, two binary searches find it.
 
-ghost use Rattle.std.specs.Prelude.{◌≡◌, Some, IfSome, option_map};
+ghost use Rattle.std.specs.Prelude.{◌≡◌, Some, IfSome, IsSome, option_map};
 ghost use Rattle.golf_theory.specs.Maps.{find};
 ghost use Rattle.golf_model.specs.Views.{goroutine_view};
 ghost use Rattle.golf_state_goroutines.specs.Places.{plain_entries};
@@ -50,13 +50,28 @@ pub fn place_in(blocks: &[Block], number: u32) -> (usize, usize)
     }
 }
 
-// The goroutine of a number, if `near_place` finds its place.
+/// Returns the index of the goroutine of this number in the first block, or `None`. It finds only a number
+/// below 256, and only if no goroutine before it in that block has ended.
 #[inline(always)]
-fn near_goroutine(blocks: &[Block], number: u32) -> Option<&Goroutine>
+pub fn first_index(blocks: &[Block], number: u32) -> Option<usize>
     requires { AreBlocks 0 blocks.now }
-    ensures { IfSome result (λ r. find number (plain_entries (places_in blocks.now)) ≡ Some (goroutine_view r.now)) }
+    ensures place { IfSome result (λ index. IsPlace number blocks.now 0 index) }
+    ensures there { IfSome result (λ index. IsSome (find number (plain_entries (places_in blocks.now)))) }
 {
-    let (at, index) = near_place(blocks, number)?;
+    if number >= 256 {
+        return None;
+    }
+    let block = blocks.first()?;
+    index_in(block.places.as_slice(), number)
+}
+
+// The goroutine of a number, whose place is given, or `None`.
+#[inline(always)]
+fn goroutine_at(blocks: &[Block], at: usize, index: usize, number: u32) -> Option<&Goroutine>
+    requires order { AreBlocks 0 blocks.now }
+    requires place { IsPlace number blocks.now at index }
+    ensures { option_map (λ r. goroutine_view r.now) result ≡ find number (plain_entries (places_in blocks.now)) }
+{
     let block = blocks.get(at)?;
     let place = block.places.as_slice().get(index)?;
     if place.number == number {
@@ -66,19 +81,26 @@ fn near_goroutine(blocks: &[Block], number: u32) -> Option<&Goroutine>
     }
 }
 
+// The goroutine of a number, if `first_index` or `near_place` finds its place.
+#[inline(always)]
+fn near_goroutine(blocks: &[Block], number: u32) -> Option<&Goroutine>
+    requires { AreBlocks 0 blocks.now }
+    ensures { IfSome result (λ r. find number (plain_entries (places_in blocks.now)) ≡ Some (goroutine_view r.now)) }
+{
+    if let Some(index) = first_index(blocks, number) {
+        return Some(blocks[0].places[index].goroutine.get());
+    }
+    let (at, index) = near_place(blocks, number)?;
+    goroutine_at(blocks, at, index, number)
+}
+
 // The goroutine of a number, found by two binary searches, or `None`.
 fn far_goroutine(blocks: &[Block], number: u32) -> Option<&Goroutine>
     requires { AreBlocks 0 blocks.now }
     ensures { option_map (λ r. goroutine_view r.now) result ≡ find number (plain_entries (places_in blocks.now)) }
 {
     let (at, index) = far_place(blocks, number);
-    let block = blocks.get(at)?;
-    let place = block.places.as_slice().get(index)?;
-    if place.number == number {
-        Some(place.goroutine.get())
-    } else {
-        None
-    }
+    goroutine_at(blocks, at, index, number)
 }
 
 /// Returns the goroutine of a number, or `None`.

@@ -4,8 +4,8 @@
 //! that the number has if none before it has ended.
 
 ghost use Rattle.std.specs.Prelude.{◌≡◌, ◌≤◌, ◌*◌, ◌/◌, ◌++◌, ◌==◌, not, filter, map, length, vec_capacity, IfOk};
-ghost use Rattle.std.specs.Prelude.{IfSome};
-ghost use Rattle.golf_theory.specs.Maps.{keys, Rises};
+ghost use Rattle.std.specs.Prelude.{IfSome, IsSome};
+ghost use Rattle.golf_theory.specs.Maps.{find, keys, Rises};
 ghost use Rattle.golf_heap.specs.Objects.{rank};
 ghost use Rattle.golf_data.specs.declared.goroutine.Mode.{Mode};
 ghost use Rattle.golf_model.specs.Views.{frame_views, goroutine_view};
@@ -50,7 +50,8 @@ pub fn place_of(
 #[inline(always)]
 pub fn index_in(places: &[NumberedGoroutine], number: u32) -> Option<usize>
     requires { Rises (number / 256 * 256) (plain_entries places.now) }
-    ensures { IfSome result (λ at. at ≡ rank number (plain_entries places.now)) }
+    ensures place { IfSome result (λ at. at ≡ rank number (plain_entries places.now)) }
+    ensures there { IfSome result (λ at. IsSome (find number (plain_entries places.now))) }
 {
     let index = (number % 256) as usize;
     let place = places.get(index)?;

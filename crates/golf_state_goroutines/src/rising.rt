@@ -9,13 +9,21 @@ ghost use Rattle.golf_state_goroutines.specs.Rising.{RisesFrom, leading};
 
 use golf_base::GoroutineId;
 
-// How many numbers come before the first one that is not below the bound.
+// How many numbers come before the first one that is not below the bound. It looks at the last two numbers
+// first, so a list of one or two needs no search.
 #[inline(always)]
 fn leading(goroutines: &[GoroutineId], bound: u64) -> usize
     requires { RisesFrom 0 (map (λ h. h.0) goroutines.now) }
     ensures place { result ≡ leading bound (map (λ h. h.0) goroutines.now) }
     ensures within { result ≤ length goroutines.now }
 {
+    let count = goroutines.len();
+    if count == 0 || u64::from(goroutines[count - 1].0) < bound {
+        return count;
+    }
+    if count == 1 || u64::from(goroutines[count - 2].0) < bound {
+        return count - 1;
+    }
     goroutines.partition_point(|other| u64::from(other.0) < bound)
 }
 

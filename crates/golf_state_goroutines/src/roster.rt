@@ -15,7 +15,7 @@ ghost use Rattle.golf_state_goroutines.specs.Lending.{LendsGoroutine};
 
 use crate::blocks::{Block, block_of, join, part, start, stop};
 use crate::counting::{count_places, count_running};
-use crate::finding::{goroutine_in, place_in};
+use crate::finding::{first_index, goroutine_in, place_in};
 use crate::opening::{close_blocks, open};
 use crate::places::NumberedGoroutine;
 use crate::retaining::retain_places;
@@ -113,10 +113,13 @@ impl Roster {
         ensures* writes_back { sem 𝓛 (LendsGoroutine self.entry number result) }
         ensures here { slice_get self.old.places (rank number (plain_entries self.old.places)) ≡ Some (record { number = number; goroutine = result.now }) }
     {
-        let (at, index) = place_in(self.blocks.as_slice(), number);
-        let block = &mut self.blocks[at];
-        let place = &mut block.places[index];
-        place.goroutine.get_mut()
+        match first_index(self.blocks.as_slice(), number) {
+            Some(index) => self.blocks[0].places[index].goroutine.get_mut(),
+            None => {
+                let (at, index) = place_in(self.blocks.as_slice(), number);
+                self.blocks[at].places[index].goroutine.get_mut()
+            }
+        }
     }
 
     /// Returns the blocks of the goroutines, in rising order of number.

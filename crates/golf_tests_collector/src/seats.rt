@@ -1,4 +1,4 @@
-//! Tests of the seats of mark words: their claims and looks.
+//! Tests of the seats of mark words: their claims and looks, and of batches of places.
 
 ghost use Rattle.std.specs.Prelude.{◌≡◌, ◌<◌, ◌∷◌, [], length, IfOk};
 ghost use Rattle.golf_theory.specs.Membership.{Every, In};
@@ -6,7 +6,7 @@ ghost use Rattle.golf_marks.specs.Places.{place_count};
 ghost use Rattle.golf_marks.specs.Seats.{graph_in, part_count, seat_count, IsSeatOf, IsSameSeat, IsNewSeatOf};
 
 use golf_base::{List, Memory};
-use golf_marks::{MarkSeat, Marks};
+use golf_marks::{Batch, MarkSeat, Marks};
 use golf_model::{Graph, Marked};
 use golf_tests_support::{GraphFault, GraphMaker};
 use std::alloc::Global;
@@ -47,6 +47,16 @@ fn both(alloc: Global, first: MarkSeat, second: MarkSeat) -> Result<List<MarkSea
     Ok(seats)
 }
 
+// Claims a root, and returns whether this set its bit.
+fn claims(marks: &Marks, seat: &mut MarkSeat, root: u32) -> bool
+    requires seat { IsSeatOf marks.now seat.old }
+    requires place { root < place_count (graph_in marks.now) }
+    requires root { In root (graph_in marks.now).roots }
+    ensures { IsSameSeat seat.old seat.new }
+{
+    !marks.claim(seat, &Batch::of(root)).is_empty()
+}
+
 // The first seat claims place 0. Then the second seat looks at both places, and claims place 0.
 fn look(marks: &Marks, first: &mut MarkSeat, second: &mut MarkSeat) -> [bool; 4]
     requires first { IsSeatOf marks.now first.old }
@@ -56,14 +66,14 @@ fn look(marks: &Marks, first: &mut MarkSeat, second: &mut MarkSeat) -> [bool; 4]
     ensures first { IsSameSeat first.old first.new }
     ensures second { IsSameSeat second.old second.new }
 {
-    let claimed = marks.claim(first, 0);
+    let claimed = claims(marks, first, 0);
     let sees_first = marks.is_marked(second, 0);
     let sees_second = marks.is_marked(second, 1);
-    let claimed_again = marks.claim(second, 0);
+    let claimed_again = claims(marks, second, 0);
     [claimed, sees_first, sees_second, claimed_again]
 }
 
-// The first seat claims place 0. Then the second seat glances at both places.
+// The first seat claims place 0. Then the second seat glances at both places: which are not marked?
 fn glance(marks: &Marks, first: &mut MarkSeat, second: &mut MarkSeat) -> [bool; 2]
     requires first { IsSeatOf marks.now first.old }
     requires second { IsSeatOf marks.now second.old }
@@ -72,10 +82,10 @@ fn glance(marks: &Marks, first: &mut MarkSeat, second: &mut MarkSeat) -> [bool; 
     ensures first { IsSameSeat first.old first.new }
     ensures second { IsSameSeat second.old second.new }
 {
-    let _claimed = marks.claim(first, 0);
-    let sees_first = marks.glance(second, 0);
-    let sees_second = marks.glance(second, 1);
-    [sees_first, sees_second]
+    let _claimed = marks.claim(first, &Batch::of(0));
+    let first_is_left = !marks.glance(second, &Batch::of(0)).is_empty();
+    let second_is_left = !marks.glance(second, &Batch::of(1)).is_empty();
+    [first_is_left, second_is_left]
 }
 
 // Whether exactly these places are flagged, in this order, and no sleeper is awake.
@@ -107,9 +117,9 @@ fn a_seat_sees_what_another_one_claimed(rt: HostRuntime) -> Result<(), Fail> {
 fn a_glance_sees_what_another_seat_claimed(rt: HostRuntime) -> Result<(), Fail> {
     let alloc = rt.alloc();
     let (marks, mut first, mut second) = two_seats(alloc)?;
-    let seen = glance(&marks, &mut first, &mut second);
+    let left = glance(&marks, &mut first, &mut second);
     let ended = ends_so(marks, both(alloc, first, second)?, &[true, false], &[0]);
-    assert!(rt; ended && seen == [true, false]);
+    assert!(rt; ended && left == [false, true]);
     Ok(())
 }
 
@@ -125,10 +135,42 @@ fn only(alloc: Global, seat: MarkSeat) -> Result<List<MarkSeat>, Memory>
 fn a_joined_seat_stands_for_both(rt: HostRuntime) -> Result<(), Fail> {
     let alloc = rt.alloc();
     let (marks, mut first, mut second) = two_seats(alloc)?;
-    let claimed = marks.claim(&mut second, 1);
+    let claimed = claims(&marks, &mut second, 1);
     marks.join(&mut first, second);
     let known = marks.is_marked(&mut first, 1);
     let ended = ends_so(marks, only(alloc, first)?, &[false, true], &[1]);
     assert!(rt; ended && claimed && known);
+    Ok(())
+}
+
+// Whether a batch gives the places 128, 130 and 191, which are added in another order, in rising order, and
+// then none.
+fn gives_in_order() -> bool {
+    let mut batch = Batch::of(130);
+    batch.insert(191);
+    batch.insert(128);
+    let first = batch.pop() == Some(128) && batch.pop() == Some(130);
+    first && !batch.is_empty() && batch.pop() == Some(191) && batch.pop().is_none()
+}
+
+// Whether a batch knows the places of its word, and gives only what is added after it moved to another word.
+fn moves_on() -> bool {
+    let mut batch = Batch::of(63);
+    let here = batch.is_beside(0) && !batch.is_beside(64);
+    batch.renew(64);
+    let empty = batch.is_empty();
+    batch.insert(127);
+    here && empty && batch.pop() == Some(127) && batch.is_empty()
+}
+
+#[test]
+fn a_batch_gives_its_places_in_rising_order(rt: HostRuntime) -> Result<(), Fail> {
+    assert!(rt; gives_in_order());
+    Ok(())
+}
+
+#[test]
+fn a_batch_that_moves_on_has_only_what_is_added_after(rt: HostRuntime) -> Result<(), Fail> {
+    assert!(rt; moves_on());
     Ok(())
 }

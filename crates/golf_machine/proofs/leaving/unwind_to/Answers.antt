@@ -3,6 +3,5 @@ use Rattle.golf_machine.proofs.Frames.{unwinds-last}
 use Rattle.golf_machine.proofs.leaving.unwind_to.Goals as goal
 
 pub returns : goal.returns
-returns c = λ line.
-    unwinds-last c.args.g.0 c.requires.0 c.args.state.now c.requires.1 line c.args.fault c.end.new.state
-    c.finish.new.self (omega (arith, c.if-depth-gt1.false, c.depth.ensures)) (c.end.ensures line) c.finish.ensures
+returns c = λ line. unwinds-last c.requires.1 line c.args.fault c.end.new.state c.finish.new.self (omega arith)
+    (c.end.ensures line) c.finish.ensures

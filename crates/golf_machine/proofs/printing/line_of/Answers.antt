@@ -1,8 +1,8 @@
-use Rattle.std.proofs.Common.{◌≡◌, ℕ, ◌+◌, List, [], ◌∷◌, ◌++◌, get_or, pos, sym, ap, ◌∙◌, subst}
+use Rattle.std.proofs.Common.{ℕ, List, ◌++◌, get_or, pos, ap, ◌∙◌}
 use Rattle.std.proofs.lemmas.List.{get_or_default}
 use Rattle.golf_data.specs.declared.value.Value.{Value}
 use Rattle.golf_model.specs.Values.{bytes_of}
-use Rattle.golf_machine.proofs.Lines.{IsPrinted, printed_first, printed_later, was_added}
+use Rattle.golf_machine.proofs.Lines.{printed_first, printed_later, was_added}
 use Rattle.golf_machine.proofs.printing.line_of.Goals as goal
 use Rattle.golf_machine.proofs.printing.line_of.Goals.{then-i-gt0+in_ok-push, else-i-gt0}
 
@@ -17,15 +17,11 @@ loop-i-preserved c =
     c.if-not-branch.false c.in_ok-add_value.ensures in
     elim c.if-i-gt0.branch [
       | then-i-gt0+in_ok-push w ↦
-          let is : c.add_value.new.text ≡ (c.loop-i.text ++ 32 ∷ []) ++ added.0 = added.2
-          ∙ ap (λ (t : List ℕ). t ++ added.0) (w.text-is ∙ w.in_ok-push.ensures.ok) in
-          subst (λ (t : List ℕ). IsPrinted texts values (i + 1) t) (sym is)
-          (printed_later texts values i v c.loop-i.text added.0 w.if-i-gt0.true c.loop-i-test.true here added.1
+          let is = added.2 ∙ ap (λ (t : List ℕ). t ++ added.0) (w.text-is ∙ w.in_ok-push.ensures.ok) in
+          rw is (printed_later texts values i v c.loop-i.text added.0 w.if-i-gt0.true c.loop-i-test.true here added.1
           c.loop-i.invariant)
       | else-i-gt0 w ↦
-          let is : c.add_value.new.text ≡ c.loop-i.text ++ added.0 = added.2
-          ∙ ap (λ (t : List ℕ). t ++ added.0) w.text-is in
-          subst (λ (t : List ℕ). IsPrinted texts values (i + 1) t) (sym is)
-          (printed_first texts values i v c.loop-i.text added.0 w.if-i-gt0.false c.loop-i-test.true here added.1
+          let is = added.2 ∙ ap (λ (t : List ℕ). t ++ added.0) w.text-is in
+          rw is (printed_first texts values i v c.loop-i.text added.0 w.if-i-gt0.false c.loop-i-test.true here added.1
           c.loop-i.invariant)
     ]

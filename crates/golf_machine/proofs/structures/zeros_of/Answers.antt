@@ -1,4 +1,4 @@
-use Rattle.std.proofs.Common.{◌∷◌, ◌++◌, [], get_or, pos, ap, ◌∙◌}
+use Rattle.std.proofs.Common.{get_or, pos}
 use Rattle.std.proofs.lemmas.List.{get_or_default}
 use Rattle.golf_data.specs.declared.value.Value.{Value}
 use Rattle.golf_machine.proofs.Lines.{zeros_more}
@@ -10,5 +10,5 @@ loop-value-preserved c =
     let i = c.loop-value.value-index in
     let v : Value = get_or values i (Value.Int (pos 0)) in
     let here = get_or_default values i (Value.Int (pos 0)) v c.loop-value-test.true in
-    c.in_ok-push.ensures.ok ∙ ap (λ (z : Value). c.loop-value.zeros ++ z ∷ []) c.zero_of.ensures
-    ∙ zeros_more values i v c.loop-value.zeros c.loop-value-test.true here c.loop-value.invariant
+    rw (c.in_ok-push.ensures.ok, c.zero_of.ensures)
+    (zeros_more values i v c.loop-value.zeros c.loop-value-test.true here c.loop-value.invariant)

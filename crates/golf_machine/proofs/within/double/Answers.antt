@@ -2,12 +2,12 @@ use Rattle.std.proofs.Common.{true}
 use Rattle.std.proofs.lemmas.Result.{IfOk-weaker}
 use Rattle.golf_model.specs.Calculating.{pushes, doubles}
 use Rattle.golf_model.specs.Views.{frame_view}
-use Rattle.golf_machine.proofs.Inner.{done-same, doubles-pushes}
+use Rattle.golf_machine.proofs.Inner.{done-same}
+use Rattle.golf_machine.proofs.Turns.{first-is}
 use Rattle.golf_machine.proofs.within.double.Goals as goal
 
 pub returns-in-Some-clause-ok : goal.returns-in-Some-clause-ok
 returns-in-Some-clause-ok c =
     IfOk-weaker c.push.result _ _
-    (λ came d. done-same true came (λ a. pushes a c.in-Some.value) doubles (frame_view c.args.frame.now) _
-    (doubles-pushes (frame_view c.args.frame.now) c.in-Some.value c.in-Some.ensures) d)
-    c.push.ensures.ok
+    (λ came d. done-same true came (λ a. pushes a c.in-Some.value) doubles
+    (frame_view c.args.frame.now) _ (λ g r callers line. rw (first-is _ _ c.in-Some.ensures)) d) c.push.ensures.ok

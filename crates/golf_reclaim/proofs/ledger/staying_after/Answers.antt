@@ -1,18 +1,11 @@
-use Rattle.std.proofs.Common.{List, ◌++◌, filter, not, ap, ◌∙◌}
 use Rattle.std.proofs.lemmas.List.Sorted.{IsNonDecreasingBy-from_sort}
 use Rattle.golf_base.specs.declared.ids.GoroutineId.{GoroutineId}
-use Rattle.golf_theory.specs.Membership.{is_in}
-use Rattle.golf_model.specs.Reporting.{numbers}
 use Rattle.golf_reclaim.proofs.Noting.{staying-among}
 use Rattle.golf_reclaim.proofs.ledger.staying_after.Goals as goal
 
 pub returns-clause-members : goal.returns-clause-members
-returns-clause-members c = λ n.
-    let gone = c.args.gone.now in
-    staying-among c.args.staying.now c.args.new.now gone n
-    (c.in_ok-add_unlisted.ensures ∙ ap (λ (l : List GoroutineId). l
-    ++ filter (λ (g : GoroutineId). not (is_in g.0 (numbers gone))) c.args.staying.now) c.new-after.ensures.items)
-    c.in_ok-add_unlisted-2.ensures
+returns-clause-members c = λ n. staying-among c.args.staying.now c.args.new.now c.args.gone.now n
+    (rw c.new-after.ensures.items at c.in_ok-add_unlisted.ensures) c.in_ok-add_unlisted-2.ensures
     c.sort.ensures.permutation
 
 pub returns-clause-rises : goal.returns-clause-rises

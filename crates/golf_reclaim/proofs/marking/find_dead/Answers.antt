@@ -1,40 +1,37 @@
-use Rattle.std.proofs.Common.{Bool, List, map, subst, ap, ◌∙◌}
-use Rattle.golf_model.specs.declared.graph.GraphParts.{GraphParts}
-use Rattle.golf_model.specs.Sleepers.{Sleeper}
-use Rattle.golf_model.specs.Reporting.{numbers}
 use Rattle.golf_mark.specs.Marking.{MarksLeast}
-use Rattle.golf_heap.specs.Objects.{left_out}
-use Rattle.golf_reclaim.specs.Flags.{count_set, IsUnkept}
+use Rattle.golf_snapshot.specs.Parts.{live_parts}
 use Rattle.golf_reclaim.proofs.Translating.{live-count, dead-flags}
 use Rattle.golf_reclaim.proofs.Gone.{removed-are}
+use Rattle.golf_reclaim.proofs.Reports.{fewer-gone}
+use Rattle.golf_reclaim.proofs.Rising.{gone-rise}
+use Rattle.golf_reclaim.proofs.marking.find_dead.Given.{Over}
+use Rattle.golf_reclaim.proofs.marking.find_dead.Goals.{In_ok-gone}
 use Rattle.golf_reclaim.proofs.marking.find_dead.Goals as goal
 
+marks : (g : Over) (c : In_ok-gone g) → MarksLeast (live_parts c.args.state.now) c.in_ok-marked.marked
+marks g c = rw c.in_ok-live.ensures.graph at c.in_ok-marked.ensures
+
 pub returns-clause-objects : goal.returns-clause-objects
-returns-clause-objects g c =
-    let m = c.in_ok-marked.marked in
-    c.count_set-objects.ensures ∙ ap count_set c.as_slice.ensures
-    ∙ live-count c.args.state.now c.in_ok-live.ensures.numbered c.requires.whole m
-    (subst (λ (p : GraphParts). MarksLeast p m) c.in_ok-live.ensures.graph c.in_ok-marked.ensures)
+returns-clause-objects g c = rw (c.count_set-objects.ensures, c.as_slice.ensures)
+    (live-count c.args.state.now c.in_ok-live.ensures.numbered c.requires.whole _
+    (marks g (goal.at.returns-clause-objects g c).In_ok-gone))
 
 pub returns-clause-dead : goal.returns-clause-dead
 returns-clause-dead g c =
-    let m = c.in_ok-marked.marked in
-    ap numbers
-    (c.in_ok-dead.ensures.goroutines
-    ∙ ap (λ (l : List Bool). left_out l (map (λ (x : Sleeper). x.goroutine) c.in_ok-live.live.sleepers))
-    c.as_slice-2.ensures
-    ∙ ap (λ (p : GraphParts). left_out m.awake (map (λ (x : Sleeper). x.goroutine) p.sleepers))
-    c.in_ok-live.ensures.graph)
-    ∙ dead-flags c.args.state.now c.in_ok-live.ensures.numbered c.requires.whole m
-    (subst (λ (p : GraphParts). MarksLeast p m) c.in_ok-live.ensures.graph c.in_ok-marked.ensures)
+    rw (c.in_ok-dead.ensures.goroutines, c.as_slice-2.ensures, c.in_ok-live.ensures.graph)
+    (dead-flags c.args.state.now c.in_ok-live.ensures.numbered c.requires.whole _
+    (marks g (goal.at.returns-clause-dead g c).In_ok-gone))
 
 pub returns-clause-gone : goal.returns-clause-gone
 returns-clause-gone g c =
-    let m = c.in_ok-marked.marked in
-    let recover : Bool = c.args.options.recover in
-    let sets : Bool = c.args.options.sets_finalisers in
-    removed-are c.args.state.now c.in_ok-live.ensures.numbered c.requires.whole sets m
-    (subst (λ (p : GraphParts). MarksLeast p m) c.in_ok-live.ensures.graph c.in_ok-marked.ensures) recover
-    c.in_ok-gone.gone
-    (subst (λ (p : GraphParts). IsUnkept recover sets p m c.in_ok-gone.gone) c.in_ok-live.ensures.graph
-    c.in_ok-gone.ensures)
+    removed-are c.args.state.now c.in_ok-live.ensures.numbered c.requires.whole c.args.options.sets_finalisers _
+    (marks g (goal.at.returns-clause-gone g c).In_ok-gone) c.args.options.recover _
+    (rw c.in_ok-live.ensures.graph at c.in_ok-gone.ensures)
+
+pub returns-clause-rises : goal.returns-clause-rises
+returns-clause-rises g c = gone-rise c.args.state.now c.in_ok-live.ensures.numbered.goroutines_rise _ _
+    (returns-clause-dead g c) c.args.options.recover c.args.options.sets_finalisers (returns-clause-gone g c)
+
+pub returns-clause-fewer : goal.returns-clause-fewer
+returns-clause-fewer g c = fewer-gone c.args.state.now c.args.options.recover c.args.options.sets_finalisers _ _
+    (returns-clause-dead g c) (returns-clause-gone g c)

@@ -1,12 +1,11 @@
-use Rattle.std.proofs.Common.{◌≡◌, ◌+◌, ◌*◌, ◌/◌, List, Some, sym, ap, ◌∙◌, subst, arith, slice_get}
+use Rattle.std.proofs.Common.{◌≡◌, ◌*◌, ◌/◌, List, Some, sym, ap, ◌∙◌, subst, slice_get}
 use Rattle.golf_theory.specs.Maps.{Rises}
 use Rattle.golf_heap.specs.Objects.{rank}
 use Rattle.golf_heap.proofs.Finding.{item-at, no_item-at}
 use Rattle.golf_state_goroutines.specs.Places.{plain_entries}
 use Rattle.golf_state_goroutines.specs.declared.blocks.Block.{Block}
 use Rattle.golf_state_goroutines.specs.declared.places.NumberedGoroutine.{NumberedGoroutine}
-use Rattle.golf_state_goroutines.proofs.Ranges.{in-rises}
-use Rattle.golf_state_goroutines.proofs.Splits.{Sides, sides}
+use Rattle.golf_state_goroutines.proofs.Splits.{Sides, sides, rises-in}
 use Rattle.golf_state_goroutines.proofs.Readings.{same-item}
 use Rattle.golf_state_goroutines.proofs.finding.far_place.Goals as goal
 
@@ -19,8 +18,7 @@ rank_of-requires c =
     let here : slice_get bs i ≡ Some b = item-at bs i c.in-Some.block c.in-Some.ensures.lookup in
     let s : Sides bs i g b = sides bs i g b c.requires c.block_of-at.ensures here in
     subst (λ (ps : List NumberedGoroutine). Rises (g / 256 * 256) (plain_entries ps)) (sym c.as_slice.ensures.value)
-    (in-rises (g / 256 * 256) (b.key * 256) (b.key * 256 + 256) (plain_entries b.places.items)
-    (omega (arith, s.key)) s.block.places)
+    (rises-in bs i g b s)
 
 pub returns-in-Some : goal.returns-in-Some
 returns-in-Some c =

@@ -1,17 +1,20 @@
-use Rattle.std.proofs.Common.{Some, sym, ap, ◌∙◌}
+use Rattle.std.proofs.Common.{Some, get_or, sym, ap, ◌∙◌, arith}
 use Rattle.golf_data.specs.declared.goroutine.Goroutine.{Goroutine}
-use Rattle.golf_heap.proofs.Finding.{item-at}
 use Rattle.golf_model.specs.Views.{goroutine_view}
-use Rattle.golf_state_goroutines.proofs.Found.{found}
+use Rattle.golf_state_goroutines.proofs.Present.{place-within, found-goroutine}
 use Rattle.golf_state_goroutines.proofs.finding.near_goroutine.Goals as goal
 
-pub returns-then-place-number : goal.returns-then-place-number
-returns-then-place-number c =
+pub index-requires : goal.index-requires
+index-requires c =
     let bs = c.args.blocks.now in
-    let i = c.in_ok-at.at in
-    let j = c.in_ok-at.index in
-    let ps = c.as_slice.result.now in
-    let here = item-at bs i c.in_ok-block.block c.in_ok-block.ensures.lookup in
-    found bs i j c.args.number c.in_ok-block.block.now ps c.requires c.in_ok-at.ensures here c.as_slice.ensures.value
-    c.in_ok-place.place.now (item-at ps j c.in_ok-place.place c.in_ok-place.ensures.lookup) c.if-place-number.true
-    ∙ sym (ap (λ (r : Goroutine). Some (goroutine_view r)) c.get-then-place-number.ensures)
+    let b = get_or bs 0 c.index-blocks-0.result in
+    let low = place-within bs 0 c.in-Some.index c.args.number c.requires c.in-Some.ensures.place c.in-Some.ensures.there
+    b (ap (get_or bs 0) c.index-blocks-0.is) in
+    omega (arith, low, b.places.ok.0)
+
+pub returns-in-Some : goal.returns-in-Some
+returns-in-Some c =
+    let bs = c.args.blocks.now in
+    found-goroutine bs 0 c.in-Some.index c.args.number c.requires c.in-Some.ensures.place c.in-Some.ensures.there
+    (get_or bs 0 c.index-blocks-0.result) (ap (get_or bs 0) c.index-blocks-0.is) c.index.result.now c.index.ensures
+    ∙ ap (λ (w : Goroutine). Some (goroutine_view w)) (sym c.get.ensures)
