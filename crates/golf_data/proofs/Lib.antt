@@ -1,4 +1,3 @@
 pub mod Masks
-pub mod Rebuilt
 pub mod Equal
 pub mod Clears

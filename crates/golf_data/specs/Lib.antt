@@ -1,7 +1,6 @@
 pub mod Effects
 pub mod Fatal
 pub mod Masks
-pub mod Parts
 pub mod Places
 pub mod Slots
 pub mod Zeros

@@ -6,7 +6,7 @@ use golf_base::List;
 
 /// An instruction. Operands lie on a stack, the last one on top. `a, b -> c` says what it takes and what it leaves.
 /// Slots, globals, functions, texts and fields are named by their places.
-#[derive(Debug, Drop)]
+#[derive(Debug, Drop, PartialEq)]
 pub enum Instr {
     /// `-> n`
     Int(i64),
@@ -156,7 +156,7 @@ pub enum CaseKind {
 }
 
 /// An instruction with the line of its statement or declaration, from 1.
-#[derive(Debug, Drop)]
+#[derive(Debug, Drop, PartialEq)]
 pub struct CodeLine {
     pub instr: Instr,
     pub line: u32,

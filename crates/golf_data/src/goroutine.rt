@@ -83,24 +83,15 @@ impl PanicKind {
     pub fn is_fatal(self) -> bool
         ensures { result ≡ is_fatal self }
     {
-        match self {
-            PanicKind::UnlockUnlocked => true,
-            PanicKind::UnlockUnlockedRw => true,
-            PanicKind::RUnlockUnlocked => true,
-            PanicKind::ReaderLimit => true,
-            PanicKind::FinalizerSet => true,
-            PanicKind::StackOverflow => true,
-            PanicKind::Custom(_) => false,
-            PanicKind::NilPointer => false,
-            PanicKind::Index { .. } => false,
-            PanicKind::DivideByZero => false,
-            PanicKind::SliceSize => false,
-            PanicKind::ChanSize => false,
-            PanicKind::SendClosed => false,
-            PanicKind::CloseClosed => false,
-            PanicKind::CloseNil => false,
-            PanicKind::NegativeGroup => false,
-        }
+        matches!(
+            self,
+            PanicKind::UnlockUnlocked
+                | PanicKind::UnlockUnlockedRw
+                | PanicKind::RUnlockUnlocked
+                | PanicKind::ReaderLimit
+                | PanicKind::FinalizerSet
+                | PanicKind::StackOverflow
+        )
     }
 }
 

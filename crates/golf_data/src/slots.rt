@@ -39,6 +39,7 @@ impl Model for Slots {
 }
 
 // Returns the word whose bits from n on are set.
+#[tactic(auto, using(crate::proofs::Masks::from_place))]
 fn ones_from(n: usize) -> u64
     ensures { (i : ℕ) → i < 64 → has_bit result i ≡ true → n ≤ i }
 {
@@ -46,6 +47,7 @@ fn ones_from(n: usize) -> u64
 }
 
 // Returns the word with this bit cleared.
+#[tactic(auto, using(crate::proofs::Masks::without_others, crate::proofs::Masks::without_own))]
 fn without(word: u64, at: usize) -> u64
     requires { at < 64 }
     ensures others { (i : ℕ) → i < 64 → (i ≡ at → ⊥) → has_bit result i ≡ has_bit word i }
@@ -53,15 +55,6 @@ fn without(word: u64, at: usize) -> u64
     ensures at_most { result ≤ word }
 {
     word & !(1 << at)
-}
-
-// Returns the place of the lowest set bit.
-fn lowest(word: u64) -> usize
-    requires { 0 < word }
-    ensures low { result < 64 }
-    ensures bit { has_bit word result ≡ true }
-{
-    word.trailing_zeros() as usize
 }
 
 // Stores 0 in the slot of this place, if it exists.
@@ -74,23 +67,15 @@ fn clear_one(values: &mut List<Value>, at: usize)
 }
 
 // Stores 0 in the slots whose bits are set, from the lowest bit to the highest.
+#[tactic(auto, using(crate::proofs::Clears::by_bits))]
 fn clear_bits(values: &mut List<Value>, dead: u64)
     ensures { values.new ≡ cleared_slots (stays_but dead) values.old }
 {
     let mut left = dead;
     while left != 0 {
-        let at = lowest(left);
+        let at = left.trailing_zeros() as usize;
         clear_one(values, at);
         left = without(left, at);
-    }
-}
-
-// Stores 0 in all slots.
-fn clear_values(values: &mut List<Value>)
-    ensures { values.new ≡ cleared_slots (λ i. false) values.old }
-{
-    for at in 0..values.len() {
-        values.set(at, Value::Int(0));
     }
 }
 
@@ -138,6 +123,7 @@ impl Slots {
     }
 
     /// Stores 0 in each slot whose bit of the mask is 0. Slots from 64 on stay the same.
+    #[tactic(auto, using(crate::proofs::Clears::under_mask))]
     pub fn clear_under(&mut self, mask: u64)
         ensures { self.new ≡ cleared_slots (stays_under (Some mask)) self.old }
     {
@@ -149,13 +135,16 @@ impl Slots {
     }
 
     /// Stores 0 in all slots. It does nothing if they are known to hold 0.
+    #[tactic(auto, using(crate::proofs::Clears::all_zero, crate::proofs::Clears::by_places))]
     pub fn clear_all(&mut self)
         ensures { self.new ≡ cleared_slots (λ i. false) self.old }
     {
         if self.is_cleared {
             return;
         }
-        clear_values(&mut self.values);
+        for at in 0..self.values.len() {
+            self.values.set(at, Value::Int(0));
+        }
         self.zeros = u64::MAX;
         self.is_cleared = true;
     }

@@ -1,4 +1,4 @@
-use Rattle.std.proofs.Common.{◌≡◌, ℕ, ◌<◌, true}
+use Rattle.std.proofs.Common.{◌≡◌, ℕ, ◌<◌, ◌≤◌, true}
 use Rattle.golf_data.specs.Masks.{has_bit}
 use Rattle.golf_data.specs.Slots.{cleared_slots}
 use Rattle.golf_data.specs.Zeros.{stays_yet}
@@ -7,6 +7,7 @@ use Rattle.golf_data.proofs.slots.clear_bits.Given as goal
 abbrev pub invariant-loop-left : goal.invariant-loop-left
 invariant-loop-left l = record {
   values : l.values ≡ cleared_slots (stays_yet l.dead l.left) l.initial.values;
+  within : l.left ≤ l.dead;
   among : (i : ℕ) → i < 64 → has_bit l.left i ≡ true → has_bit l.dead i ≡ true;
 }
 
