@@ -1,95 +1,104 @@
 #!/usr/bin/env python3
-"""What the gate costs: runs a command, by default `rt ci`, at the top of the repository, and prints the minutes of
-processor that each crate took for its proof, its tests and its must-fail edits, and the longest path of crates that
-depend on each other.
+"""Prints what the gate costs: the minutes of processor that each crate took, and the longest path.
 
-    bench/gate.py [COMMAND ..]      the command's own output goes to gate.log in the folder for temporary files
+It runs a command, by default `rt ci`, at the top of the repository. It prints a table of what each crate took for its
+proof, its tests and its must-fail edits, and then the longest path of crates that depend on each other. The command's
+own output goes to gate.log in the folder for temporary files.
 
-A kit whose `rt ci` takes over what it has proved before has `rt ci --anew`, which proves all from nothing: give it as the command.
+A kit whose `rt ci` takes over what it has proved before has `rt ci --anew`, which proves all from nothing: give it as
+the command, as the last words.
 """
+
+import argparse
 import os
 import re
 import subprocess
 import sys
 import tempfile
 import time
+from pathlib import Path
+
+from shared import ROOT, Words, crates
 
 MARK = f"GATE_OF={os.getpid()}"
 TICK = os.sysconf("SC_CLK_TCK")
-LOG = os.path.join(tempfile.gettempdir(), "gate.log")
+LOG = Path(tempfile.gettempdir()) / "gate.log"
+PHASES = ("proof", "tests", "edits")
+
+
+def check_of(pid):
+    """Returns the key of a process and its crate, phase and seconds so far, or None if it is no check of this run."""
+    place = Path("/proc") / pid
+    words = (place / "cmdline").read_text(encoding="utf-8", errors="replace").split("\0")
+    if "--crate-name" not in words:
+        return None
+    fields = (place / "stat").read_text(encoding="utf-8", errors="replace").rpartition(")")[2].split()
+    folder = os.readlink(place / "cwd")
+    if MARK.encode() not in (place / "environ").read_bytes().split(b"\0"):
+        return None
+    if "/rt-edit-" in folder:
+        phase = "edits"
+    else:
+        phase = "tests" if "--test" in words or any(word.endswith("_tests.o") for word in words) else "proof"
+    crate = words[words.index("--crate-name") + 1]
+    return (pid, fields[19]), (crate, phase, (int(fields[11]) + int(fields[12])) / TICK)
 
 
 def look(seen):
-    """Notes the processor time so far of each check of this run, by process."""
+    """Notes the processor time so far of each check of this run."""
     for pid in filter(str.isdigit, os.listdir("/proc")):
         try:
-            with open(f"/proc/{pid}/cmdline", encoding="utf-8", errors="replace") as file:
-                words = file.read().split("\0")
-            if "--crate-name" not in words:
-                continue
-            with open(f"/proc/{pid}/stat", encoding="utf-8", errors="replace") as file:
-                fields = file.read().rpartition(")")[2].split()
-            place = os.readlink(f"/proc/{pid}/cwd")
-            with open(f"/proc/{pid}/environ", "rb") as file:
-                if MARK.encode() not in file.read().split(b"\0"):
-                    continue
+            found = check_of(pid)
         except (OSError, ValueError):
             continue
-        crate = words[words.index("--crate-name") + 1]
-        if "/rt-edit-" in place:
-            phase = "edits"
-        elif "--test" in words or any(word.endswith("_tests.o") for word in words):
-            phase = "tests"
-        else:
-            phase = "proof"
-        seen[pid, fields[19]] = (crate, phase, (int(fields[11]) + int(fields[12])) / TICK)
+        if found:
+            seen[found[0]] = found[1]
 
 
-def uses():
-    """The crates that each crate names, by crates.txt."""
-    with open("crates.txt", encoding="utf-8") as file:
-        lines = [line.split("#")[0].strip() for line in file]
-    named = {}
-    for line in filter(None, lines):
-        head, _, below = line.partition(":")
-        named[head.split()[0]] = below.split()
-    return named
-
-
-def main():
-    command = sys.argv[1:] or ["rt", "ci"]
-    seen, began = {}, time.time()
-    with open(LOG, "w", encoding="utf-8") as log:
+def times_of(command):
+    """Runs the command, and returns its status and for each crate the seconds of its phases."""
+    seen = {}
+    with LOG.open("w", encoding="utf-8") as log:
         environment = dict(os.environ, GATE_OF=str(os.getpid()))
-        run = subprocess.Popen(command, stdout=log, stderr=subprocess.STDOUT, env=environment)
+        run = subprocess.Popen(command, stdout=log, stderr=subprocess.STDOUT, env=environment, cwd=ROOT)
         while run.poll() is None:
             look(seen)
             time.sleep(0.4)
     took = {}
     for crate, phase, seconds in seen.values():
-        took.setdefault(crate, {"proof": 0, "tests": 0, "edits": 0})[phase] += seconds
-    named = uses()
+        took.setdefault(crate, dict.fromkeys(PHASES, 0))[phase] += seconds
+    return run.returncode, took
+
+
+def row(name, parts):
+    """Returns a row of the table, of seconds."""
+    return f"| {name} | " + " | ".join(f"{it / 60:.1f}" for it in [*parts, sum(parts)]) + " |"
+
+
+def longest_path(took):
+    """Returns the seconds of the longest path of proofs, and its crates."""
     path = {}
+    for name, crate in crates().items():
+        before, way = max((path[it] for it in crate.uses if it in path), default=(0, []))
+        path[name] = (before + took.get(name, {}).get("proof", 0), [*way, name])
+    return max(path.values())
 
-    def longest(crate):
-        if crate not in path:
-            below = [longest(it) for it in named.get(crate, []) if it in named]
-            time_of, way = max(below, default=(0, []))
-            path[crate] = (time_of + took.get(crate, {}).get("proof", 0), way + [crate])
-        return path[crate]
 
+def main():
+    options = Words(__doc__)
+    options.add_argument("command", nargs=argparse.REMAINDER, metavar="COMMAND", help="rt ci, if left out")
+    command, began = options.parse_args().command or ["rt", "ci"], time.time()
+    status, took = times_of(command)
     print("| crate | proof | tests | edits | all |\n|---|---|---|---|---|")
     for crate in sorted(took, key=lambda it: -sum(took[it].values())):
-        parts = [took[crate][it] / 60 for it in ("proof", "tests", "edits")]
-        print(f"| {crate} | " + " | ".join(f"{it:.1f}" for it in [*parts, sum(parts)]) + " |")
-    sums = [sum(it[phase] for it in took.values()) / 60 for phase in ("proof", "tests", "edits")]
-    print("| all | " + " | ".join(f"{it:.1f}" for it in [*sums, sum(sums)]) + " |")
-    time_of, way = max(longest(it) for it in named)
-    print(f"\nlongest path: {time_of / 60:.1f} minutes of processor: {' '.join(way)}")
+        print(row(crate, took[crate].values()))
+    print(row("all", [sum(it[phase] for it in took.values()) for phase in PHASES]))
+    seconds, way = longest_path(took)
+    print(f"\nlongest path: {seconds / 60:.1f} minutes of processor: {' '.join(way)}")
     print(f"wall: {(time.time() - began) / 60:.1f} minutes; the last line of {LOG}:")
-    with open(LOG, encoding="utf-8", errors="replace") as log:
-        print(re.sub(r"\n.*\n", "\n", log.read().rstrip()).rsplit("\n", 1)[-1])
-    return run.returncode
+    said = LOG.read_text(encoding="utf-8", errors="replace").rstrip()
+    print(re.sub(r"\n.*\n", "\n", said).rsplit("\n", 1)[-1])
+    return status
 
 
 if __name__ == "__main__":

@@ -1,51 +1,55 @@
 #!/usr/bin/env python3
-"""bench/machine.py PROGRAM: the time of a turn and of a collection, side by side.
+"""Prints the time of a turn and of a collection, side by side.
 
-It runs the built program (crates/golf_bench_machine/out/golf_bench_machine). Turns, with 10, 1,000, 10,000 and 100,000 goroutines blocked
-on channels of their own: a loop of loads, sums, comparisons and jumps; two goroutines that send to each other on unbuffered channels;
-two that lock and unlock a mutex. The same loop in Python and, where it is there, in Lua stands beside it, in nanoseconds for each of the
-13 instructions that it has here. Times of turns are processor time, less that of a run without a turn. Collections, of 1,000, 10,000 and
-100,000 goroutines blocked each on a channel of its own, half of them live, by 1, 2 and 4 markers, without recovery and with it:
-milliseconds by the clock, part by part. Each is the best of five runs."""
-import os
+It runs a program of golf_bench_machine (crates/golf_bench_machine/out/golf_bench_machine), each thing five times, and
+prints the best.
+
+- Turns, with 10, 1,000, 10,000 and 100,000 goroutines blocked on channels of their own: a loop of loads, sums,
+  comparisons and jumps; two goroutines that send to each other on unbuffered channels; two that lock and unlock a
+  mutex. Processor time, less that of a run without a turn.
+- The same loop in Python and, if it is there, in Lua: nanoseconds for each of the 13 instructions that it has here.
+- Collections of 1,000, 10,000 and 100,000 goroutines blocked each on a channel of its own, half of them live, by 1, 2
+  and 4 markers, without recovery and with it: milliseconds by the clock, part by part.
+"""
+
 import re
 import shutil
-import subprocess
 import sys
 import time
 
+from shared import Words, give_up, measured, run
+
 RUNS = 5
+TURNS = 5_000_000
 ROUNDS = 3_000_000
 STEPS = 13
-LUA = 'local i, s = 0, 0 while i < %d do s = s + i i = i + 1 end' % ROUNDS
-PARTS = ('graph', 'marked', 'kept', 'marked_again', 'freed')
-
-
-def output(*words):
-    return subprocess.run([str(word) for word in words], capture_output=True, text=True, check=True).stdout
+LUA = f"local i, s = 0, 0 while i < {ROUNDS} do s = s + i i = i + 1 end"
+PARTS = ("graph", "marked", "kept", "marked_again", "freed")
+HEAD = ("goroutines, markers, recovery: graph, marking, keep rule, second graph and marking, freeing; "
+        "a whole collection, in ms")
 
 
 def processor_time(*words):
-    """The seconds of processor time of a run, that of its threads together."""
-    process = subprocess.Popen([str(word) for word in words], stdout=subprocess.DEVNULL)
-    _, status, usage = os.wait4(process.pid, 0)
-    process.returncode = os.waitstatus_to_exitcode(status)
-    if process.returncode != 0:
-        sys.exit('status %d' % process.returncode)
-    return usage.ru_utime + usage.ru_stime
+    """Returns the seconds of processor time of a run, that of its threads together."""
+    took = measured([str(word) for word in words])
+    if took.status != 0:
+        give_up(f"status {took.status}")
+    return took.seconds
 
 
 def best(measure):
+    """Returns the least of some measurements."""
     return min(measure() for _ in range(RUNS))
 
 
 def turn(program, kind, blocked):
-    turns = 5_000_000
-    before = best(lambda: processor_time(program, kind, blocked, 0))
-    return (best(lambda: processor_time(program, kind, blocked, turns)) - before) / turns * 1e9
+    """Returns the nanoseconds of a turn."""
+    before, whole = (best(lambda: processor_time(program, kind, blocked, turns)) for turns in (0, TURNS))
+    return (whole - before) / TURNS * 1e9
 
 
 def in_python():
+    """Returns the nanoseconds of an instruction of the loop in Python."""
     begin = time.process_time()
     i = s = 0
     while i < ROUNDS:
@@ -55,36 +59,45 @@ def in_python():
 
 
 def in_lua(lua):
-    return processor_time(lua, '-e', LUA) / ROUNDS / STEPS * 1e9
+    """Returns the nanoseconds of an instruction of the loop in Lua."""
+    return processor_time(lua, "-e", LUA) / ROUNDS / STEPS * 1e9
 
 
 def collections(program, pairs, markers):
-    """For each value of recovery the milliseconds of graph, marking, keep rule, second marking, freeing, and of a whole collection."""
+    """Returns for each value of recovery the milliseconds of the five parts of a collection, and of a whole one."""
     found = {}
-    for line in output(program, pairs, markers).splitlines():
-        ends = [int(re.search(r'\b%s: (\d+)' % part, line).group(1)) / 1000 for part in PARTS]
-        whole = int(line.rsplit(' ', 1)[1]) / 1000
-        found['recover: true' in line] = [end - begin for begin, end in zip([0] + ends, ends)] + [whole]
+    for line in run([program, str(pairs), str(markers)], "").stdout.decode().splitlines():
+        ends = [int(re.search(rf"\b{part}: (\d+)", line)[1]) / 1000 for part in PARTS]
+        whole = int(line.rsplit(" ", 1)[1]) / 1000
+        found["recover: true" in line] = [end - begin for begin, end in zip([0, *ends], ends)] + [whole]
     return found
 
 
+def tell_collections(program, pairs, markers):
+    """Prints the times of a collection, without recovery and with it."""
+    runs = [collections(program, pairs, markers) for _ in range(RUNS)]
+    for recover in (False, True):
+        *parts, whole = (min(times) for times in zip(*(found[recover] for found in runs)))
+        shown = " ".join(f"{part:.2f}" for part in parts)
+        print(f"{2 * pairs:7} {markers} {recover!s:<5}: {shown}; {whole:.2f}", flush=True)
+
+
 def main():
-    program = sys.argv[1]
-    for kind in ('loop', 'channel', 'mutex'):
+    options = Words(__doc__)
+    options.add_program("a program of golf_bench_machine")
+    program = options.parse_args().program
+    for kind in ("loop", "channel", "mutex"):
         for blocked in (10, 1_000, 10_000, 100_000):
-            print('%-8s %7d blocked: %8.1f ns a turn' % (kind, blocked, turn(program, kind, blocked)), flush=True)
-    print('python3 %d.%d: %.1f ns' % (sys.version_info[0], sys.version_info[1], best(in_python)))
-    lua = shutil.which('lua5.4') or shutil.which('lua')
+            print(f"{kind:<8} {blocked:7} blocked: {turn(program, kind, blocked):8.1f} ns a turn", flush=True)
+    print(f"python3 {sys.version_info[0]}.{sys.version_info[1]}: {best(in_python):.1f} ns")
+    lua = shutil.which("lua5.4") or shutil.which("lua")
     if lua:
-        print('%s: %.1f ns' % (lua, best(lambda: in_lua(lua))))
-    print('goroutines, markers, recovery: graph, marking, keep rule, second graph and marking, freeing; a whole collection, in ms')
+        print(f"{lua}: {best(lambda: in_lua(lua)):.1f} ns")
+    print(HEAD)
     for pairs in (500, 5_000, 50_000):
         for markers in (1, 2, 4):
-            runs = [collections(program, pairs, markers) for _ in range(RUNS)]
-            for recover in (False, True):
-                row = [min(run[recover][k] for run in runs) for k in range(len(PARTS) + 1)]
-                print('%7d %d %-5s: %s; %.2f' % (2 * pairs, markers, recover, ' '.join('%.2f' % part for part in row[:-1]), row[-1]), flush=True)
+            tell_collections(program, pairs, markers)
 
 
-if __name__ == '__main__':
+if __name__ == "__main__":
     main()

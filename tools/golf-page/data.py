@@ -4,8 +4,8 @@
     ended       whether the run ended; asleep: because all goroutines were asleep
     fault       [goroutine, row] of a panic or fatal error, or null
     who, row    for each turn its goroutine, and the row of its instruction
-    generated   [function, row] of each place in generated code: row -1 of `row` is the first of them. The row is the one
-                at which the goroutine was before, or 0.
+    generated   [function, row] of each place in generated code: row -1 of `row` is the first of them.
+                The row is the one at which the goroutine was before, or 0.
     goroutines  [number, function, row of its start or 0, begin, end, dead, reported, removed, waits] of each
                 a wait is [begin, end, row, kind, changes]; changes are moment, chain, moment, chain ..
     kinds       the kinds of waits
@@ -71,8 +71,8 @@ def known(number):
 
 
 def shown_goroutines(story):
-    """Returns the goroutines of a page by rising number. If they are too many, those come first that are dead or wait at the
-    end."""
+    """Returns the goroutines of a page by rising number. If they are too many, those come first that are dead or wait
+    at the end."""
     def rank(goroutine):
         waits_on = bool(goroutine.waits) and goroutine.waits[-1].end is None
         return (goroutine.number not in (MAIN, FINALISERS), goroutine.dead is None, not waits_on, goroutine.number)
@@ -96,7 +96,8 @@ def entry_of(goroutine, places, rows, kinds, chains):
     for wait in goroutine.waits:
         changes = [number for moment, chain in wait.chains for number in (moment, chains.of(chain))]
         waits.append([wait.begin, known(wait.end), rows[wait.begin - 1], kinds.of(wait.kind), changes])
-    reported, removed = (known(None if place is None else place + 1) for place in (goroutine.reported, goroutine.removed))
+    reported, removed = (known(None if place is None else place + 1)
+                         for place in (goroutine.reported, goroutine.removed))
     started = 0
     if goroutine.started is not None:
         started = rows[goroutine.begin - 1] if goroutine.begin else places.row(goroutine.started)

@@ -1,10 +1,13 @@
-#!/usr/bin/env python3
-"""Makes one HTML page of a run, which needs nothing else: page.py [options] FILE [words of golf run] > page.html
+#!/usr/bin/env -S python3 -B
+"""usage: golf-page [options] FILE [words of golf run, or an answer of golf-explore] > PAGE
 
-The words may be an answer of golf-explore as it is printed, such as `leak: --every 26 --schedule choices:0,1`. Options:
+Makes one page of a run, which needs nothing else. An answer of golf-explore is given as it is printed, such as
+`leak: --every 26 --schedule choices:0,1`.
 
-    --golf PROGRAM      the program golf; without it $GOLF, or ./golf of the repository
-    --explore PROGRAM   the program golf-explore; without it $GOLF_EXPLORE, or ./golf-explore of the repository
+    --help              shows this text
+    --version           shows the release that is used
+    --golf PROGRAM      the program golf; without it $GOLF, or the one that belongs to golf-page
+    --explore PROGRAM   the program golf-explore; without it $GOLF_EXPLORE, or the one that belongs to golf-page
     --lines MAP         FILE is a lowered file, and MAP has the place of each of its lines
     --source ORIGINAL   a file from which it was lowered, once for each
     --command TEXT      the command that the page shows
@@ -17,8 +20,7 @@ import os
 import re
 import sys
 
-sys.dont_write_bytecode = True
-
+import home
 from data import data_of, embedded
 from places import Lowered, Plain
 from program import Failure, Programs, program_path
@@ -27,9 +29,6 @@ from source import MOST_BYTES, rows_of
 from tell import STATUS, counted, fault_note, headline, output_rows, refusal_note, report_rows, rules_of
 from words import of_answer
 
-HERE = os.path.dirname(os.path.abspath(__file__))
-RULES = os.path.join(os.path.dirname(os.path.dirname(HERE)), "docs", "LANGUAGE.md")
-USED = "usage: golf-page FILE [words of golf run, or an answer of golf-explore]"
 OPTIONS = ("--golf", "--explore", "--lines", "--source", "--command")
 SCRIPTS = ("data.js", "lanes.js", "source.js", "why.js", "page.js")
 MOST_OF_A_COMMAND = 200
@@ -88,15 +87,16 @@ class Page:
         """Returns the callouts by row."""
         run = self.run
         if run.refusal:
-            line, note = refusal_note(run.refusal, run.programs.source, rules_of(read(RULES)))
+            line, note = refusal_note(run.refusal, run.programs.source, rules_of(read(home.LANGUAGE)))
             # A file may end inside a token, on a line that is empty.
-            return {min(run.places.row(line), sum(len(source.rows) for source in run.places.sources)): note} if line else {}
+            rows = sum(len(source.rows) for source in run.places.sources)
+            return {min(run.places.row(line), rows): note} if line else {}
         fault = None if run.exits else run.trace.fault
         return {run.places.row(int(fault[4])): fault_note(run.tail)} if fault else {}
 
     def wanted(self):
-        """Returns the rows that come first if the files are too long: those of callouts, of last waits, of other waits, of
-        starts, and of turns."""
+        """Returns the rows that come first if the files are too long: those of callouts, of last waits, of other
+        waits, of starts, and of turns."""
         goroutines = self.run.story.goroutines.values()
         lines = [wait.line for goroutine in goroutines for wait in goroutine.waits[-1:]]
         lines += [wait.line for goroutine in goroutines for wait in goroutine.waits[:-1]]
@@ -118,7 +118,7 @@ def shortened(text, most):
 
 
 def view(name):
-    return read(os.path.join(HERE, "view", name))
+    return read(os.path.join(home.HERE, "view", name))
 
 
 def read(path, mode="r"):
@@ -153,9 +153,13 @@ def read_options(words):
 
 
 def main(words):
+    """Does what the words ask for, and returns the status."""
+    if words in (["--help"], ["--version"]):
+        return put((__doc__ if words == ["--help"] else home.version()).rstrip() + "\n")
     options, words = read_options(words)
     if not words or words[0].startswith("-"):
-        print(USED, file=sys.stderr)
+        wrong = f"no such option: {words[0]}" if words else "no file"
+        print(f"golf-page: {wrong} (golf-page --help shows the words)", file=sys.stderr)
         return USAGE
     try:
         text = page_of(options, words[0], words[1:]).html()
@@ -169,14 +173,14 @@ def main(words):
 
 
 def put(text):
-    """Writes the page. Returns the status."""
+    """Writes the page, or another text. Returns the status."""
     try:
         sys.stdout.buffer.write(text.encode("utf-8", "replace"))
         sys.stdout.flush()
     except OSError as fault:
         # Python writes the rest when it ends: to nowhere.
         os.dup2(os.open(os.devnull, os.O_WRONLY), sys.stdout.fileno())
-        print(f"golf-page: the page cannot be written: {fault.strerror}", file=sys.stderr)
+        print(f"golf-page: the output cannot be written: {fault.strerror}", file=sys.stderr)
         return 1
     return 0
 

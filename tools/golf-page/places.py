@@ -1,8 +1,8 @@
 """The places of a run: which rows and functions of the page its lines are in, and what it printed.
 
-A file that is run as it is has its own lines. A file that tools/golf-lower has lowered has a map: line k of the map is the
-place of line k of the lowered file, as FILE LINE FUNCTION, or 0 if the line is generated. Rows count the lines of all files
-of the page, from 1. Row 0 is generated code.
+A file that is run as it is has its own lines. A file that tools/golf-lower has lowered has a map: line k of the map
+is the place of line k of the lowered file, as FILE LINE FUNCTION, or 0 if the line is generated. Rows count the lines
+of all files of the page, from 1. Row 0 is generated code.
 """
 
 import os
@@ -10,8 +10,8 @@ import re
 
 from source import Source
 
-# A lowered program prints a line in parts, as tools/golf-lower/output.go says. The mark is an operand of Println between two
-# parts, and after the last one if the line does not end there.
+# A lowered program prints a line in parts, as tools/golf-lower/output.go says. The mark is an operand of Println
+# between two parts, and after the last one if the line does not end there.
 MARK = "‿".encode()
 KIND = re.compile(MARK + b"(err|panic|exit) ")
 LINE = re.compile(r"\bline (\d+)\b")
@@ -119,8 +119,8 @@ class Lowered:
 
 
 class Printed:
-    """What a file printed: (turn, bytes) to standard output, (turn, bytes) to standard error, what its last panic tells, and
-    the status of os.Exit, if the file called that."""
+    """What a file printed: (turn, bytes) to standard output, (turn, bytes) to standard error, what its last panic
+    tells, and the status of os.Exit, if the file called that."""
 
     def __init__(self, output):
         self.output = output

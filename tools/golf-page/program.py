@@ -1,9 +1,9 @@
 """Runs the programs, and tells which write came when.
 
-A run of `golf-explore trace` writes the output of the file to standard output, and turns, collections and its last line to
-standard error. The page must know after which turn each piece of output was written. So both streams of the program are
-datagram sockets that are connected to one receiver. Each write is one message, the messages come in the order of the
-writes, and the address of the sender tells the stream.
+A run of `golf-explore trace` writes the output of the file to standard output, and turns, collections and its last
+line to standard error. The page must know after which turn each piece of output was written. So both streams of the
+program are datagram sockets that are connected to one receiver. Each write is one message, the messages come in the
+order of the writes, and the address of the sender tells the stream.
 """
 
 import os
@@ -13,6 +13,8 @@ import subprocess
 import sys
 import tempfile
 import threading
+
+import home
 
 OUTPUT, ERRORS = 1, 2
 MOST_BYTES_OF_A_WRITE = 1 << 22
@@ -58,8 +60,8 @@ class Programs:
         return self.ordered([self.golf, "run", *words])
 
     def ordered(self, command):
-        """Returns what a command writes. A write that is too long for a datagram fails. Then the command is run again by pipes,
-        which tell no order."""
+        """Returns what a command writes. A write that is too long for a datagram fails. Then the command is run again
+        by pipes, which tell no order."""
         written = in_order(command, self.source)
         if written.status == LAUNCHER_FAILED:
             raise Failure(f"{command[0]} could not go on")
@@ -107,8 +109,8 @@ def sender_to(receiver):
 
 
 def received(receiver, streams, launcher):
-    """Returns (stream, bytes) of each message until one comes from another sender. What the launcher tells while it builds
-    the program is handed on."""
+    """Returns (stream, bytes) of each message until one comes from another sender. What the launcher tells while it
+    builds the program is handed on."""
     writes, buffer = [], bytearray(2 * MOST_BYTES_OF_A_WRITE)
     while True:
         length, sender = receiver.recvfrom_into(buffer)
@@ -123,9 +125,8 @@ def received(receiver, streams, launcher):
 
 
 def program_path(given, variable, name):
-    """Returns the program that is given, or that the variable names, or the launcher of the repository."""
-    root = os.path.dirname(os.path.dirname(os.path.dirname(os.path.abspath(__file__))))
-    path = given or os.environ.get(variable) or os.path.join(root, name)
+    """Returns the program that is given, or that the variable names, or the one that belongs to this tool."""
+    path = given or os.environ.get(variable) or os.path.join(home.PROGRAMS, name)
     if not os.path.exists(path):
         raise Failure(f"there is no program {path}")
     return os.path.abspath(path)

@@ -6,17 +6,16 @@ from program import ERRORS, Failure
 from story import Story
 from traced import Trace
 from ways import add_ways
-from words import of_history, of_answer, of_page, options_of
+from words import of_answer, of_history, of_page, options_of, wrong_word
 
 ACCEPTED = (0, 1, 2, 3)
 REFUSED = 4
 USAGE = 5
-WRONG_WORDS = "the words after the file are not those of golf run (docs/USAGE.md)"
 
 
 class Run:
-    """A run: its trace, the story of its goroutines, what the file printed, its last line with the places of the page, and
-    its status. `how` says where the reasons are from."""
+    """A run: its trace, the story of its goroutines, what the file printed, its last line with the places of the
+    page, and its status. `how` says where the reasons are from."""
 
     def __init__(self, programs, places, words):
         self.programs, self.places = programs, places
@@ -46,13 +45,13 @@ class Run:
         self.repeated = options_of(words)
         trace = Trace(self.programs.trace(words))
         if trace.status == USAGE:
-            raise Failure(WRONG_WORDS, USAGE)
+            raise Failure(wrong_word(words), USAGE)
         return trace
 
     def by_threads(self):
         """Takes a run by threads, and repeats it by the numbers of its turns."""
         ran = self.programs.run(self.words)
         if ran.status == USAGE:
-            raise Failure(WRONG_WORDS, USAGE)
+            raise Failure(wrong_word(self.words), USAGE)
         history = re.search(r"(?m)^history: ([\d,]+)$", ran.text_of(ERRORS).decode("utf-8", "replace"))
         return self.by_words(of_history(history[1]) if history else [])

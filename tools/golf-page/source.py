@@ -4,11 +4,14 @@ import bisect
 import html
 import re
 
-KEYWORDS = set("""break case chan const continue default defer else for func go goto if import interface map package range
-return select struct switch type var""".split())
+KEYWORDS = set("""
+    break case chan const continue default defer else for func go goto if import interface map package range
+    return select struct switch type var
+""".split())
 NAMES = set("""any append bool byte cap close delete error false int len make new nil panic print println rune string
 true""".split())
-TOKEN = re.compile(r"""//[^\n]*|/\*.*?(?:\*/|\Z)|"(?:\\.|[^"\\\n])*"?|'(?:\\.|[^'\\\n])+'|`[^`]*(?:`|\Z)|\w+|\s+|.""", re.S)
+TOKEN = re.compile(r"""//[^\n]*|/\*.*?(?:\*/|\Z)|"(?:\\.|[^"\\\n])*"?|'(?:\\.|[^'\\\n])+'|`[^`]*(?:`|\Z)|\w+|\s+|.""",
+                   re.S)
 
 COMMENT, STRING, KEYWORD, NUMBER, BUILT_IN, NAME, OTHER = "c", "s", "k", "n", "b", "name", ""
 IN_COLOUR = (COMMENT, STRING, KEYWORD, NUMBER, BUILT_IN)
@@ -126,8 +129,9 @@ def call_name(words):
 
 
 def rows_of(source, notes, wanted, first, most):
-    """Returns the rows of a file. `notes` are the callouts below lines, as HTML. If the rows have more than the most bytes,
-    those around the wanted lines are shown, in the order in which they are wanted. `first` is the number of the first row."""
+    """Returns the rows of a file. `notes` are the callouts below lines, as HTML. If the rows have more than the most
+    bytes, those around the wanted lines are shown, in the order in which they are wanted. `first` is the number of
+    the first row."""
     shown = shown_lines(source, wanted, most)
     rows, before = [], 0
     for line in [*shown, len(source.rows) + 1]:
@@ -143,7 +147,8 @@ def rows_of(source, notes, wanted, first, most):
 
 
 def row_html(row, line, text):
-    return f'<li id=L{row} data-n={row}><span class=no>{line}</span><code>{text or " "}</code><span class=at></span></li>'
+    code = f'<code>{text or " "}</code>'
+    return f"<li id=L{row} data-n={row}><span class=no>{line}</span>{code}<span class=at></span></li>"
 
 
 def shown_lines(source, wanted, most):

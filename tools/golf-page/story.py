@@ -13,8 +13,8 @@ MAIN = 1
 
 
 class Wait:
-    """One wait of a goroutine: its moments (no end: it lasts to the end of the run), its line, its kind if that is known,
-    and (moment, chain) at each change of the chain by which the goroutine is reached."""
+    """One wait of a goroutine: its moments (no end: it lasts to the end of the run), its line, its kind if that is
+    known, and (moment, chain) at each change of the chain by which the goroutine is reached."""
 
     def __init__(self, begin, line):
         self.begin, self.line = begin, line
@@ -23,9 +23,9 @@ class Wait:
 
 
 class Goroutine:
-    """One goroutine with its waits. `started` is the line of its start, if that is known: that of goroutine 1 is told if it is
-    dead. `dead` is the first moment at which it is known to be dead. `reported` and `removed` are places in the list of the
-    collections of the run."""
+    """One goroutine with its waits. `started` is the line of its start, if that is known: that of goroutine 1 is told
+    if it is dead. `dead` is the first moment at which it is known to be dead. `reported` and `removed` are places in
+    the list of the collections of the run."""
 
     def __init__(self, number, begin, started):
         self.number, self.begin, self.started = number, begin, started

@@ -3,6 +3,7 @@
 import html
 import re
 
+from story import FINALISERS
 from traced import COLLECTION, DEAD, REACHED, STOPPED
 
 STATUS = {
@@ -149,12 +150,26 @@ def report_rows(run):
 
 
 def report_lines(run):
-    """Returns (turn, text, class, goroutine) of each line of standard error, in order. What a lowered file printed to it
-    comes at its turn."""
+    """Returns (turn, text, class, goroutine) of each line of standard error, in order. What a lowered file printed to
+    it comes at its turn."""
     lines = [(turn, run.places.told_text(line), *kind_of(line)) for turn, line in run.trace.lines]
     printed = [(turn, line, "printed", None) for turn, line in output_lines(run.printed.errors)]
     lines = sorted(printed + lines, key=lambda line: line[0] or 0) if printed else lines
-    return lines + [(run.story.last, line, "end", None) for line in run.tail.split("\n") if run.tail]
+    lines += [(run.story.last, line, "end", None) for line in run.tail.split("\n") if run.tail]
+    return lines + (asleep_lines(run) if run.trace.asleep else [])
+
+
+def asleep_lines(run):
+    """Returns a line for each blocked goroutine of a run that ended asleep: how and where it waits, and its start. Of
+    the last wait it is not known how: no collection follows it."""
+    lines, told = [], run.places.told
+    for number, goroutine in sorted(run.story.goroutines.items()):
+        wait = goroutine.waits[-1] if goroutine.waits else None
+        if number != FINALISERS and wait and wait.end is None and goroutine.end is None and goroutine.removed is None:
+            started = f", started at {told(goroutine.started)}" if goroutine.started else ""
+            line = f"goroutine {number}: {wait.kind or 'blocked'} at {told(wait.line)}{started}"
+            lines.append((run.story.last, line, "asleep", number))
+    return lines
 
 
 def kind_of(line):

@@ -6,8 +6,8 @@ Standard error has one line for each turn, before the lines of its collections:
     collection 1: marked 0, reported 1, kept 1, reclaimed 0, objects 1
     goroutine 2: chan receive at line 5, started at line 9
 
-The output of a turn comes right before its line. A panic may have any text, on several lines. So nothing after its head is
-read as a line of the program.
+The output of a turn comes right before its line. A panic may have any text, on several lines. So nothing after its
+head is read as a line of the program.
 """
 
 import functools

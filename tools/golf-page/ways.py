@@ -1,9 +1,9 @@
 """Finds at which moments which goroutine is dead, and by which chain of objects the others are reached.
 
 Only a collection tells that. In a file that sets no finalisers an added collection changes nothing. So one run with a
-collection after each K-th turn tells the reasons at these moments. In a file that sets finalisers a collection queues them,
-which changes what follows. So there each moment has a run of its own, which is stopped at it: `--turns N --every N` adds one
-collection, after the last turn.
+collection after each K-th turn tells the reasons at these moments. In a file that sets finalisers a collection queues
+them, which changes what follows. So there each moment has a run of its own, which is stopped at it: `--turns N
+--every N` adds one collection, after the last turn.
 """
 
 import concurrent.futures
@@ -22,7 +22,8 @@ BATCH = 16       # so many of them are begun before it is seen what they tell
 
 def add_ways(story, trace, programs, options, finalisers):
     """Adds to the story what collections tell. Returns the sentence that says after which turns they were added."""
-    bare = {name: value for name, value in options.items() if name not in ("--every", "--recover", "--why", "--markers")}
+    bare = {name: value for name,
+            value in options.items() if name not in ("--every", "--recover", "--why", "--markers")}
     if not finalisers:
         step = step_of(story)
         look_at_all(story, looked(trace, programs, bare, step))
@@ -69,8 +70,8 @@ def looked(trace, programs, words, step):
 
 
 def look_at_cuts(story, programs, words):
-    """Looks by runs that are stopped. A moment is left out if each blocked goroutine is dead there. Returns the number of
-    the runs."""
+    """Looks by runs that are stopped. A moment is left out if each blocked goroutine is dead there. Returns the
+    number of the runs."""
     left, count = cut_moments(story), 0
     with concurrent.futures.ThreadPoolExecutor(os.cpu_count() or 1) as pool:
         while left:
@@ -83,8 +84,8 @@ def look_at_cuts(story, programs, words):
 
 
 def cut_moments(story):
-    """Returns the moments at which a goroutine is blocked, with the blocked goroutines. If they are too many, those come
-    first at which a goroutine has blocked, and of all each K-th."""
+    """Returns the moments at which a goroutine is blocked, with the blocked goroutines. If they are too many, those
+    come first at which a goroutine has blocked, and of all each K-th."""
     moments, before = [], frozenset()
     for moment, blocked in story.waiting():
         if blocked:

@@ -60,8 +60,8 @@ abbrev pub taken : Store → ℕ → ℕ
 taken s len = min (min len (s.room - length s.written)) s.most
 
 -- the call fails: its number is among those that fail, or there is no room for a piece that is not empty
-abbrev pub IsRefused : Store → ℕ → Type 0
-IsRefused s len = Contains s.fail (next_call s.calls) ⊎ ((taken s len ≡ 0) × (0 < len))
+abbrev pub CallFails : Store → ℕ → Type 0
+CallFails s len = Contains s.fail (next_call s.calls) ⊎ ((taken s len ≡ 0) × (0 < len))
 
 abbrev pub after_write : Store → List ℕ → Store
 after_write s piece = record s { written = s.written ++ take (taken s (length piece)) piece; calls = next_call s.calls }

@@ -5,7 +5,7 @@ ghost use Rattle.std.specs.Prelude.{◌≡◌, ◌<◌, ◌≤◌, ◌↔◌, []
 ghost use Rattle.std.specs.Io.{ReadsAtMost, WritesAtMost};
 ghost use Rattle.std.specs.Io.KnownBytes.{ReadConsumes, WriteAppends};
 ghost use Rattle.golf_base.specs.Causes.{HasCause};
-ghost use Rattle.golf_base.specs.InMemory.{given, after_read, after_failed_read, taken, next_call, IsRefused};
+ghost use Rattle.golf_base.specs.InMemory.{given, after_read, after_failed_read, taken, next_call, CallFails};
 ghost use Rattle.golf_base.specs.InMemory.{after_write, after_failed_write};
 
 use crate::streams::{Failed, Sink, Source, one_more};
@@ -151,7 +151,7 @@ impl Sink for MemorySink {
         ensures cause { HasCause self.old.faults self.new.faults result }
 
         // Which calls fail, and how many bytes a successful call takes.
-        ensures fails { IsErr result ↔ IsRefused self.old (length piece.now) }
+        ensures fails { IsErr result ↔ CallFails self.old (length piece.now) }
         ensures count { IfOk result (λ n. n ≡ taken self.old (length piece.now)) }
         ensures ok { OnOk result (self.new ≡ after_write self.old piece.now) }
         ensures err { OnErr result (self.new ≡ after_failed_write self.old) }

@@ -1,6 +1,6 @@
 -- Turns with falling numbers.
 use Rattle.std.specs.Prelude.{ℕ, zero, suc, List, [], ◌∷◌}
-use Rattle.golf_model.specs.Running.{Event}
+use Rattle.golf_model.specs.Runs.{Event}
 
 -- the turns with the numbers below this one, from the largest down
 abbrev pub counted_down : ℕ → List Event

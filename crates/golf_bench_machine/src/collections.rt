@@ -3,7 +3,7 @@
 ghost use Rattle.std.specs.Prelude.{◌≡◌, ◌<◌, ◌≤◌, true, IfOk, IsTrue, Some, slice_get};
 ghost use Rattle.std.specs.List.Sorted.{IsNonDecreasingBy};
 ghost use Rattle.golf_model.specs.Presence.{IsWhole};
-ghost use Rattle.golf_mark.specs.Marking.{MarksLeast};
+ghost use Rattle.golf_mark.specs.MarkingResult.{MarksLeast};
 
 use crate::pairs::blocked_state;
 use golf_base::{GoroutineId, Memory, OpenGate};

@@ -16,9 +16,9 @@ use Rattle.golf_model.specs.declared.graph.GraphParts.{GraphParts}
 use Rattle.golf_model.specs.Graph.{Justifies, IsInRange, sleeper_count}
 use Rattle.golf_rows.specs.Rows.{row_of}
 use Rattle.golf_cert.specs.declared.walk.Walk.{Walk}
-use Rattle.golf_cert.specs.Steps.{place_count, referred_by, HasWoken}
-use Rattle.golf_cert.specs.Walking.{HasLevels}
-use Rattle.golf_cert.specs.Parents.{parent_in, Leads, IsParent, HasParentsBelow, HasParents, adopted, adopted_all}
+use Rattle.golf_cert.specs.Steps.{place_count, referred_by, HasSleeperRows}
+use Rattle.golf_cert.specs.LevelWalk.{HasLevels}
+use Rattle.golf_cert.specs.Parents.{parent_in, IsNextLevel, IsParent, HasParentsBelow, HasParents, adopted, adopted_all}
 
 is_none-none : (o : Option ℕ) → is_none o ≡ true → o ≡ None
 is_none-none None e = refl
@@ -142,7 +142,7 @@ module _ (g : GraphParts) (levels : List ℕ) (parent : ℕ) (levelled : 0 < get
 
 -- all that the place leads to is done
 pub next_found : (g : GraphParts) (levels : List ℕ) (parent : ℕ) (Done : ℕ → Type 0) (parents : List (Option ℕ))
-    → ((q : ℕ) → Leads g levels parent q → Done q) → HasParentsBelow g levels parent Done parents
+    → ((q : ℕ) → IsNextLevel g levels parent q → Done q) → HasParentsBelow g levels parent Done parents
     → HasParentsBelow g levels (parent + 1) (λ _. ⊥) parents
 next_found g levels parent Done parents all h = record {
   size = h.size;
@@ -151,7 +151,7 @@ next_found g levels parent Done parents all h = record {
       | inl less ↦ h.none q e from (inl less) l
       | inr more ↦
           let same : from ≡ parent = omega (arith, low, more) in
-          h.none q e from (inr (same, all q (subst (λ (x : ℕ). Leads g levels x q) same l))) l
+          h.none q e from (inr (same, all q (subst (λ (x : ℕ). IsNextLevel g levels x q) same l))) l
     ]
     | inr s ↦ absurd s.1
   ];
@@ -174,7 +174,7 @@ pub record Adopts (g : GraphParts) (w : Walk) (rows : List (List ℕ)) (parent :
 
 -- the place was made the parent of all that it leads to
 pub adopted_found : {g : GraphParts} {w : Walk} {rows : List (List ℕ)} {parent : ℕ} {a b : List (Option ℕ)}
-    → IsInRange g → HasWoken g (sleeper_count g) rows → Adopts g w rows parent a b
+    → IsInRange g → HasSleeperRows g (sleeper_count g) rows → Adopts g w rows parent a b
     → HasParentsBelow g w.levels parent (λ _. ⊥) a → HasParentsBelow g w.levels (parent + 1) (λ _. ⊥) b
 adopted_found {g} {w} {rows} {parent} {a} {b} fit woken adopts h =
     let L : List ℕ = w.levels in

@@ -1,5 +1,5 @@
 -- A certificate, link by link.
--- For: `AreJustified`, `IsClosed` (golf_cert/specs/Links.antt) and `links_of`, `certify` (src/certificates.rt)
+-- For: `AreJustified`, `ContainsLeast` (golf_cert/specs/Links.antt) and `links_of`, `certify` (src/certificates.rt)
 -- By: what one more link keeps, as the loop needs it; no induction
 use Rattle.std.proofs.Common.{◌≡◌, ℕ, ◌+◌, ◌<◌, ◌≤◌, inl, inr, List, [], ◌∷◌, ◌++◌, length, get_or, take, refl, sym, ap}
 use Rattle.std.proofs.Common.{◌∙◌, subst, arith}
@@ -15,9 +15,9 @@ use Rattle.golf_model.specs.declared.graph.GraphParts.{GraphParts}
 use Rattle.golf_model.specs.Graph.{Justifies, Least}
 use Rattle.golf_cert.specs.declared.walk.Walk.{Walk}
 use Rattle.golf_cert.specs.declared.links.Link.{Link}
-use Rattle.golf_cert.specs.Links.{placed_by, places_of, IsJustifiedBy, AreJustified, IsClosed}
-use Rattle.golf_cert.specs.Walking.{HasLevels}
-use Rattle.golf_cert.specs.Parents.{Leads, AddsLink}
+use Rattle.golf_cert.specs.Links.{placed_by, places_of, IsJustifiedBy, AreJustified, ContainsLeast}
+use Rattle.golf_cert.specs.LevelWalk.{HasLevels}
+use Rattle.golf_cert.specs.Parents.{IsNextLevel, AddsLink}
 use Rattle.golf_cert.proofs.FlagLaws.{slice_get-left, slice_get-last}
 use Rattle.golf_cert.proofs.Walks.{place_of, order_level}
 use Rattle.golf_cert.proofs.Claims.{level_of}
@@ -58,7 +58,7 @@ pub certified_more : (g : GraphParts) (w : Walk) (i : ℕ) (old new : List Link)
     → IsCertifying g w.order (i + 1) new
 certified_more g w i old new levels low c (link, is, placed, to) =
     let p : ℕ = get_or w.order i 0 in
-    let before : (from : ℕ) → Leads g w.levels from p → In from (take i w.order) = λ from l.
+    let before : (from : ℕ) → IsNextLevel g w.levels from p → In from (take i w.order) = λ from l.
     let here : In from w.order = In-times from w.order (omega (arith, levels.once from l.is_levelled)) in
     let k = place_of w.order from here in
     let first : k.0 < i = elim (cases_lt k.0 i) [
@@ -83,7 +83,7 @@ certified_all g w i links all c = c.places ∙ take_all i w.order all
 
 -- links that place all listed places leave nothing out
 pub certified_closed : (g : GraphParts) (w : Walk) (links : List Link) → HasLevels g w → places_of g links ≡ w.order
-    → IsClosed g (places_of g links)
+    → ContainsLeast g (places_of g links)
 certified_closed g w links levels is =
     let listed : (p : ℕ) → Least g p → In p (places_of g links) =
     λ p d. subst (λ (l : List ℕ). In p l) (sym is)

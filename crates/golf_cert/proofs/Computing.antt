@@ -1,5 +1,5 @@
 -- Computed levels and reasons are the derived ones.
--- For: `reason_to` (golf_cert/specs/Computing.antt) and `ReasonsComputed` (golf_cert/specs/Laws.antt)
+-- For: `reason_to` (golf_cert/specs/ComputedLevels.antt) and `ReasonsComputed` (golf_cert/specs/Laws.antt)
 -- By: induction over the rounds, which are the levels; and over the list of places of a way
 use Rattle.std.proofs.Common.{◌≡◌, ℕ, zero, suc, ◌+◌, ◌-◌, ◌<◌, ◌≤◌, ◌⊎◌, inl, inr, Bool, true, false, not, ◌&&◌, List}
 use Rattle.std.proofs.Common.{[], ◌∷◌, ◌++◌, length, get_or, replicate, Option, Some, None, refl, sym, ap, ◌∙◌, subst}
@@ -10,7 +10,7 @@ use Rattle.std.proofs.lemmas.Bool.{not-true, cases_Bool, cases_eq, cases_lt, and
 use Rattle.std.proofs.lemmas.List.{get_or_push, get_or_append_left, get_or-replicate, get_or_past, length-replicate}
 use Rattle.std.proofs.lemmas.List.{length_push}
 use Rattle.golf_theory.specs.Membership.{In, is_in}
-use Rattle.golf_theory.specs.Counting.{times}
+use Rattle.golf_theory.specs.Counts.{times}
 use Rattle.golf_theory.proofs.Lists.{In-filter, In-filter_old}
 use Rattle.golf_theory.proofs.Tests.{is_in-from, In-from, not_in-from, is_in-out, cases_in}
 use Rattle.golf_theory.proofs.Times.{times-cons_same, times-cons_other, times-none, length-counted, sum-bits}
@@ -19,15 +19,15 @@ use Rattle.golf_model.specs.Graph.{Least, justifies, is_justified_next, IsInRang
 use Rattle.golf_model.proofs.GraphLaws.{justifies-sound, justifies-complete, LeastFollows, next-sound, next-complete}
 use Rattle.golf_mark.proofs.Ranges.{Least-below}
 use Rattle.golf_cert.specs.Levels.{IsWay, IsLevel, IsLeastBefore, IsReason}
-use Rattle.golf_cert.specs.Walking.{HasWay}
+use Rattle.golf_cert.specs.LevelWalk.{HasWay}
 use Rattle.golf_cert.specs.Steps.{place_count}
-use Rattle.golf_cert.specs.Computing.{within, is_at_level, level_in, least_before, places_to, reason_to}
+use Rattle.golf_cert.specs.ComputedLevels.{within, is_at_level, level_in, least_before, places_to, reason_to}
 use Rattle.golf_cert.specs.Laws.{ReasonsComputed}
 use Rattle.golf_cert.proofs.Trails.{way_to, level_once}
 use Rattle.golf_cert.proofs.Walks.{HasWay-root, HasWay-step}
 use Rattle.golf_cert.proofs.ReasonLaws.{reason_last, reason_once}
 
--- ---- the first number that passes a test
+-- ---- the first number that satisfies a test
 
 In-range : (a n p : ℕ) → a ≤ p → p < a + n → In p (range_with_len a n)
 In-range a zero p low high = absurd (omega arith)

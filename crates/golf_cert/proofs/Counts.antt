@@ -1,19 +1,19 @@
 -- Lists with the same numbers, each as often, are of one length; the computed places are each there once.
--- For: `LeastComputed` (golf_cert/specs/Laws.antt) and `least_is_computed` (src/laws.rt)
+-- For: `OrderComputed` (golf_cert/specs/Laws.antt) and `least_is_computed` (src/laws.rt)
 -- By: induction over the list of numbers
 use Rattle.std.proofs.Common.{◌≡◌, ℕ, zero, suc, ◌+◌, ◌≤◌, inl, inr, Bool, true, false, cond, List, [], ◌∷◌, ◌++◌}
 use Rattle.std.proofs.Common.{length, length-append, filter, sym, ap, subst, arith}
 use Rattle.std.specs.List.{range_with_len}
 use Rattle.std.proofs.lemmas.Bool.{cases_eq, cases_lt}
 use Rattle.golf_theory.specs.Membership.{In}
-use Rattle.golf_theory.specs.Counting.{times}
+use Rattle.golf_theory.specs.Counts.{times}
 use Rattle.golf_theory.proofs.Times.{times-cons_same, times-cons_other, times-append, times-In, In-times, times-none}
 use Rattle.golf_model.specs.declared.graph.GraphParts.{GraphParts}
 use Rattle.golf_model.specs.Graph.{Least, is_justified_next, IsInRange}
 use Rattle.golf_cert.specs.Steps.{place_count}
-use Rattle.golf_cert.specs.Computing.{within, least_in_order}
-use Rattle.golf_cert.specs.Laws.{LeastComputed}
-use Rattle.golf_cert.specs.Walking.{HasLevels}
+use Rattle.golf_cert.specs.ComputedLevels.{within, least_in_order}
+use Rattle.golf_cert.specs.Laws.{OrderComputed}
+use Rattle.golf_cert.specs.LevelWalk.{HasLevels}
 use Rattle.golf_cert.specs.declared.walk.Walk.{Walk}
 use Rattle.golf_cert.proofs.Computing.{within-sound, in_round}
 use Rattle.golf_cert.proofs.Walks.{order_level}
@@ -110,7 +110,7 @@ within-once g (suc n) p = omega (
   range-once 0 (place_count g) p,
 )
 
-pub least_computed : LeastComputed
+pub least_computed : OrderComputed
 unfolding least_in_order
 least_computed g fit p = (
   (λ h. let w = within-sound g (place_count g) p h in (w.1.0, w.1.1), λ d. in_round g fit p d),

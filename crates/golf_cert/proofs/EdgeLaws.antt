@@ -22,7 +22,8 @@ use Rattle.golf_cert.specs.declared.edges.Step.{Step}
 use Rattle.golf_marks.specs.Flags.{IsSet}
 use Rattle.golf_cert.specs.Parents.{parent_in}
 use Rattle.golf_cert.specs.Steps.{place_count}
-use Rattle.golf_cert.specs.Edges.{source_of, IsEdge, IsEdgeAt, IsStepOf, HasLeading, Enters, Stamps, Finds, IsFinding}
+use Rattle.golf_cert.specs.Edges.{source_of, IsEdge, IsEdgeAt, IsStepOf, HasLeading, Enters, Stamps, FindsEdges}
+use Rattle.golf_cert.specs.Edges.{IsFinding}
 use Rattle.golf_cert.specs.Edges.{HasEdges}
 use Rattle.golf_mark.proofs.Ranges.{row_past, children-nodes, waits-nodes, references-nodes, waits-below}
 use Rattle.golf_marks.proofs.Flags.{IsSet-set, set-IsSet}
@@ -197,8 +198,9 @@ stamped_all {from} {first} {second} {a} {b} {c} g old left right parts s t p = (
 )
 
 -- found links
-pub Finds-none : (g : GraphParts) (links : List Link) (from : ℕ) (flags : List Bool) → Finds g links from [] flags flags
-Finds-none g links from flags = record {
+pub FindsEdges-none : (g : GraphParts) (links : List Link) (from : ℕ) (flags : List Bool)
+    → FindsEdges g links from [] flags flags
+FindsEdges-none g links from flags = record {
   size = refl;
   kept = λ i h. h;
   sound = λ i h. inl h;
@@ -206,13 +208,13 @@ Finds-none g links from flags = record {
 }
 
 -- the flag of the next number is set if the graph has its link, and it leads from there
-pub Finds-more : {link : Link} {old mid new : List Bool} (g : GraphParts) (links : List Link) (from : ℕ)
+pub FindsEdges-more : {link : Link} {old mid new : List Bool} (g : GraphParts) (links : List Link) (from : ℕ)
     (numbers : List ℕ) (k : ℕ) → k < length numbers → slice_get links (get_or numbers k 0) ≡ Some link
     → length mid ≡ length links
     → ((new ≡ set mid (get_or numbers k 0) true) × IsEdge g link)
     ⊎ ((new ≡ mid) × ((IsEdge g link × (source_of g link ≡ from)) → ⊥))
-    → Finds g links from (take k numbers) old mid → Finds g links from (take (k + 1) numbers) old new
-Finds-more {link} {old} {mid} {new} g links from numbers k low at size cases f =
+    → FindsEdges g links from (take k numbers) old mid → FindsEdges g links from (take (k + 1) numbers) old new
+FindsEdges-more {link} {old} {mid} {new} g links from numbers k low at size cases f =
     let n : ℕ = get_or numbers k 0 in
     let step : take (k + 1) numbers ≡ take k numbers ++ n ∷ [] = take_more numbers k 0 low in
     let fits : n < length mid = omega (arith, size, slice_get_within links n link at) in
@@ -222,7 +224,7 @@ Finds-more {link} {old} {mid} {new} g links from numbers k low at size cases f =
       | inr j ↦ elim j [ inl e ↦ inr e | inr none ↦ absurd none ]
     ] in
     elim cases [
-      | inl (is, edge) ↦ subst (Finds g links from (take (k + 1) numbers) old) (sym is) record {
+      | inl (is, edge) ↦ subst (FindsEdges g links from (take (k + 1) numbers) old) (sym is) record {
         size = length-set mid n true ∙ f.size;
         kept = λ i h. set-IsSet mid n i fits (inr (f.kept i h));
         sound = λ i h. elim (IsSet-set mid n i fits h) [
@@ -234,7 +236,7 @@ Finds-more {link} {old} {mid} {new} g links from numbers k low at size cases f =
           | inr same ↦ set-IsSet mid n i fits (inl same)
         ];
       }
-      | inr (is, none) ↦ subst (Finds g links from (take (k + 1) numbers) old) (sym is) record {
+      | inr (is, none) ↦ subst (FindsEdges g links from (take (k + 1) numbers) old) (sym is) record {
         size = f.size;
         kept = f.kept;
         sound = f.sound;
@@ -269,7 +271,7 @@ IsFinding-none g links stamps flags es ef =
 pub IsFinding-more : {g : GraphParts} {links : List Link} {place : ℕ} {leading : List (List ℕ)}
     {a b c : List (Option ℕ)} {first second : List ℕ} {old new : List Bool} → HasLeading g links (length links) leading
     → IsFinding g links place a old
-    → Stamps place first a b → Stamps place second b c → Finds g links place (row_of leading place) old new
+    → Stamps place first a b → Stamps place second b c → FindsEdges g links place (row_of leading place) old new
     → IsFinding g links (place + 1) c new
 IsFinding-more {g} {links} {place} {leading} {a} {b} {c} {first} {second} {old} {new} l h s t f = record {
   stamp_count = t.size ∙ s.size ∙ h.stamp_count;

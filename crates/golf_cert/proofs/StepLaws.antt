@@ -1,5 +1,5 @@
 -- The two parts of what a place justifies are all of it.
--- For: `referred_by`, `HasWoken` (golf_cert/specs/Steps.antt) and `referred`, `woken_rows` (src/steps.rt)
+-- For: `referred_by`, `HasSleeperRows` (golf_cert/specs/Steps.antt) and `referred`, `woken_rows` (src/steps.rt)
 -- By: cases of the place, a node or a sleeper; no induction
 use Rattle.std.proofs.Common.{◌≡◌, ℕ, ◌+◌, ◌-◌, ◌<◌, ◌≤◌, ◌⊎◌, inl, inr, List, length, sym, subst, arith}
 use Rattle.std.specs.Prelude.{nat_lt}
@@ -10,7 +10,7 @@ use Rattle.golf_rows.specs.Rows.{row_of, AddsTo}
 use Rattle.golf_model.specs.declared.graph.GraphParts.{GraphParts}
 use Rattle.golf_model.specs.Graph.{node_count, sleeper_count, sleeper_place, children_of, sleeper_waits}
 use Rattle.golf_model.specs.Graph.{sleeper_references, Justifies, IsInRange}
-use Rattle.golf_cert.specs.Steps.{place_count, referred_by, HasWoken}
+use Rattle.golf_cert.specs.Steps.{place_count, referred_by, HasSleeperRows}
 use Rattle.golf_mark.proofs.Ranges.{row_past, children-nodes, waits-nodes, waits-below, Justifies-below}
 
 pub referred_by-node : (g : GraphParts) (p : ℕ) → p < node_count g → referred_by g p ≡ children_of g p
@@ -24,7 +24,8 @@ unfolding referred_by
 referred_by-sleeper g p high = cond-false (nat_lt p (node_count g)) (children_of g p)
     (sleeper_references g (p - node_count g)) (le-ltb p (node_count g) high)
 
-module _ (g : GraphParts) (rows : List (List ℕ)) (fit : IsInRange g) (woken : HasWoken g (sleeper_count g) rows) where
+module _ (g : GraphParts) (rows : List (List ℕ)) (fit : IsInRange g)
+    (woken : HasSleeperRows g (sleeper_count g) rows) where
   pub referred-justifies : (p q : ℕ) → In q (referred_by g p) → Justifies g p q
   referred-justifies p q h = elim (cases_lt p (node_count g)) [
     | inl low ↦ Justifies.child (subst (λ (l : List ℕ). In q l) (referred_by-node g p low) h)
@@ -56,9 +57,10 @@ module _ (g : GraphParts) (rows : List (List ℕ)) (fit : IsInRange g) (woken : 
       (λ q h. Justifies-below g fit p q (woken-justifies p q h))
 
 -- one more sleeper is entered
-pub HasWoken-more : (g : GraphParts) (s : ℕ) (old new : List (List ℕ)) → length new ≡ length old → HasWoken g s old
-    → AddsTo (λ n. In n (sleeper_waits g s)) (sleeper_place g s) old new → HasWoken g (s + 1) new
-HasWoken-more g s old new size w adds = record {
+pub HasSleeperRows-more : (g : GraphParts) (s : ℕ) (old new : List (List ℕ)) → length new ≡ length old
+    → HasSleeperRows g s old
+    → AddsTo (λ n. In n (sleeper_waits g s)) (sleeper_place g s) old new → HasSleeperRows g (s + 1) new
+HasSleeperRows-more g s old new size w adds = record {
   row_count = omega (arith, w.row_count);
   members = λ n p. (
     λ h. elim ((adds n p).0 h) [
@@ -77,9 +79,9 @@ HasWoken-more g s old new size w adds = record {
   );
 }
 
-pub HasWoken-none : (g : GraphParts) (rows : List (List ℕ)) → length rows ≡ node_count g
-    → ((n p : ℕ) → In p (row_of rows n) → ⊥) → HasWoken g 0 rows
-HasWoken-none g rows size none = record {
+pub HasSleeperRows-none : (g : GraphParts) (rows : List (List ℕ)) → length rows ≡ node_count g
+    → ((n p : ℕ) → In p (row_of rows n) → ⊥) → HasSleeperRows g 0 rows
+HasSleeperRows-none g rows size none = record {
   row_count = size;
   members = λ n p. (λ h. absurd (none n p h), λ r. absurd (omega (arith, r.1)));
 }

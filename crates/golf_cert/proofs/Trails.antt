@@ -17,8 +17,8 @@ use Rattle.golf_cert.specs.declared.links.Link.{Link}
 use Rattle.golf_cert.specs.declared.links.Link.TheVariants.{Root, Child, Woken, Held}
 use Rattle.golf_cert.specs.Links.{placed_by, places_of, IsJustifiedBy, AreJustified}
 use Rattle.golf_cert.specs.Levels.{IsWay, IsLevel, IsLeastBefore, IsReason}
-use Rattle.golf_cert.specs.Walking.{HasLevels}
-use Rattle.golf_cert.specs.Parents.{parent_in, Leads, IsParent, HasParents}
+use Rattle.golf_cert.specs.LevelWalk.{HasLevels}
+use Rattle.golf_cert.specs.Parents.{parent_in, IsNextLevel, IsParent, HasParents}
 use Rattle.golf_cert.proofs.Lists.{slice_get_at}
 use Rattle.golf_cert.proofs.Claims.{level_of}
 
@@ -38,7 +38,7 @@ module _ (g : GraphParts) (w : Walk) (levels : HasLevels g w) where
   level_is p level l = level_once g p (level_of w p) level (levels.levels p (levels.least p (l.way.0, l.way.1))) l
 
   -- a place without one that leads to it is a root, and of the first level
-  pub first_level : (p : ℕ) → 0 < level_of w p → ((q : ℕ) → Leads g w.levels q p → ⊥) → (level_of w p ≡ 1)
+  pub first_level : (p : ℕ) → 0 < level_of w p → ((q : ℕ) → IsNextLevel g w.levels q p → ⊥) → (level_of w p ≡ 1)
       × In p g.roots
   first_level p some none =
       let l = levels.levels p some in

@@ -20,9 +20,9 @@ use Rattle.golf_cert.specs.declared.links.Verdict.{Verdict}
 use Rattle.golf_cert.specs.declared.links.Verdict.TheVariants.{Proved, Refused}
 use Rattle.golf_marks.specs.Flags.{IsSet}
 use Rattle.golf_cert.specs.Links.{placed_by, places_of, IsJustifiedAmong, IsJustifiedBy, AreJustifiedBelow}
-use Rattle.golf_cert.specs.Links.{AreJustified, IsClosedSet, IsClosed, IsRefusedAt, IsVerdictOn}
+use Rattle.golf_cert.specs.Links.{AreJustified, IsClosedSet, ContainsLeast, IsRefusedAt, IsVerdictOn}
 use Rattle.golf_cert.specs.Steps.{place_count}
-use Rattle.golf_cert.specs.Verifying.{IsVerifying, TellsPlace}
+use Rattle.golf_cert.specs.Verification.{IsVerifying, TellsPlace}
 use Rattle.golf_marks.proofs.Flags.{IsSet-set, set-IsSet}
 use Rattle.golf_cert.proofs.FlagLaws.{unset, same_item}
 use Rattle.golf_cert.proofs.Walks.{place_of}
@@ -156,7 +156,7 @@ places_least g links (suc n) all i low = elim (cases_lt i n) [
       subst (Least g) (sym (get_or-map g links i r.0 r.1)) (link_least g (places_of g (take i links)) r.0 before r.2)
 ]
 
-pub placed_least : (g : GraphParts) (links : List Link) → AreJustified g links → IsClosed g (places_of g links)
+pub placed_least : (g : GraphParts) (links : List Link) → AreJustified g links → ContainsLeast g (places_of g links)
     → (p : ℕ) → In p (places_of g links) ↔ Least g p
 placed_least g links all c p = (
   λ h. let k = place_of (places_of g links) p h in subst (Least g) k.2
@@ -176,7 +176,7 @@ refused_once g links i j (inr a) (inl b) = absurd (b.2 (a.1 j b.0))
 refused_once g links i j (inr a) (inr b) = a.0 ∙ sym b.0
 
 refused_proved : (g : GraphParts) (links : List Link) (i : ℕ) → IsRefusedAt g links i → AreJustified g links
-    → IsClosed g (places_of g links) → ⊥
+    → ContainsLeast g (places_of g links) → ⊥
 refused_proved g links i (inl a) all c = a.2 (all i a.0)
 refused_proved g links i (inr a) all c = a.2 c
 
@@ -186,7 +186,7 @@ proved_refused i e = cc
 refused_same : (i j : ℕ) → Refused i ≡ Refused j → i ≡ j
 refused_same i j e = cc
 
-pub told_proved : (g : GraphParts) (links : List Link) → AreJustified g links → IsClosed g (places_of g links)
+pub told_proved : (g : GraphParts) (links : List Link) → AreJustified g links → ContainsLeast g (places_of g links)
     → IsVerdictOn g links Proved
 told_proved g links all c = record {
   proved = (λ _. (all, c), λ _. refl);

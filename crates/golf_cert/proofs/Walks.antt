@@ -1,12 +1,12 @@
 -- A walk from its beginning to its end.
--- For: `IsUnderWay`, `HasLevels` (golf_cert/specs/Walking.antt) and `walk_through` (src/walk.rt)
+-- For: `IsWalkUnderWay`, `HasLevels` (golf_cert/specs/LevelWalk.antt) and `walk_through` (src/walk.rt)
 -- By: induction over the list of places of a way; otherwise what one more turn of the walk keeps
 use Rattle.std.proofs.Common.{◌≡◌, ℕ, suc, ◌+◌, ◌<◌, ◌≤◌, ◌⊎◌, inl, inr, List, [], ◌∷◌, length, get_or, replicate, refl}
 use Rattle.std.proofs.Common.{sym, ap, ◌∙◌, subst, arith, below_more, length-append}
 use Rattle.std.proofs.lemmas.Bool.{cases_eq, cases_lt}
 use Rattle.std.proofs.lemmas.List.{get_or-replicate, get_or_past, length-replicate}
 use Rattle.golf_theory.specs.Membership.{In, Every}
-use Rattle.golf_theory.specs.Counting.{times}
+use Rattle.golf_theory.specs.Counts.{times}
 use Rattle.golf_theory.proofs.Lists.{In-get_or, Every-from, Every-at, Every-weaker}
 use Rattle.golf_theory.proofs.Times.{In-times, times-In, length-counted, sum-bits}
 use Rattle.golf_model.specs.declared.graph.GraphParts.{GraphParts}
@@ -14,7 +14,7 @@ use Rattle.golf_model.specs.Graph.{node_count, Justifies, IsInRange}
 use Rattle.golf_cert.specs.declared.walk.Walk.{Walk}
 use Rattle.golf_cert.specs.Levels.{IsWay}
 use Rattle.golf_cert.specs.Steps.{place_count}
-use Rattle.golf_cert.specs.Walking.{claimed_all, HasWay, IsLevelled, IsUnderWay, HasLevels}
+use Rattle.golf_cert.specs.LevelWalk.{claimed_all, HasWay, IsLevelled, IsWalkUnderWay, HasLevels}
 use Rattle.golf_mark.proofs.Ranges.{Justifies-below}
 use Rattle.golf_cert.proofs.Claims.{level_of, IsSteady, Grows, Grows-at, claim_all-steady}
 
@@ -112,12 +112,12 @@ grown x y f = omega (arith, ap length f.added.1, length-append x.order f.added.0
 
 -- the roots have the first level
 pub begins : (g : GraphParts) (w v : Walk) → IsInRange g → w.levels ≡ replicate (place_count g) 0 → w.order ≡ []
-    → v ≡ claimed_all 1 g.roots w → IsUnderWay g v 0
+    → v ≡ claimed_all 1 g.roots w → IsWalkUnderWay g v 0
 begins g w v fit levels order is =
     let all : Every (λ p. (p < place_count g) × HasWay g p 1) g.roots =
     Every-from (λ p. (p < place_count g) × HasWay g p 1) g.roots (λ p h. (root_low g fit p h, HasWay-root g p h)) in
     let c = claim_all-steady g 1 (omega arith) g.roots w (empty-steady g w levels order) all in
-    subst (λ (u : Walk). IsUnderWay g u 0) (sym is) record {
+    subst (λ (u : Walk). IsWalkUnderWay g u 0) (sym is) record {
       levelled = c.0.levelled;
       within = omega arith;
       near = λ low p.
@@ -130,10 +130,10 @@ begins g w v fit levels order is =
 
 -- the next place is scanned: all that it justifies is in these lists
 pub goes_on : {g : GraphParts} {a b : Walk} {turn p level : ℕ} (first second : List ℕ) → IsInRange g
-    → IsUnderWay g a turn → turn < length a.order → get_or a.order turn 0 ≡ p → level ≡ level_of a p + 1
+    → IsWalkUnderWay g a turn → turn < length a.order → get_or a.order turn 0 ≡ p → level ≡ level_of a p + 1
     → ((q : ℕ) → Justifies g p q → In q first ⊎ In q second) → Every (Justifies g p) first
     → Every (Justifies g p) second
-    → b ≡ claimed_all level second (claimed_all level first a) → IsUnderWay g b (turn + 1)
+    → b ≡ claimed_all level second (claimed_all level first a) → IsWalkUnderWay g b (turn + 1)
 goes_on {g} {a} {b} {turn} {p} {level} first second fit u low at is parts left right result =
     let positive : 0 < level = omega (arith, is) in
     let here : 0 < level_of a p = listed_has g a u.levelled p
@@ -161,7 +161,7 @@ goes_on {g} {a} {b} {turn} {p} {level} first second fit u low at is parts left r
     λ k h.
     ap (level_of v) (placed k h) ∙ kept (get_or a.order k 0)
     (listed_has g a u.levelled (get_or a.order k 0) (In-get_or a.order k 0 h)) in
-    subst (λ (z : Walk). IsUnderWay g z (turn + 1)) (sym result) record {
+    subst (λ (z : Walk). IsWalkUnderWay g z (turn + 1)) (sym result) record {
       levelled = s.0.levelled;
       within = omega (arith, low, grown a m f.1, grown m v s.1);
       near = λ more q.
@@ -193,7 +193,7 @@ goes_on {g} {a} {b} {turn} {p} {level} first second fit u low at is parts left r
     }
 
 -- all listed places are scanned
-pub ends : (g : GraphParts) (w : Walk) (turn : ℕ) → IsUnderWay g w turn → length w.order ≤ turn → HasLevels g w
+pub ends : (g : GraphParts) (w : Walk) (turn : ℕ) → IsWalkUnderWay g w turn → length w.order ≤ turn → HasLevels g w
 ends g w turn u all =
     let relaxed : IsRelaxed g w = record {
       roots = u.roots;

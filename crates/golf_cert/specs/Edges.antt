@@ -58,7 +58,8 @@ pub record Stamps (from : ℕ) (places : List ℕ) (old new : List (Option ℕ))
   pub others : (p x : ℕ) → parent_in new p ≡ Some x → (x ≡ from) ⊎ (parent_in old p ≡ Some x)
 
 -- the edges among these links that lead from the place are found
-pub record Finds (g : GraphParts) (links : List Link) (from : ℕ) (numbers : List ℕ) (old new : List Bool) : Type 0 where
+pub record FindsEdges (g : GraphParts) (links : List Link) (from : ℕ) (numbers : List ℕ)
+    (old new : List Bool) : Type 0 where
   pub size : length new ≡ length old
   pub kept : (i : ℕ) → IsSet old i → IsSet new i
   pub sound : (i : ℕ) → IsSet new i → IsSet old i ⊎ IsEdgeAt g links i

@@ -1,11 +1,11 @@
 -- Laws on levels and reasons.
 use Rattle.std.specs.Prelude.{◌≡◌, ◌≤◌, ◌↔◌, ℕ, List, []}
 use Rattle.golf_theory.specs.Membership.{In}
-use Rattle.golf_theory.specs.Counting.{times}
+use Rattle.golf_theory.specs.Counts.{times}
 use Rattle.golf_model.specs.declared.graph.GraphParts.{GraphParts}
 use Rattle.golf_model.specs.Graph.{Least, IsInRange}
 use Rattle.golf_cert.specs.Levels.{IsReason}
-use Rattle.golf_cert.specs.Computing.{least_in_order, reason_to}
+use Rattle.golf_cert.specs.ComputedLevels.{least_in_order, reason_to}
 
 -- a place has at most one reason
 abbrev pub OneReason : Type 0
@@ -18,6 +18,6 @@ ReasonsComputed = (g : GraphParts) → IsInRange g → (p : ℕ)
     × ((Least g p → ⊥) → reason_to g p ≡ [])
 
 -- the computed list has the places of the least closed set, each once
-abbrev pub LeastComputed : Type 0
-LeastComputed = (g : GraphParts) → IsInRange g → (p : ℕ) → (In p (least_in_order g) ↔ Least g p)
+abbrev pub OrderComputed : Type 0
+OrderComputed = (g : GraphParts) → IsInRange g → (p : ℕ) → (In p (least_in_order g) ↔ Least g p)
     × (times p (least_in_order g) ≤ 1)

@@ -1,10 +1,10 @@
 pub mod Links
 pub mod Levels
 pub mod Steps
-pub mod Walking
+pub mod LevelWalk
 pub mod Parents
 pub mod Edges
-pub mod Verifying
-pub mod Finding
-pub mod Computing
+pub mod Verification
+pub mod Reasons
+pub mod ComputedLevels
 pub mod Laws

@@ -53,19 +53,19 @@ pub record IsClosedSet (g : GraphParts) (Placed : ℕ → Type 0) : Type 0 where
   pub justified : (p q : ℕ) → Placed p → Justifies g p q → Placed q
 
 -- the roots are among these places, and all places that one of them justifies
-abbrev pub IsClosed : GraphParts → List ℕ → Type 0
-IsClosed g places = IsClosedSet g (λ p. In p places)
+abbrev pub ContainsLeast : GraphParts → List ℕ → Type 0
+ContainsLeast g places = IsClosedSet g (λ p. In p places)
 
 -- the link of this number is the first that is not justified; past the last one: all are justified, and a place is
 -- missing
 abbrev pub IsRefusedAt : GraphParts → List Link → ℕ → Type 0
 IsRefusedAt g links i =
     ((i < length links) × AreJustifiedBelow g links i × (IsJustifiedAt g links i → ⊥))
-    ⊎ ((i ≡ length links) × AreJustified g links × (IsClosed g (places_of g links) → ⊥))
+    ⊎ ((i ≡ length links) × AreJustified g links × (ContainsLeast g (places_of g links) → ⊥))
 
 -- the meaning of a verdict on the links of a certificate
 pub record IsVerdictOn (g : GraphParts) (links : List Link) (verdict : Verdict) : Type 0 where
-  pub proved : (verdict ≡ Proved) ↔ (AreJustified g links × IsClosed g (places_of g links))
+  pub proved : (verdict ≡ Proved) ↔ (AreJustified g links × ContainsLeast g (places_of g links))
   pub refused : (i : ℕ) → (verdict ≡ Refused i) ↔ IsRefusedAt g links i
   pub least : verdict ≡ Proved → (p : ℕ) → In p (places_of g links) ↔ Least g p
 

@@ -13,15 +13,15 @@ abbrev pub parent_in : List (Option ℕ) → ℕ → Option ℕ
 parent_in parents p = slice_index_or parents p None
 
 -- the first place has a level, and justifies the second one, which is of the next level
-pub record Leads (g : GraphParts) (levels : List ℕ) (from to : ℕ) : Type 0 where
+pub record IsNextLevel (g : GraphParts) (levels : List ℕ) (from to : ℕ) : Type 0 where
   pub is_levelled : 0 < slice_index levels from
   pub is_next : slice_index levels to ≡ slice_index levels from + 1
   pub justifies : Justifies g from to
 
 -- the smallest place that leads there
 pub record IsParent (g : GraphParts) (levels : List ℕ) (parent place : ℕ) : Type 0 where
-  pub leads : Leads g levels parent place
-  pub least : (other : ℕ) → Leads g levels other place → parent ≤ other
+  pub leads : IsNextLevel g levels parent place
+  pub least : (other : ℕ) → IsNextLevel g levels other place → parent ≤ other
 
 -- Each place has its parent, as far as the walk has come. The sources below `bound` are done, and of the source `bound`
 -- those places that are `Done`.
@@ -29,13 +29,13 @@ pub record HasParentsBelow (g : GraphParts) (levels : List ℕ) (bound : ℕ) (D
     (parents : List (Option ℕ)) : Type 0 where
   pub size : length parents ≡ place_count g
   pub none : (p : ℕ) → parent_in parents p ≡ None → (from : ℕ) → (from < bound) ⊎ ((from ≡ bound) × Done p)
-      → Leads g levels from p → ⊥
+      → IsNextLevel g levels from p → ⊥
   pub some : (p parent : ℕ) → parent_in parents p ≡ Some parent → IsParent g levels parent p
 
 -- each place has its parent, if a place leads to it
 pub record HasParents (g : GraphParts) (levels : List ℕ) (parents : List (Option ℕ)) : Type 0 where
   pub size : length parents ≡ place_count g
-  pub none : (p : ℕ) → parent_in parents p ≡ None → (from : ℕ) → Leads g levels from p → ⊥
+  pub none : (p : ℕ) → parent_in parents p ≡ None → (from : ℕ) → IsNextLevel g levels from p → ⊥
   pub some : (p parent : ℕ) → parent_in parents p ≡ Some parent → IsParent g levels parent p
 
 -- a place becomes the parent of another one, if that is of the next level and has no parent
@@ -50,7 +50,7 @@ adopted_all levels parent (p ∷ ps) parents = adopted_all levels parent ps (ado
 
 -- the link is justified if all places that lead to the place were placed before it
 abbrev pub IsLinkTo : GraphParts → List ℕ → ℕ → Link → Type 0
-IsLinkTo g levels place link = (before : List ℕ) → ((from : ℕ) → Leads g levels from place → In from before)
+IsLinkTo g levels place link = (before : List ℕ) → ((from : ℕ) → IsNextLevel g levels from place → In from before)
     → IsJustifiedBy g before link
 
 -- the list gains a link that places the place and is justified so

@@ -4,14 +4,14 @@
 //! before it.
 
 ghost use Rattle.std.specs.Prelude.{◌^◌, ◌≡◌, ◌-◌, ◌<◌, ◌≤◌, ◌↔◌, ℕ, IfOk, OnOk, IsTrue, length, slice_index};
-ghost use Rattle.golf_theory.specs.Counting.{times};
+ghost use Rattle.golf_theory.specs.Counts.{times};
 ghost use Rattle.golf_model.specs.Graph.{node_count, Least};
 ghost use Rattle.golf_marks.specs.Flags.{IsSet};
-ghost use Rattle.golf_cert.specs.Computing.{least_in_order};
-ghost use Rattle.golf_cert.specs.Links.{placed_by, places_of, AreJustified, IsClosed, CoversLeast};
+ghost use Rattle.golf_cert.specs.ComputedLevels.{least_in_order};
+ghost use Rattle.golf_cert.specs.Links.{placed_by, places_of, AreJustified, ContainsLeast, CoversLeast};
 ghost use Rattle.golf_cert.specs.Parents.{HasParents, IsLinkTo, AddsLink};
 ghost use Rattle.golf_cert.specs.Steps.{place_count};
-ghost use Rattle.golf_cert.specs.Walking.{HasLevels};
+ghost use Rattle.golf_cert.specs.LevelWalk.{HasLevels};
 
 use crate::flags::is_set;
 use crate::links::{Certificate, Link};
@@ -110,7 +110,7 @@ pub fn certify(alloc: Global, graph: &Graph, marked: &Marked) -> Result<Certific
     requires { CoversLeast graph.now marked.now }
     ensures justified { IfOk result (λ c. AreJustified graph.now c.links) }
     ensures placed { IfOk result (λ c. (p : ℕ) → Least graph.now p → times p (places_of graph.now c.links) ≡ 1) }
-    ensures closed { IfOk result (λ c. IsClosed graph.now (places_of graph.now c.links)) }
+    ensures closed { IfOk result (λ c. ContainsLeast graph.now (places_of graph.now c.links)) }
     ensures count { IfOk result (λ c. length c.links ≡ length (least_in_order graph.now)) }
     ensures few { IfOk result (λ c. length c.links < 2 ^ 32) }
 {

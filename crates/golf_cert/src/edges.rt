@@ -7,10 +7,10 @@ ghost use Rattle.std.specs.Prelude.{◌^◌, ◌≡◌, ◌+◌, ◌<◌, ◌↔
 ghost use Rattle.std.specs.Prelude.{Some};
 ghost use Rattle.golf_theory.specs.Membership.{Every};
 ghost use Rattle.golf_model.specs.Graph.{sleeper_count, Justifies};
-ghost use Rattle.golf_cert.specs.Edges.{source_of, IsEdge, IsStepOf, HasLeading, Enters, Stamps, Finds, FindsOne};
+ghost use Rattle.golf_cert.specs.Edges.{source_of, IsEdge, IsStepOf, HasLeading, Enters, Stamps, FindsEdges, FindsOne};
 ghost use Rattle.golf_cert.specs.Edges.{IsFinding, HasEdges};
 ghost use Rattle.golf_cert.specs.Parents.{parent_in};
-ghost use Rattle.golf_cert.specs.Steps.{place_count, HasWoken};
+ghost use Rattle.golf_cert.specs.Steps.{place_count, HasSleeperRows};
 
 use crate::links::Link;
 use crate::steps::{places_in, referred, row};
@@ -180,7 +180,7 @@ fn find_all(
     requires stamps { (p : ℕ) → (parent_in stamps.now p ≡ Some from) ↔ Justifies graph.now from p }
     requires count { length flags.old ≡ length links.now }
     requires numbers { Every (λ i. i < length links.now) numbers.now }
-    ensures { Finds graph.now links.now from numbers.now flags.old flags.new }
+    ensures { FindsEdges graph.now links.now from numbers.now flags.old flags.new }
 {
     for number in numbers {
         find(graph, links, stamps, flags, from, *number);
@@ -197,7 +197,7 @@ fn find_from(
     flags: &mut List<bool>,
     place: u32,
 )
-    requires rows { HasWoken graph.now (sleeper_count graph.now) rows.now }
+    requires rows { HasSleeperRows graph.now (sleeper_count graph.now) rows.now }
     requires leading { HasLeading graph.now links.now (length links.now) leading.now }
     requires place { place < place_count graph.now }
     requires below { IsFinding graph.now links.now place stamps.old flags.old }
@@ -223,7 +223,7 @@ pub(crate) fn edge_flags(
     rows: &List<List<u32>>,
     links: &[Link],
 ) -> Result<List<bool>, Memory>
-    requires rows { HasWoken graph.now (sleeper_count graph.now) rows.now }
+    requires rows { HasSleeperRows graph.now (sleeper_count graph.now) rows.now }
     requires small { length links.now < 2 ^ 32 }
     ensures { IfOk result (HasEdges graph.now links.now) }
 {

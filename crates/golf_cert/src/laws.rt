@@ -1,6 +1,6 @@
 //! Laws on levels and reasons.
 
-ghost use Rattle.golf_cert.specs.Laws.{LeastComputed, OneReason, ReasonsComputed};
+ghost use Rattle.golf_cert.specs.Laws.{OrderComputed, OneReason, ReasonsComputed};
 
 /// States that a place has at most one reason.
 pub fn reasons_are_unique()
@@ -15,5 +15,5 @@ pub fn reasons_are_computed()
 
 /// States that the computed places are those of the least closed set, each once.
 pub fn least_is_computed()
-    ensures computed { LeastComputed }
+    ensures computed { OrderComputed }
 {}

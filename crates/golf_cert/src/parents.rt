@@ -5,8 +5,8 @@
 ghost use Rattle.std.specs.Prelude.{◌^◌, ◌≡◌, ◌+◌, ◌<◌, IfOk, length, slice_index};
 ghost use Rattle.golf_theory.specs.Membership.{Every};
 ghost use Rattle.golf_model.specs.Graph.{sleeper_count};
-ghost use Rattle.golf_cert.specs.Steps.{place_count, HasWoken};
-ghost use Rattle.golf_cert.specs.Walking.{HasLevels};
+ghost use Rattle.golf_cert.specs.Steps.{place_count, HasSleeperRows};
+ghost use Rattle.golf_cert.specs.LevelWalk.{HasLevels};
 ghost use Rattle.golf_cert.specs.Parents.{adopted, adopted_all, parent_in, HasParents, HasParentsBelow};
 
 use crate::steps::{places_in, referred, row};
@@ -50,7 +50,7 @@ fn adopt_from(
     parents: &mut List<Option<u32>>,
     place: u32,
 )
-    requires rows { HasWoken graph.now (sleeper_count graph.now) rows.now }
+    requires rows { HasSleeperRows graph.now (sleeper_count graph.now) rows.now }
     requires levels { HasLevels graph.now walk.now }
     requires place { place < place_count graph.now }
     requires below { HasParentsBelow graph.now walk.now.levels place (λ _. ⊥) parents.old }
@@ -72,7 +72,7 @@ pub(crate) fn parents_of(
     rows: &List<List<u32>>,
     walk: &Walk,
 ) -> Result<List<Option<u32>>, Memory>
-    requires rows { HasWoken graph.now (sleeper_count graph.now) rows.now }
+    requires rows { HasSleeperRows graph.now (sleeper_count graph.now) rows.now }
     requires levels { HasLevels graph.now walk.now }
     ensures { IfOk result (HasParents graph.now walk.now.levels) }
 {

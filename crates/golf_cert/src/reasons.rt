@@ -6,11 +6,11 @@
 ghost use Rattle.std.specs.Prelude.{◌≡◌, ◌+◌, ◌<◌, ◌↔◌, [], ◌∷◌, IfOk, IsSome, IfSome, MatchOption, length};
 ghost use Rattle.std.specs.Prelude.{slice_index};
 ghost use Rattle.golf_model.specs.Graph.{sleeper_count, sleeper_place, Justifies, Least};
-ghost use Rattle.golf_cert.specs.Computing.{reason_in};
+ghost use Rattle.golf_cert.specs.ComputedLevels.{reason_in};
 ghost use Rattle.golf_cert.specs.Levels.{IsReason, IsShortest};
 ghost use Rattle.golf_cert.specs.Links.{placed_by, places_of, IsJustifiedBy, AreJustified};
 ghost use Rattle.golf_cert.specs.Parents.{HasParents};
-ghost use Rattle.golf_cert.specs.Walking.{HasLevels};
+ghost use Rattle.golf_cert.specs.LevelWalk.{HasLevels};
 
 use crate::links::Link;
 use crate::parents::{parent_at, parents_of};
@@ -70,7 +70,7 @@ fn links_to(
     Ok(List::from_vec(links))
 }
 
-/// The reasons of all sleepers of one graph, found in one pass. It takes about 20 bytes for each place.
+/// The reasons of all sleepers of one graph, found in one walk. It takes about 20 bytes for each place.
 #[derive(Drop)]
 pub struct Reasons {
     pub(crate) walk: Walk,
@@ -78,7 +78,7 @@ pub struct Reasons {
 }
 
 impl Reasons {
-    ghost use Rattle.golf_cert.specs.Finding.{HasReasons};
+    ghost use Rattle.golf_cert.specs.Reasons.{HasReasons};
 
     /// Finds the level and the parent of each place of a graph. The time is linear in the graph. The only
     /// error is `Memory`.

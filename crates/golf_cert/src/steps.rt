@@ -4,7 +4,7 @@
 ghost use Rattle.std.specs.Prelude.{◌^◌, ◌≡◌, ◌+◌, ◌<◌, IfOk};
 ghost use Rattle.golf_model.specs.Graph.{sleeper_count, IsInRange};
 ghost use Rattle.golf_rows.specs.Rows.{row_of};
-ghost use Rattle.golf_cert.specs.Steps.{place_count, referred_by, HasWoken};
+ghost use Rattle.golf_cert.specs.Steps.{place_count, referred_by, HasSleeperRows};
 
 use golf_base::{List, Memory};
 use golf_model::Graph;
@@ -22,7 +22,7 @@ pub(crate) fn places_in(graph: &Graph) -> u32
 
 /// Returns for each node the places of the sleepers that wait on it.
 pub(crate) fn woken_rows(alloc: Global, graph: &Graph) -> Result<List<List<u32>>, Memory>
-    ensures { IfOk result (HasWoken graph.now (sleeper_count graph.now)) }
+    ensures { IfOk result (HasSleeperRows graph.now (sleeper_count graph.now)) }
 {
     let nodes = graph.nodes();
     let mut rows = empty_rows(alloc, nodes)?;

@@ -6,8 +6,8 @@ ghost use Rattle.golf_model.specs.Graph.{sleeper_count};
 ghost use Rattle.golf_cert.specs.Edges.{IsEdge};
 ghost use Rattle.golf_marks.specs.Flags.{IsSet};
 ghost use Rattle.golf_cert.specs.Links.{IsClosedSet, IsVerdictOn};
-ghost use Rattle.golf_cert.specs.Steps.{place_count, HasWoken};
-ghost use Rattle.golf_cert.specs.Verifying.{IsScanned, IsUnrooted, TellsPlace};
+ghost use Rattle.golf_cert.specs.Steps.{place_count, HasSleeperRows};
+ghost use Rattle.golf_cert.specs.Verification.{IsPlacedOn, IsUnrooted, TellsPlace};
 
 use crate::edges::{edge_flags, link_at, step_of};
 use crate::flags::{are_set, flags_of, is_set};
@@ -19,9 +19,9 @@ use std::alloc::Global;
 
 // Whether all places that a place justifies are placed, or the place itself is not placed.
 fn is_scanned(graph: &Graph, rows: &List<List<u32>>, placed: &[bool], place: u32) -> bool
-    requires rows { HasWoken graph.now (sleeper_count graph.now) rows.now }
+    requires rows { HasSleeperRows graph.now (sleeper_count graph.now) rows.now }
     requires place { place < place_count graph.now }
-    ensures { IsTrue result ↔ IsScanned graph.now placed.now place }
+    ensures { IsTrue result ↔ IsPlacedOn graph.now placed.now place }
 {
     let _places = places_in(graph);
     if !is_set(placed, place) {
@@ -35,7 +35,7 @@ fn is_scanned(graph: &Graph, rows: &List<List<u32>>, placed: &[bool], place: u32
 
 // Whether the roots are placed, and all places that a placed place justifies.
 fn is_closed(graph: &Graph, rows: &List<List<u32>>, placed: &[bool]) -> bool
-    requires rows { HasWoken graph.now (sleeper_count graph.now) rows.now }
+    requires rows { HasSleeperRows graph.now (sleeper_count graph.now) rows.now }
     requires size { length placed.now ≡ place_count graph.now }
     ensures { IsTrue result ↔ IsClosedSet graph.now (IsSet placed.now) }
 {

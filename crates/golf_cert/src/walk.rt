@@ -6,8 +6,8 @@ ghost use Rattle.std.specs.Prelude.{◌^◌, ◌≡◌, ◌+◌, ◌<◌, IfOk, 
 ghost use Rattle.golf_theory.specs.Membership.{Every};
 ghost use Rattle.golf_model.specs.Graph.{sleeper_count};
 ghost use Rattle.golf_rows.specs.Rows.{row_of};
-ghost use Rattle.golf_cert.specs.Steps.{place_count, referred_by, HasWoken};
-ghost use Rattle.golf_cert.specs.Walking.{claimed, claimed_all, HasLevels};
+ghost use Rattle.golf_cert.specs.Steps.{place_count, referred_by, HasSleeperRows};
+ghost use Rattle.golf_cert.specs.LevelWalk.{claimed, claimed_all, HasLevels};
 
 use crate::steps::{places_in, referred, row};
 use golf_base::{List, Memory};
@@ -63,7 +63,7 @@ fn scan(
     level: usize,
     place: u32,
 ) -> Result<(), Memory>
-    requires rows { HasWoken graph.now (sleeper_count graph.now) rows.now }
+    requires rows { HasSleeperRows graph.now (sleeper_count graph.now) rows.now }
     requires size { length walk.old.levels ≡ place_count graph.now }
     requires place { place < place_count graph.now }
     ensures ok { OnOk result (walk.new ≡ claimed_all level (row_of rows.now place) (claimed_all level (referred_by graph.now place) walk.old)) }
@@ -88,7 +88,7 @@ pub(crate) fn walk_through(
     graph: &Graph,
     rows: &List<List<u32>>,
 ) -> Result<Walk, Memory>
-    requires { HasWoken graph.now (sleeper_count graph.now) rows.now }
+    requires { HasSleeperRows graph.now (sleeper_count graph.now) rows.now }
     ensures { IfOk result (HasLevels graph.now) }
 {
     let mut levels = List::new(alloc);

@@ -1,5 +1,5 @@
 -- What is in the buffer of a channel.
--- For: `receive_buffered` and `receive_unbuffered`, src/receiving.rt
+-- For: `receive_buffered` and `receive_unbuffered`, src/receives.rt
 -- By: cases of the object; no induction
 use Rattle.std.proofs.Common.{◌≡◌, List, [], ◌∷◌, Option, Some, refl}
 use Rattle.golf_data.specs.declared.value.Value.{Value}

@@ -1,5 +1,5 @@
 -- Cases that take their operands, from the last one to the first.
--- For: `offers_of`, src/offers.rt; `offers_of`, golf_model/specs/Selecting.antt
+-- For: `offers_of`, src/offers.rt; `offers_of`, golf_model/specs/Selects.antt
 -- By: induction over i, the cases before the one in turn
 use Rattle.std.proofs.Common.{◌≡◌, ℕ, zero, suc, ◌+◌, ◌-◌, ◌<◌, ◌≤◌, List, [], ◌∷◌, ◌++◌, length, take, drop, get_or}
 use Rattle.std.proofs.Common.{Some, None, refl, sym, ap, ◌∙◌, arith}
@@ -7,7 +7,7 @@ use Rattle.std.specs.Prelude.{reverse}
 use Rattle.std.proofs.lemmas.List.{drop_more, take_all, drop_all, append-nil, length-take-le}
 use Rattle.golf_data.specs.declared.value.Value.{Value}
 use Rattle.golf_data.specs.declared.code.SelectCase.{SelectCase}
-use Rattle.golf_model.specs.Selecting.{Taken, and_case, take_case, offers_of}
+use Rattle.golf_model.specs.Selects.{Taken, and_case, take_case, offers_of}
 use Rattle.golf_state.proofs.Tops.{reverse-take}
 
 -- one case more

@@ -1,13 +1,13 @@
 -- The goroutine in its turn goes on, and those that are blocked stay as they are.
--- For: `send_on`, src/sending.rt; `receive_buffered` and `receive_unbuffered`, src/receiving.rt
+-- For: `send_on`, src/sends.rt; `receive_buffered` and `receive_unbuffered`, src/receives.rt
 -- By: putting the laws of the state together; no induction
 use Rattle.std.proofs.Common.{◌≡◌, ℕ, List, ap, ◌∙◌}
 use Rattle.golf_data.specs.declared.value.Value.{Value}
 use Rattle.golf_model.specs.State.{State}
 use Rattle.golf_model.specs.Changes.{apply_all}
-use Rattle.golf_model.specs.Acting.{stands}
-use Rattle.golf_state.specs.Doing.{does, Stands}
-use Rattle.golf_state.specs.Going.{went}
+use Rattle.golf_model.specs.Actors.{stands}
+use Rattle.golf_state.specs.ActorChanges.{does, Stands}
+use Rattle.golf_state.specs.FrameChanges.{went}
 use Rattle.golf_state.proofs.Doings.{does-is, actor_of}
 use Rattle.golf_state.proofs.Serving.{Beside, beside-put}
 

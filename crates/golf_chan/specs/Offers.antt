@@ -4,7 +4,7 @@ use Rattle.golf_base.specs.declared.ids.ObjectId.{ObjectId}
 use Rattle.golf_data.specs.declared.value.Value.{Value}
 use Rattle.golf_data.specs.declared.code.SelectCase.{SelectCase}
 use Rattle.golf_data.specs.declared.code.CaseKind.{CaseKind}
-use Rattle.golf_model.specs.Selecting.{Offer as Offering, take_case, offers_of}
+use Rattle.golf_model.specs.Selects.{Offer as Offering, take_case, offers_of}
 use Rattle.golf_chan.specs.declared.offers.Offer.{Offer}
 use Rattle.golf_chan.specs.declared.offers.Offered.{Offered}
 

@@ -5,13 +5,13 @@
 #![tactic(auto)]
 
 mod channel;
-mod closing;
+mod closes;
 mod offers;
-mod receiving;
-mod selecting;
-mod sending;
+mod receives;
+mod selects;
+mod sends;
 
-pub use closing::close;
-pub use receiving::receive;
-pub use selecting::select;
-pub use sending::send;
+pub use closes::close;
+pub use receives::receive;
+pub use selects::select;
+pub use sends::send;

@@ -6,8 +6,8 @@ ghost use Rattle.std.specs.Prelude.{◌≡◌, ◌∷◌, [], reverse, IfOk};
 ghost use Rattle.golf_chan.specs.Offers.{width_of, plain_offer, plain_offers, IsOfferOf, AreOffersOf, object_of};
 ghost use Rattle.golf_data.specs.declared.value.Value.{Value};
 ghost use Rattle.golf_data.specs.declared.code.CaseKind.{CaseKind};
-ghost use Rattle.golf_model.specs.Selecting.{all_on_channels, is_nil_or_channel, is_ready, ready, offered_waits};
-ghost use Rattle.golf_model.specs.Selecting.{case_waits, select_kind, can_proceed};
+ghost use Rattle.golf_model.specs.Selects.{all_on_channels, is_nil_or_channel, is_ready, ready, offered_waits};
+ghost use Rattle.golf_model.specs.Selects.{case_waits, select_kind, can_proceed};
 
 use crate::channel::channel_at;
 use golf_base::{List, Memory, ObjectId};

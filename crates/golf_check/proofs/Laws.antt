@@ -1,4 +1,4 @@
--- Heads of functions, scopes after them and with the written types, walks after parameters, and passes over a file.
+-- Heads of functions, scopes after them and with the written types, walks after parameters, and walks over a file.
 -- For: `function`, src/functions.rt; `add_written_types`, src/scopes.rt; `checked_file`, src/files.rt
 -- By: cases of the outcome
 use Rattle.std.proofs.Common.{◌≡◌, ℕ, List, [], ◌∷◌, ◌++◌, map, refl, sym, ap, subst, ◌∙◌, append_assoc}
@@ -16,7 +16,7 @@ use Rattle.golf_check_types.specs.declared.facts.Fact.{Fact}
 use Rattle.golf_check_types.specs.declared.scopes.FileScope.{FileScope}
 use Rattle.golf_check_types.specs.declared.scopes.Imports.{Imports}
 use Rattle.golf_check_types.specs.declared.scopes.Scope.{Scope}
-use Rattle.golf_check_types.specs.Faults.{Tells}
+use Rattle.golf_check_types.specs.Faults.{AnswersOrFault}
 use Rattle.golf_check_types.specs.Statements.{Walk, Walked, in_order, both, behind}
 use Rattle.golf_check_types.specs.Files.{receiver_walk, parameter_walk, all_typed_names, result_type, head_scope}
 use Rattle.golf_check_types.specs.Files.{of_function, func_walk, initial_walk, outside, struct_types, global_types}
@@ -25,7 +25,7 @@ use Rattle.golf_check_types.specs.Files.{with_imports, walk_faults, walk_facts, 
 use Rattle.golf_check_types.proofs.Seams.{tells_behind}
 use Rattle.golf_check_types.proofs.WalkLaws.{behind-both}
 use Rattle.golf_check_bodies.specs.declared.checker.Checker.{Checker}
-use Rattle.golf_check_bodies.specs.Telling.{Walks}
+use Rattle.golf_check_bodies.specs.CheckerClauses.{Walks}
 use Rattle.golf_check.specs.Heads.{receiver_name, optional_parameter, inner_walks, function_walked, Stays, scope_of}
 use Rattle.golf_check.specs.Heads.{typed_file, named_faults}
 
@@ -152,26 +152,28 @@ pub func_stays : {A : Type 0} (r : Result A TypeFault) (f : Func) (old new : Che
     → Stays r (func_walk f (outside old.scope.file)) old new
 func_stays r f old new is h = subst (λ u. Stays r (func_walk f u) old new) is h
 
--- Passes over the declarations of a file.
+-- Walks over the declarations of a file.
 
 -- after the scope with all types the answer for the declarations is that for the file with its types
 pub walked_tells : {A : Type 0} (r : Result A TypeFault) (f : FileScope) (s t : Scope) (old new : List Fact)
-    (xs : List Decl) → t ≡ outside f → Tells r (walk_faults t.file 0 xs)
+    (xs : List Decl) → t ≡ outside f → AnswersOrFault r (walk_faults t.file 0 xs)
     (λ _. (s ≡ t) × (new ≡ old ++ walk_facts t.file 0 xs))
-    → Tells r (walk_faults f 0 xs) (λ _. (s ≡ outside f) × (new ≡ old ++ walk_facts f 0 xs))
+    → AnswersOrFault r (walk_faults f 0 xs) (λ _. (s ≡ outside f) × (new ≡ old ++ walk_facts f 0 xs))
 walked_tells r f s t old new xs is h = subst
-    (λ (u : Scope). Tells r (walk_faults u.file 0 xs) (λ _. (s ≡ u) × (new ≡ old ++ walk_facts u.file 0 xs))) is h
+    (λ (u : Scope). AnswersOrFault r (walk_faults u.file 0 xs) (λ _. (s ≡ u) × (new ≡ old ++ walk_facts u.file 0 xs)))
+    is h
 
--- the answer for the passes in the scope without types is that for the declarations
+-- the answer for the walks in the scope without types is that for the declarations
 pub named_tells : {A : Type 0} (r : Result A TypeFault) (i : Imports) (s t : Scope) (old new : List Fact)
     (xs : List Decl) → s ≡ outside (bare_file i xs) → old ≡ []
-    → Tells r (named_faults s xs) (λ _. (t ≡ outside (typed_file s.file xs))
+    → AnswersOrFault r (named_faults s xs) (λ _. (t ≡ outside (typed_file s.file xs))
     × (new ≡ old ++ walk_facts (typed_file s.file xs) 0 xs))
-    → Tells r (decl_faults i xs) (λ _. (t ≡ outside (file_scope i xs)) × (new ≡ walk_facts (file_scope i xs) 0 xs))
+    → AnswersOrFault r (decl_faults i xs) (λ _. (t ≡ outside (file_scope i xs))
+    × (new ≡ walk_facts (file_scope i xs) 0 xs))
 named_tells r i s t old new xs is none h =
-    let begun = subst (λ (fs : List Fact). Tells r (named_faults s xs)
+    let begun = subst (λ (fs : List Fact). AnswersOrFault r (named_faults s xs)
     (λ _. (t ≡ outside (typed_file s.file xs)) × (new ≡ fs ++ walk_facts (typed_file s.file xs) 0 xs))) none h in
-    subst (λ (u : Scope). Tells r (named_faults u xs)
+    subst (λ (u : Scope). AnswersOrFault r (named_faults u xs)
     (λ _. (t ≡ outside (typed_file u.file xs)) × (new ≡ walk_facts (typed_file u.file xs) 0 xs))) is begun
 
 -- the checker after the declarations of a file
@@ -181,8 +183,8 @@ FoundIn i ys x = (x.scope ≡ outside (file_scope i ys)) × (x.facts ≡ walk_fa
 -- if the imports break nothing, the answer for the declarations tells of the file
 pub broken_tells : (r : Result Checker TypeFault) (f : File) (xs : List Import) (ys : List Decl) (i : Imports)
     → xs ≡ f.imports → ys ≡ f.declarations → import_faults no_imports xs ≡ [] → i ≡ with_imports no_imports xs
-    → Tells r (decl_faults i ys) (FoundIn i ys)
-    → Tells r (Broken f) (λ x. (x.scope ≡ scope_of f) × (x.facts ≡ facts_in f))
+    → AnswersOrFault r (decl_faults i ys) (FoundIn i ys)
+    → AnswersOrFault r (Broken f) (λ x. (x.scope ≡ scope_of f) × (x.facts ≡ facts_in f))
 unfolding Broken facts_in scope_of
 broken_tells r f xs ys i from at none is h =
     tells_behind r (import_faults no_imports f.imports) (decl_faults (with_imports no_imports f.imports) f.declarations)
@@ -190,6 +192,6 @@ broken_tells r f xs ys i from at none is h =
     (FoundIn (with_imports no_imports f.imports) f.declarations)
     (sym (ap (import_faults no_imports) from) ∙ none)
     (λ x k. k)
-    (subst (λ (j : Imports). Tells r (decl_faults j f.declarations) (FoundIn j f.declarations))
+    (subst (λ (j : Imports). AnswersOrFault r (decl_faults j f.declarations) (FoundIn j f.declarations))
     (is ∙ ap (with_imports no_imports) from)
-    (subst (λ (zs : List Decl). Tells r (decl_faults i zs) (FoundIn i zs)) at h))
+    (subst (λ (zs : List Decl). AnswersOrFault r (decl_faults i zs) (FoundIn i zs)) at h))

@@ -1,5 +1,5 @@
 -- The declarations of the head of a function (Go specification, "Function declarations", "Method declarations"), the
--- clauses of calls that check declarations, and the passes over the declarations of a file.
+-- clauses of calls that check declarations, and the walks over the declarations of a file.
 use Rattle.std.specs.Prelude.{◌≡◌, ℕ, List, ◌∷◌, ◌++◌, [], map, flat_map, Option, Some, None, Result}
 use Rattle.golf_syntax_trees.specs.declared.declarations.Receiver.{Receiver}
 use Rattle.golf_syntax_trees.specs.declared.declarations.Func.{Func}
@@ -9,7 +9,7 @@ use Rattle.golf_check_types.specs.declared.fault.TypeFault.{TypeFault}
 use Rattle.golf_check_types.specs.declared.types.GoType.{GoType}
 use Rattle.golf_check_types.specs.declared.scopes.FileScope.{FileScope}
 use Rattle.golf_check_types.specs.declared.scopes.Scope.{Scope}
-use Rattle.golf_check_types.specs.Faults.{Fault, Tells}
+use Rattle.golf_check_types.specs.Faults.{Fault, AnswersOrFault}
 use Rattle.golf_check_types.specs.Statements.{Walk, Walked, nothing, breaks, behind, in_order, walk}
 use Rattle.golf_check_bodies.specs.declared.checker.Checker.{Checker}
 use Rattle.golf_check_types.specs.Files.{receiver_type, parameter_walk, end_faults, of_function, names_faults}
@@ -50,19 +50,20 @@ function_walked f r ps s = of_function (arguments f r ps s) s (in_order (head_wa
 -- The clause of a call for a head and its body: besides that of a statement, the answer is how many slots receiver and
 -- parameters have.
 abbrev pub Counts : Result ℕ TypeFault → Walked → ℕ → Checker → Checker → Type 0
-Counts result w n old new = Tells result w.faults
+Counts result w n old new = AnswersOrFault result w.faults
     (λ k. (k ≡ n) × ((new.scope ≡ behind old.scope w) × (new.facts ≡ old.facts ++ w.facts)))
 
 -- The clause of a call for a declaration: an answer comes only if no rule is broken. Then the scope is as before, and
 -- the facts of the declaration were added.
 abbrev pub Stays : {A : Type 0} → Result A TypeFault → Walked → Checker → Checker → Type 0
-Stays result w old new = Tells result w.faults (λ _. (new.scope ≡ old.scope) × (new.facts ≡ old.facts ++ w.facts))
+Stays result w old new = AnswersOrFault result w.faults
+    (λ _. (new.scope ≡ old.scope) × (new.facts ≡ old.facts ++ w.facts))
 
 -- the names of a file with their types, as written and by form
 abbrev pub typed_file : FileScope → List Decl → FileScope
 typed_file f xs = with_forms (with_types f xs) 0 xs
 
--- the faults of the passes over declarations, in the scope outside all functions in which names have no types yet
+-- the faults of the walks over declarations, in the scope outside all functions in which names have no types yet
 abbrev pub named_faults : Scope → List Decl → List Fault
 named_faults s xs = names_faults s.file none_above xs
     ++ (flat_map (type_faults s) xs ++ (main_faults xs ++ walk_faults (typed_file s.file xs) 0 xs))

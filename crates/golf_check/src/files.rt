@@ -1,10 +1,10 @@
 //! The check of a whole file.
 //!
-//! The passes follow one another as in the definition of `Broken`: imports, names, written types, `main`, and then
+//! The walks follow one another as in the definition of `Broken`: imports, names, written types, `main`, and then
 //! constants, initialisers and bodies. The first broken rule ends the check.
 
 ghost use Rattle.std.specs.Prelude.{◌≡◌, ◌++◌, IfOk};
-ghost use Rattle.golf_check_types.specs.Faults.{Tells};
+ghost use Rattle.golf_check_types.specs.Faults.{AnswersOrFault};
 ghost use Rattle.golf_check_types.specs.Facts.{types_told};
 ghost use Rattle.golf_check_types.specs.Files.{outside, decl_walked, walk_faults, walk_facts, decl_faults, file_scope};
 ghost use Rattle.golf_check_types.specs.Files.{Broken, facts_in};
@@ -19,16 +19,35 @@ use golf_check_names::{imported, main_is_there, names_are_good, next_global, typ
 use golf_check_types::{Fact, GoType, Imports, Scope, TypeFault, type_of};
 use golf_syntax_trees::{Decl, File};
 use std::alloc::Global;
+use std::marker::Model;
 
 /// A file that keeps the rules, and the facts of its constants, initialisers and functions in source order.
 ///
 /// There is one fact for each expression of the tree, in the order in which their prints begin. An outer expression
 /// comes before an inner one that begins at the same token. Facts of other kinds are between them.
+///
+/// Contracts see it as its file. The scope outside all functions and the facts are those of the file.
 pub struct Checked {
-    pub file: File,
-    /// The scope outside all functions.
-    pub scope: Scope,
-    pub facts: List<Fact>,
+    file: File,
+    scope: Scope,
+    facts: List<Fact>,
+}
+
+impl Model for Checked {
+    ghost use Rattle.std.specs.Prelude.{◌≡◌};
+    ghost use Rattle.golf_check_types.specs.Files.{facts_in};
+    ghost use Rattle.golf_check.specs.Heads.{scope_of};
+    ghost use Rattle.golf_syntax_trees.specs.declared.declarations.File.{File};
+    ghost use Rattle.golf_syntax_trees.specs.contracts.declarations.File as file_of_tree;
+    ghost use Rattle.std.specs.Coded.{codes};
+
+    ghost Value = { File };
+
+    ghost coded = { Prim.hlevel (codes, file_of_tree.the_row.coded) };
+
+    ghost view = { λ c. c.file };
+
+    ghost invariant = { λ c. (c.scope ≡ scope_of c.file) × (c.facts ≡ facts_in c.file) };
 }
 
 // Written out once here, so that no other crate has to prove the drop of each field.
@@ -43,13 +62,34 @@ impl Drop for Checked {
 }
 
 impl Checked {
+    /// Returns the file.
+    pub fn file(&self) -> &File
+        ensures { result.now ≡ self.now }
+    {
+        &self.file
+    }
+
+    /// Returns the scope outside all functions.
+    pub fn scope(&self) -> &Scope
+        ensures { result.now ≡ scope_of self.now }
+    {
+        &self.scope
+    }
+
+    /// Returns the facts of constants, initialisers and functions in source order.
+    pub fn facts(&self) -> &[Fact]
+        ensures { result.now ≡ facts_in self.now }
+    {
+        self.facts.as_slice()
+    }
+
     /// Returns the types of the expressions, in the order of their facts. The type is `None` for a callee, a package, a
     /// function's name, `_`, `nil` and a call without a result.
     pub fn types(&self, alloc: Global) -> Result<List<Option<GoType>>, Memory>
-        ensures { IfOk result (λ ts. ts ≡ types_told self.now.facts) }
+        ensures { IfOk result (λ ts. ts ≡ types_told (facts_in self.now)) }
     {
         let mut types = List::new(alloc);
-        for fact in self.facts.as_slice() {
+        for fact in self.facts() {
             match fact {
                 Fact::Expression { operand, parts: _ } => types.push(type_of(alloc, operand)?)?,
                 Fact::Number(_) => {}
@@ -85,7 +125,7 @@ fn declaration(checker: &mut Checker, global_number: u32, decl: &Decl) -> Result
 // Checks constants, initialisers and bodies, in source order.
 fn declarations(checker: &mut Checker, decls: &[Decl]) -> Result<(), TypeFault>
     requires { checker.old.scope ≡ outside checker.old.scope.file }
-    ensures { Tells result (walk_faults checker.old.scope.file 0 decls.now) (λ _. (checker.new.scope ≡ checker.old.scope) × (checker.new.facts ≡ checker.old.facts ++ walk_facts checker.old.scope.file 0 decls.now)) }
+    ensures { AnswersOrFault result (walk_faults checker.old.scope.file 0 decls.now) (λ _. (checker.new.scope ≡ checker.old.scope) × (checker.new.facts ≡ checker.old.facts ++ walk_facts checker.old.scope.file 0 decls.now)) }
 {
     let mut globals_above = 0u32;
     for decl in decls {
@@ -99,7 +139,7 @@ fn declarations(checker: &mut Checker, decls: &[Decl]) -> Result<(), TypeFault>
 #[tactic(auto, using(crate::proofs::Laws::walked_tells))]
 fn untyped_declarations(checker: &mut Checker, decls: &[Decl]) -> Result<(), TypeFault>
     requires { checker.old.scope ≡ outside checker.old.scope.file }
-    ensures { Tells result (walk_faults (typed_file checker.old.scope.file decls.now) 0 decls.now) (λ _. (checker.new.scope ≡ outside (typed_file checker.old.scope.file decls.now)) × (checker.new.facts ≡ checker.old.facts ++ walk_facts (typed_file checker.old.scope.file decls.now) 0 decls.now)) }
+    ensures { AnswersOrFault result (walk_faults (typed_file checker.old.scope.file decls.now) 0 decls.now) (λ _. (checker.new.scope ≡ outside (typed_file checker.old.scope.file decls.now)) × (checker.new.facts ≡ checker.old.facts ++ walk_facts (typed_file checker.old.scope.file decls.now) 0 decls.now)) }
 {
     add_types(checker.alloc, &mut checker.scope, decls)?;
     declarations(checker, decls)
@@ -108,7 +148,7 @@ fn untyped_declarations(checker: &mut Checker, decls: &[Decl]) -> Result<(), Typ
 // Checks names, written types and `main`, and then the rest.
 fn named_declarations(checker: &mut Checker, decls: &[Decl]) -> Result<(), TypeFault>
     requires { checker.old.scope ≡ outside checker.old.scope.file }
-    ensures { Tells result (named_faults checker.old.scope decls.now) (λ _. (checker.new.scope ≡ outside (typed_file checker.old.scope.file decls.now)) × (checker.new.facts ≡ checker.old.facts ++ walk_facts (typed_file checker.old.scope.file decls.now) 0 decls.now)) }
+    ensures { AnswersOrFault result (named_faults checker.old.scope decls.now) (λ _. (checker.new.scope ≡ outside (typed_file checker.old.scope.file decls.now)) × (checker.new.facts ≡ checker.old.facts ++ walk_facts (typed_file checker.old.scope.file decls.now) 0 decls.now)) }
 {
     names_are_good(checker.alloc, &checker.scope.file, decls)?;
     types_are_there(checker.alloc, &checker.scope, decls)?;
@@ -122,7 +162,7 @@ fn checked_declarations(
     imports: Imports,
     decls: &[Decl],
 ) -> Result<Checker, TypeFault>
-    ensures { Tells result (decl_faults imports decls.now) (λ c. (c.scope ≡ outside (file_scope imports decls.now)) × (c.facts ≡ walk_facts (file_scope imports decls.now) 0 decls.now)) }
+    ensures { AnswersOrFault result (decl_faults imports decls.now) (λ c. (c.scope ≡ outside (file_scope imports decls.now)) × (c.facts ≡ walk_facts (file_scope imports decls.now) 0 decls.now)) }
 {
     let scope = bare_scope(alloc, imports, decls)?;
     let facts = List::new(alloc);
@@ -141,7 +181,7 @@ fn checked_declarations(
 // Returns the checker after a file.
 #[tactic(auto, unfolding(golf_check_types::specs::Files::Broken, golf_check_types::specs::Files::facts_in))]
 fn checked_file(alloc: Global, file: &File) -> Result<Checker, TypeFault>
-    ensures { Tells result (Broken file.now) (λ c. (c.scope ≡ scope_of file.now) × (c.facts ≡ facts_in file.now)) }
+    ensures { AnswersOrFault result (Broken file.now) (λ c. (c.scope ≡ scope_of file.now) × (c.facts ≡ facts_in file.now)) }
 {
     let written = file.imports.as_slice();
     let imports = imported(written)?;
@@ -151,7 +191,7 @@ fn checked_file(alloc: Global, file: &File) -> Result<Checker, TypeFault>
 
 /// Returns the file with its scope and its facts, or the first broken rule in the order of the walk.
 pub fn check(alloc: Global, file: File) -> Result<Checked, TypeFault>
-    ensures { Tells result (Broken file) (λ c. (c.file ≡ file) × ((c.scope ≡ scope_of file) × (c.facts ≡ facts_in file))) }
+    ensures { AnswersOrFault result (Broken file) (λ checked. checked ≡ file) }
 {
     match checked_file(alloc, &file) {
         Ok(checker) => {

@@ -4,11 +4,11 @@
 //! again the one outside all functions.
 
 ghost use Rattle.std.specs.Prelude.{◌≡◌, [], map, IfOk, OnOk};
-ghost use Rattle.golf_check_types.specs.Faults.{Tells};
+ghost use Rattle.golf_check_types.specs.Faults.{AnswersOrFault};
 ghost use Rattle.golf_check_types.specs.Statements.{behind, in_order};
 ghost use Rattle.golf_check_types.specs.Files.{parameter as parameter_of, parameter_walk, end_faults, func_walk};
 ghost use Rattle.golf_check_types.specs.Files.{outside as outside_of};
-ghost use Rattle.golf_check_bodies.specs.Telling.{Walks};
+ghost use Rattle.golf_check_bodies.specs.CheckerClauses.{Walks};
 ghost use Rattle.golf_check.specs.Heads.{receiver_name as receiver_name_of};
 ghost use Rattle.golf_check.specs.Heads.{optional_parameter as optional_parameter_of, body_walks, inner_walks};
 ghost use Rattle.golf_check.specs.Heads.{head_walks, arguments as arguments_of, function_walked, Counts, Stays};
@@ -25,7 +25,7 @@ use golf_check_types::{
 use golf_syntax_trees::{Func, Receiver};
 use std::alloc::Global;
 
-// Passes over a receiver or parameter. It has no fact.
+// Walks over a receiver or parameter. It has no fact.
 fn parameter(
     checker: &mut Checker,
     line: u32,
@@ -39,7 +39,7 @@ fn parameter(
     Ok(())
 }
 
-// Passes over a receiver or parameter with its type.
+// Walks over a receiver or parameter with its type.
 fn typed_parameter(checker: &mut Checker, line: u32, named: &TypedName) -> Result<(), TypeFault>
     ensures { Walks result (parameter_walk line named.now checker.old.scope) checker.old checker.new }
 {
@@ -47,7 +47,7 @@ fn typed_parameter(checker: &mut Checker, line: u32, named: &TypedName) -> Resul
     parameter(checker, line, named.0.as_slice(), t)
 }
 
-// Passes over a receiver, if there is one.
+// Walks over a receiver, if there is one.
 #[tactic(auto, using(golf_check_types::proofs::WalkLaws::stays))]
 fn optional_parameter(
     checker: &mut Checker,
@@ -62,7 +62,7 @@ fn optional_parameter(
     }
 }
 
-// Passes over parameters, from left to right.
+// Walks over parameters, from left to right.
 fn parameters(checker: &mut Checker, line: u32, names: &[TypedName]) -> Result<(), TypeFault>
     ensures { Walks result (in_order (map (parameter_walk line) names.now) checker.old.scope) checker.old checker.new }
 {
@@ -74,13 +74,13 @@ fn parameters(checker: &mut Checker, line: u32, names: &[TypedName]) -> Result<(
 
 // Checks that a function with a result ends in a terminating statement.
 fn ends(func: &Func) -> Result<(), TypeFault>
-    ensures { Tells result (end_faults func.now) (λ _. Unit {0}) }
+    ensures { AnswersOrFault result (end_faults func.now) (λ _. Unit {0}) }
 {
     let holds = func.result.is_none() || all_ending(func.body.as_slice()).ends;
     require(func.line, NOT_TERMINATING, holds)
 }
 
-// Passes over a body, and checks how it ends.
+// Walks over a body, and checks how it ends.
 fn body(checker: &mut Checker, func: &Func) -> Result<(), TypeFault>
     ensures { Walks result (in_order (body_walks func.now) checker.old.scope) checker.old checker.new }
 {
@@ -88,7 +88,7 @@ fn body(checker: &mut Checker, func: &Func) -> Result<(), TypeFault>
     ends(func)
 }
 
-// Passes over parameters and a body. Returns how many slots receiver and parameters have.
+// Walks over parameters and a body. Returns how many slots receiver and parameters have.
 fn after_receiver(checker: &mut Checker, func: &Func, names: &[TypedName]) -> Result<u32, TypeFault>
     ensures { Counts result (in_order (inner_walks func.now names.now) checker.old.scope) (behind checker.old.scope (in_order (map (parameter_walk func.now.line) names.now) checker.old.scope)).next checker.old checker.new }
 {
@@ -98,7 +98,7 @@ fn after_receiver(checker: &mut Checker, func: &Func, names: &[TypedName]) -> Re
     Ok(arguments)
 }
 
-// Passes over a head and a body. Returns how many slots receiver and parameters have.
+// Walks over a head and a body. Returns how many slots receiver and parameters have.
 fn head(
     checker: &mut Checker,
     func: &Func,
@@ -144,7 +144,7 @@ fn leave(alloc: Global, scope: &mut Scope) -> Result<(), Memory>
     Ok(())
 }
 
-// Passes over a function of these types. The fact that counts its slots and facts is added before them.
+// Walks over a function of these types. The fact that counts its slots and facts is added before them.
 #[tactic(auto, using(crate::proofs::Laws::left_scope, golf_check_types::proofs::Seams::function_filled))]
 fn typed_function(
     checker: &mut Checker,
@@ -174,7 +174,7 @@ fn typed_function(
     Ok(())
 }
 
-/// Passes over a function or method. After an error nothing is said of the checker.
+/// Walks over a function or method. After an error nothing is said of the checker.
 pub fn function(checker: &mut Checker, func: &Func) -> Result<(), TypeFault>
     requires { checker.old.scope ≡ outside_of checker.old.scope.file }
     ensures { Stays result (func_walk func.now checker.old.scope) checker.old checker.new }

@@ -7,7 +7,7 @@ ghost use Rattle.std.specs.Prelude.{◌≡◌};
 ghost use Rattle.golf_syntax_trees.specs.declared.statements.VarContent.TheVariants as content_as;
 ghost use Rattle.golf_check_types.specs.Statements.{judges};
 ghost use Rattle.golf_check_types.specs.Files.{const_faults, const_facts, initial_walk};
-ghost use Rattle.golf_check_bodies.specs.Telling.{Adds};
+ghost use Rattle.golf_check_bodies.specs.CheckerClauses.{AddsFacts};
 ghost use Rattle.golf_check.specs.Heads.{Stays};
 
 use golf_check_bodies::{Checker, is_nil};
@@ -18,7 +18,7 @@ use golf_syntax_trees::{Const, Expr, TypeExpr, Var, VarContent};
 
 /// Checks a constant on a line. The fact of its value is added if it is an integer.
 pub fn constant(checker: &mut Checker, line: u32, value: &Const) -> Result<(), TypeFault>
-    ensures { Adds result (judges (const_faults line value.now) (const_facts value.now)) checker.old checker.new }
+    ensures { AddsFacts result (judges (const_faults line value.now) (const_facts value.now)) checker.old checker.new }
 {
     match value {
         Const::Integer(digits) => {
@@ -37,7 +37,7 @@ pub fn constant(checker: &mut Checker, line: u32, value: &Const) -> Result<(), T
 
 // Checks the initialiser of a global with a written type.
 fn typed_initialiser(checker: &mut Checker, t: &TypeExpr, e: &Expr) -> Result<(), TypeFault>
-    ensures { Adds result (initial_walk checker.old.line (content_as.Typed t.now e.now) checker.old.scope) checker.old checker.new }
+    ensures { AddsFacts result (initial_walk checker.old.line (content_as.Typed t.now e.now) checker.old.scope) checker.old checker.new }
 {
     let value = checker.given(e)?;
     let of_type = written_type(checker.alloc, checker.line, &checker.scope, t)?;
@@ -46,7 +46,7 @@ fn typed_initialiser(checker: &mut Checker, t: &TypeExpr, e: &Expr) -> Result<()
 
 // Checks the initialiser of a global without a written type.
 fn untyped_initialiser(checker: &mut Checker, e: &Expr) -> Result<(), TypeFault>
-    ensures { Adds result (initial_walk checker.old.line (content_as.Untyped e.now) checker.old.scope) checker.old checker.new }
+    ensures { AddsFacts result (initial_walk checker.old.line (content_as.Untyped e.now) checker.old.scope) checker.old checker.new }
 {
     let value = checker.given(e)?;
     checker.require(NIL_WITHOUT_TYPE, !is_nil(&value))
@@ -54,7 +54,7 @@ fn untyped_initialiser(checker: &mut Checker, e: &Expr) -> Result<(), TypeFault>
 
 // Checks the initialiser of a global, if it has one.
 fn initialiser(checker: &mut Checker, content: &VarContent) -> Result<(), TypeFault>
-    ensures { Adds result (initial_walk checker.old.line content.now checker.old.scope) checker.old checker.new }
+    ensures { AddsFacts result (initial_walk checker.old.line content.now checker.old.scope) checker.old checker.new }
 {
     match content {
         VarContent::Zero(_) => Ok(()),

@@ -17,7 +17,7 @@ use Rattle.golf_check_types.specs.declared.fault.TypeFault.{TypeFault}
 use Rattle.golf_check_types.specs.declared.facts.Fact.{Fact}
 use Rattle.golf_check_types.specs.declared.scopes.Scope.{Scope}
 use Rattle.golf_check_types.specs.declared.locals.Local.{Local}
-use Rattle.golf_check_types.specs.Faults.{Refuses}
+use Rattle.golf_check_types.specs.Faults.{StopsAt}
 use Rattle.golf_check_types.specs.Scopes.{begun, closed_to}
 use Rattle.golf_check_types.specs.Statements.{Walked, Walk, both, closed, behind, then_walk, else_walk, clause_step}
 use Rattle.golf_check_types.specs.Statements.{stmt_step, walk}
@@ -103,7 +103,7 @@ pub branch_refused : (f : TypeFault) (whole last next : Stmt) (s t u : Scope) (o
     (l : ℕ) (first : Option Simple) (test k : Expr) (body sts : List Stmt)
     → Behind whole s old last t mid marks → last ≡ st.IfElse l first test body next → k ≡ test → sts ≡ body
     → u ≡ begun t
-    → Refuses f (then_walk l first k (map walk sts) u).faults → Refuses f (walk whole s).faults
+    → StopsAt f (then_walk l first k (map walk sts) u).faults → StopsAt f (walk whole s).faults
 branch_refused f whole last next s t u old mid marks l first test k body sts h is same also begins refuses =
     let a = then_walk l first test (map walk body) (begun t) in
     let same_part : then_walk l first k (map walk sts) u ≡ a =
@@ -112,6 +112,6 @@ branch_refused f whole last next s t u old mid marks l first test k body sts h i
     ∙ ap (then_walk l first test (map walk body)) begins) in
     let b = walk next (behind (begun t) a) in
     let all : walk last t ≡ closed (both a b) = ap (λ z. walk z t) is ∙ walk-IfElse l first test body next t in
-    let front : Refuses f (a.faults ++ b.faults) =
-    refuses_front f a.faults b.faults (subst (λ (w : Walked). Refuses f w.faults) same_part refuses) in
-    subst (Refuses f) (sym (ap (λ (w : Walked). w.faults) all) ∙ h.faults) front
+    let front : StopsAt f (a.faults ++ b.faults) =
+    refuses_front f a.faults b.faults (subst (λ (w : Walked). StopsAt f w.faults) same_part refuses) in
+    subst (StopsAt f) (sym (ap (λ (w : Walked). w.faults) all) ∙ h.faults) front

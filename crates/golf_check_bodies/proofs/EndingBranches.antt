@@ -1,5 +1,5 @@
 -- How the branches of `else if` end together.
--- For: `otherwise_at`, src/endings.rt
+-- For: `otherwise_at`, src/statements/endings.rt
 -- By: laws of std
 use Rattle.std.proofs.Math.Bool.{and_assoc, or_assoc}
 

@@ -13,7 +13,7 @@ use Rattle.golf_syntax_trees.specs.declared.expressions.Element.{Element}
 use Rattle.golf_syntax_trees.specs.declared.expressions.Expr.TheOpen.{Expr-F}
 use Rattle.golf_syntax_trees.specs.declared.expressions.Expr.TheOpen as F
 use Rattle.golf_syntax_trees.specs.declared.expressions.Expr.TheFolds.{fold_out-Expr, fold-Element, map-Expr}
-use Rattle.golf_syntax_trees.specs.Spines.{left_of, left_step, shown, IsSpine, Within, risen}
+use Rattle.golf_syntax_trees.specs.Spines.{left_of, left_step, shown, IsSpine, AreNoLarger, risen}
 use Rattle.golf_syntax_trees.proofs.Spines.{along, kept_up, up, no_deeper}
 use Rattle.golf_check_types.specs.declared.rules.TheConstants.{WRONG_OPERAND}
 use Rattle.golf_check_types.specs.declared.types.Base.TheVariants as base
@@ -24,16 +24,16 @@ use Rattle.golf_check_types.specs.declared.operands.Operand.{Operand}
 use Rattle.golf_check_types.specs.declared.operands.Operand.TheVariants as operand
 use Rattle.golf_check_types.specs.declared.scopes.Scope.{Scope}
 use Rattle.golf_check_types.specs.Facts.{with_parts}
-use Rattle.golf_check_types.specs.Faults.{Refuses, broken}
+use Rattle.golf_check_types.specs.Faults.{StopsAt, broken}
 use Rattle.golf_check_types.specs.Types.{has_base, has_layer, is_slice, element}
 use Rattle.golf_check_types.specs.Expressions.{Judged, facts_of, used, given_by, value, value_faults, name_faults}
 use Rattle.golf_check_types.specs.Expressions.{selected_from, selector, result_base, binary_fits, index_judged}
 use Rattle.golf_check_types.specs.Expressions.{binary_judged}
 use Rattle.golf_check_types.specs.Calls.{called_with, call_judged}
-use Rattle.golf_check_types.specs.Judging.{Judge, Put, judge, judge_at, judge_step, element_step}
+use Rattle.golf_check_types.specs.Judgments.{Judge, Put, judge, judge_at, judge_step, element_step}
 use Rattle.golf_check_types.proofs.Seams.{refuses_front, expression_filled}
 use Rattle.golf_check_bodies.specs.Spines.{after, after_step, after_selector, after_index, after_call, after_binary}
-use Rattle.golf_check_bodies.specs.Spines.{joined, raised, kept, standing, Rising}
+use Rattle.golf_check_bodies.specs.Spines.{joined, raised, kept, standing, RisingJudgment}
 
 -- The facts of a left operand and the rest.
 
@@ -129,9 +129,9 @@ whole_is : (l : ℕ) (s : Scope) (e : Expr) (es : List Expr) (inner : Expr) → 
 whole_is l s = along left_of (λ e. judge e l s) (raised l s) (λ e left. splits e left l s)
 
 -- what refuses the innermost one refuses the whole
-refuses_risen : (f : TypeFault) (l : ℕ) (s : Scope) (es : List Expr) (x : Judged) → Refuses f x.faults
-    → Refuses f (risen (raised l s) es x).faults
-refuses_risen f l s = kept_up (λ (x : Judged). Refuses f x.faults) (raised l s) (λ e x h. refuses_front f x.faults _ h)
+refuses_risen : (f : TypeFault) (l : ℕ) (s : Scope) (es : List Expr) (x : Judged) → StopsAt f x.faults
+    → StopsAt f (risen (raised l s) es x).faults
+refuses_risen f l s = kept_up (λ (x : Judged). StopsAt f x.faults) (raised l s) (λ e x h. refuses_front f x.faults _ h)
 
 same-judged : (j : Judged) (m : Operand) (inner : List Fact) → m ≡ j.meaning → j.faults ≡ [] → inner ≡ j.inner
     → record { meaning = m; faults = []; inner = inner } ≡ j
@@ -156,16 +156,16 @@ placed k m at n front new filled means none more here counts fills =
 module _ (e : Expr) (old : List Fact) (l : ℕ) (s : Scope) where
   -- the innermost one breaks a rule
   pub whole_refused : (f : TypeFault) (ws : List (Bor Expr)) (inner : Expr) → IsSpine left_of e (shown ws) inner
-      → Refuses f (judge inner l s).faults → Refuses f (judge e l s).faults
-  whole_refused f ws inner spine h = subst (λ j. Refuses f j.faults) (whole_is l s e (shown ws) inner spine)
+      → StopsAt f (judge inner l s).faults → StopsAt f (judge e l s).faults
+  whole_refused f ws inner spine h = subst (λ j. StopsAt f j.faults) (whole_is l s e (shown ws) inner spine)
       (refuses_risen f l s (shown ws) (judge inner l s) h)
 
   -- the innermost one is found, and its place filled
   pub starts : (ws : List (Bor Expr)) (inner : Expr) (before mid new filled : List Fact) (m : Operand) (at n : ℕ)
-      → IsSpine left_of e (shown ws) inner → Within size-Expr (size-Expr e) (shown ws) → before ≡ old
+      → IsSpine left_of e (shown ws) inner → AreNoLarger size-Expr (size-Expr e) (shown ws) → before ≡ old
       ++ kept (length ws) → at ≡ length before → mid ≡ before ++ fact.Part 0 ∷ [] → (judge inner l s).faults ≡ []
       → m ≡ (judge inner l s).meaning → new ≡ mid ++ (judge inner l s).inner → n ≡ length new - at - 1
-      → filled ≡ slice_set new at (fact.Expression m n) → Rising l s e old ws m at filled
+      → filled ≡ slice_set new at (fact.Expression m n) → RisingJudgment l s e old ws m at filled
   starts ws inner before mid new filled m at n spine within keeps here adds none means more counts fills =
       let front = old ++ kept (length ws) in
       let at_front : at ≡ length front = here ∙ ap length keeps in
@@ -180,19 +180,19 @@ module _ (e : Expr) (old : List Fact) (l : ℕ) (s : Scope) where
       }
 
   module _ (ws vs : List (Bor Expr)) (b : Bor Expr) (left : Operand) (at : ℕ) (facts : List Fact)
-      (r : Rising l s e old ws left at facts) (last : ws ≡ vs ++ b ∷ []) where
+      (r : RisingJudgment l s e old ws left at facts) (last : ws ≡ vs ++ b ∷ []) where
     raises : risen (raised l s) (shown vs) (raised l s b.now (standing left at facts)) ≡ judge e l s
     raises = sym (up ws vs b last (raised l s) (standing left at facts)) ∙ r.whole
 
     -- the next one outwards breaks a rule
-    pub rise_refused : (f : TypeFault) → Refuses f (after b.now l s left).faults → Refuses f (judge e l s).faults
-    rise_refused f h = subst (λ j. Refuses f j.faults) raises
+    pub rise_refused : (f : TypeFault) → StopsAt f (after b.now l s left).faults → StopsAt f (judge e l s).faults
+    rise_refused f h = subst (λ j. StopsAt f j.faults) raises
         (refuses_risen f l s (shown vs) (raised l s b.now (standing left at facts)) h)
 
     -- the next one outwards is found, and its place filled
     pub rises : (m : Operand) (next n : ℕ) (new filled : List Fact) → next ≡ at - 1 → (after b.now l s left).faults ≡ []
         → m ≡ (after b.now l s left).meaning → new ≡ facts ++ (after b.now l s left).inner → n ≡ length new - next - 1
-        → filled ≡ slice_set new next (fact.Expression m n) → Rising l s e old vs m next filled
+        → filled ≡ slice_set new next (fact.Expression m n) → RisingJudgment l s e old vs m next filled
     rises m next n new filled before none means more counts fills =
         let x = standing left at facts in
         let front = old ++ kept (length vs) in

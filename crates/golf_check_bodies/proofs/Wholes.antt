@@ -1,5 +1,5 @@
 -- What the answers for an expression with a list of parts, and for a `select`, tell.
--- For: `innermost`, src/expressions.rt; `statement`, src/statements.rt; specs/Telling.antt
+-- For: `innermost`, src/expressions.rt; `statement`, src/statements.rt; specs/CheckerClauses.antt
 -- By: computing; no induction
 use Rattle.std.proofs.Common.{◌≡◌, ℕ, List, map, sym, ap, subst, ◌∙◌}
 use Rattle.std.specs.Prelude.{Result}
@@ -21,11 +21,11 @@ use Rattle.golf_check_types.specs.Types.{with_layer}
 use Rattle.golf_check_types.specs.Scopes.{meaning}
 use Rattle.golf_check_types.specs.Written.{write, pointer_to}
 use Rattle.golf_check_types.specs.Expressions.{Judged, struct_literal, slice_literal}
-use Rattle.golf_check_types.specs.Judging.{judge, judge_at, value_at}
+use Rattle.golf_check_types.specs.Judgments.{judge, judge_at, value_at}
 use Rattle.golf_check_types.specs.Statements.{Walk, in_order, clause_step, stmt_step, walk, walk_clause, walk_clause_at}
 use Rattle.golf_check_types.proofs.JudgeLaws.{judge-SliceLiteral, judge-StructLiteral}
 use Rattle.golf_check_bodies.specs.declared.checker.Checker.{Checker}
-use Rattle.golf_check_bodies.specs.Telling.{Judges, Walks}
+use Rattle.golf_check_bodies.specs.CheckerClauses.{Judges, Walks}
 
 module _ (r : Result Operand TypeFault) (e : Expr) (old new : Checker) where
   same_judged : (i j : Judged) → i ≡ j → Judges r i old new → Judges r j old new

@@ -1,2 +1,2 @@
 pub mod Spines
-pub mod Telling
+pub mod CheckerClauses

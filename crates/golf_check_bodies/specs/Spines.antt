@@ -5,7 +5,7 @@ use Rattle.golf_syntax_trees.specs.declared.expressions.BinaryOperator.{BinaryOp
 use Rattle.golf_syntax_trees.specs.declared.expressions.Expr.{Expr, out-Expr, size-Expr}
 use Rattle.golf_syntax_trees.specs.declared.expressions.Element.{Element}
 use Rattle.golf_syntax_trees.specs.declared.expressions.Expr.TheOpen.{Expr-F, Selector, Index, Call, Binary}
-use Rattle.golf_syntax_trees.specs.Spines.{shown, Within, risen}
+use Rattle.golf_syntax_trees.specs.Spines.{shown, AreNoLarger, risen}
 use Rattle.golf_check_types.specs.declared.rules.TheConstants.{WRONG_OPERAND}
 use Rattle.golf_check_types.specs.declared.types.Base.TheVariants as base
 use Rattle.golf_check_types.specs.declared.facts.Fact.{Fact}
@@ -18,7 +18,7 @@ use Rattle.golf_check_types.specs.Types.{given, has_base, has_layer, is_slice, e
 use Rattle.golf_check_types.specs.Expressions.{Judged, facts_of, used, given_by, value, leaf, value_faults, name_faults}
 use Rattle.golf_check_types.specs.Expressions.{selected_from, result_base, binary_fits}
 use Rattle.golf_check_types.specs.Calls.{called_with}
-use Rattle.golf_check_types.specs.Judging.{judge, judge_at}
+use Rattle.golf_check_types.specs.Judgments.{judge, judge_at}
 
 -- The judgment of an expression after a left operand with this meaning: its meaning, the rules that it breaks then, and
 -- the facts of its other parts.
@@ -76,10 +76,10 @@ abbrev pub standing : Operand → ℕ → List Fact → Judged
 standing m at facts = record { meaning = m; faults = []; inner = drop (at + 1) facts }
 
 -- These expressions wait for what was found. Its fact comes after the places that are kept for theirs.
-abbrev pub Rising : ℕ → Scope → Expr → List Fact → List (Bor Expr) → Operand → ℕ → List Fact → Type 0
-Rising l s e old ws m at new = record {
+abbrev pub RisingJudgment : ℕ → Scope → Expr → List Fact → List (Bor Expr) → Operand → ℕ → List Fact → Type 0
+RisingJudgment l s e old ws m at new = record {
   whole : risen (raised l s) (shown ws) (standing m at new) ≡ judge e l s;
   facts : new ≡ (old ++ kept (length ws)) ++ facts_of (standing m at new);
   at : at ≡ length (old ++ kept (length ws));
-  within : Within size-Expr (size-Expr e) (shown ws);
+  within : AreNoLarger size-Expr (size-Expr e) (shown ws);
 }

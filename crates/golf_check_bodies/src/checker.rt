@@ -1,16 +1,16 @@
 //! The checker of expressions and statements.
 //!
 //! A checker goes over trees in the order of the walk. It keeps the line of the present statement, the scope there, and
-//! the facts found so far. A method named after a construct passes over one such construct. After it the checker is
+//! the facts found so far. A method named after a construct walks over one such construct. After it the checker is
 //! where the walk of the definitions is after that construct, or the method returns the first broken rule. After an
 //! error nothing is said of the checker.
 
 ghost use Rattle.std.specs.Prelude.{◌≡◌, ◌∷◌, []};
-ghost use Rattle.golf_check_types.specs.Faults.{Tells, broken as broken_of};
+ghost use Rattle.golf_check_types.specs.Faults.{AnswersOrFault, broken as broken_of};
 ghost use Rattle.golf_check_types.specs.Facts.{new_target as new_target_of};
 ghost use Rattle.golf_check_types.specs.Types.{is_nil as is_nil_of};
 ghost use Rattle.golf_check_types.specs.Statements.{declares_one};
-ghost use Rattle.golf_check_bodies.specs.Telling.{Walks};
+ghost use Rattle.golf_check_bodies.specs.CheckerClauses.{Walks};
 
 use golf_base::List;
 use golf_check_types::{
@@ -58,7 +58,7 @@ impl Checker {
 
     /// Returns `Ok` if the test holds, and otherwise the fault of this rule on the present line.
     pub fn require(&self, rule: u32, holds: bool) -> Result<(), TypeFault>
-        ensures { Tells result (broken_of self.now.line rule holds) (λ _. Unit {0}) }
+        ensures { AnswersOrFault result (broken_of self.now.line rule holds) (λ _. Unit {0}) }
     {
         require(self.line, rule, holds)
     }

@@ -6,7 +6,7 @@
 
 ghost use Rattle.std.specs.Prelude.{◌≡◌, ◌∷◌, None, map};
 ghost use Rattle.golf_syntax_trees.specs.Spines.{left_of};
-ghost use Rattle.golf_check_types.specs.Faults.{Tells};
+ghost use Rattle.golf_check_types.specs.Faults.{AnswersOrFault};
 ghost use Rattle.golf_check_types.specs.Types.{with_layer as with_layer_of};
 ghost use Rattle.golf_check_types.specs.Scopes.{meaning as meaning_of};
 ghost use Rattle.golf_check_types.specs.Written.{write, pointer_to as pointer_to_of};
@@ -16,9 +16,10 @@ ghost use Rattle.golf_check_types.specs.Expressions.{slice_literal as slice_lite
 ghost use Rattle.golf_check_types.specs.Expressions.{made_sized as made_sized_of};
 ghost use Rattle.golf_check_types.specs.Calls.{plain_call as plain_call_of, finaliser_call as finaliser_call_of};
 ghost use Rattle.golf_check_types.specs.Calls.{called_with};
-ghost use Rattle.golf_check_types.specs.Judging.{judge, judge_at, value_at, Finds};
+ghost use Rattle.golf_check_types.specs.Judgments.{judge, judge_at, value_at, AnswersJudged};
 ghost use Rattle.golf_check_bodies.specs.Spines.{after, after_index, after_call, after_binary};
-ghost use Rattle.golf_check_bodies.specs.Telling.{Judges, JudgesWhole, Gives, Takes, GivesAll, Puts, with_facts};
+ghost use Rattle.golf_check_bodies.specs.CheckerClauses.{Judges, JudgesWhole, GivesValue, GivesAnyKind, GivesAll, Puts};
+ghost use Rattle.golf_check_bodies.specs.CheckerClauses.{with_facts};
 
 use crate::checker::Checker;
 use crate::facts::{fill, keep};
@@ -35,7 +36,7 @@ use golf_check_types::{
 use golf_syntax_trees::{BinaryOperator, Element, Expr, TypeExpr, UnaryOperator, spine};
 
 impl Checker {
-    /// Passes over an expression and returns what it is. Its fact and those of its parts are added.
+    /// Walks over an expression and returns what it is. Its fact and those of its parts are added.
     ///
     /// A loop follows the spine of left operands, since nothing bounds its length. The fact of an expression comes
     /// before those of its left operand, so places for all these facts are kept first.
@@ -59,7 +60,7 @@ impl Checker {
 
     // Judges an expression without a left operand. The facts of its parts are added.
     #[cycle(judging)]
-    #[tactic(auto, unfolding(golf_check_types::specs::Judging::judge, golf_syntax_trees::specs::Spines::left_of))]
+    #[tactic(auto, unfolding(golf_check_types::specs::Judgments::judge, golf_syntax_trees::specs::Spines::left_of))]
     fn innermost(&mut self, e: &Expr) -> Result<Operand, TypeFault>
         requires { left_of e.now ≡ None }
         ensures { Judges result (judge e.now self.old.line self.old.scope) self.old self.new }
@@ -124,20 +125,20 @@ impl Checker {
         }
     }
 
-    /// Passes over an expression that is used as a value, and returns what it gives.
+    /// Walks over an expression that is used as a value, and returns what it gives.
     #[cycle(judging)]
     pub fn given(&mut self, e: &Expr) -> Result<Given, TypeFault>
-        ensures { Gives result (judge e.now self.old.line self.old.scope) self.old self.new }
+        ensures { GivesValue result (judge e.now self.old.line self.old.scope) self.old self.new }
     {
         let operand = self.expression(e)?;
         is_value(self.line, &operand)?;
         Ok(value_of(self.alloc, operand))
     }
 
-    /// Passes over an expression that can be a name of any kind, such as a callee, and returns what it is.
+    /// Walks over an expression that can be a name of any kind, such as a callee, and returns what it is.
     #[cycle(judging)]
     pub fn name_or_value(&mut self, e: &Expr) -> Result<Operand, TypeFault>
-        ensures { Takes result (judge e.now self.old.line self.old.scope) self.old self.new }
+        ensures { GivesAnyKind result (judge e.now self.old.line self.old.scope) self.old self.new }
     {
         let operand = self.expression(e)?;
         is_name(self.line, &operand)?;
@@ -176,7 +177,7 @@ impl Checker {
     // Returns what is given for one field.
     #[cycle(judging)]
     fn put(&mut self, base: Option<Base>, element: &Element) -> Result<Given, TypeFault>
-        ensures { Tells result (used self.old.line (value_at self.old.line self.old.scope element.now)) (λ v. (v ≡ given_by (value_at self.old.line self.old.scope element.now)) × (self.new ≡ with_facts self.old (Fact.Field (field_place_of self.old.scope.file base element.now.field) ∷ facts_of (value_at self.old.line self.old.scope element.now)))) }
+        ensures { AnswersOrFault result (used self.old.line (value_at self.old.line self.old.scope element.now)) (λ v. (v ≡ given_by (value_at self.old.line self.old.scope element.now)) × (self.new ≡ with_facts self.old (Fact.Field (field_place_of self.old.scope.file base element.now.field) ∷ facts_of (value_at self.old.line self.old.scope element.now)))) }
     {
         let place = field_place(&self.scope.file, base, element.field.as_slice());
         self.facts.push(Fact::Field(place))?;
@@ -226,7 +227,7 @@ impl Checker {
 
     // `make(T)`
     fn make(&self, t: &TypeExpr) -> Result<Operand, TypeFault>
-        ensures { Finds result (made_of self.now.line (write t.now self.now.line self.now.scope)) }
+        ensures { AnswersJudged result (made_of self.now.line (write t.now self.now.line self.now.scope)) }
     {
         let of_type = written(self.alloc, self.line, &self.scope, t)?;
         made(self.alloc, self.line, of_type)

@@ -1,20 +1,13 @@
 //! The checker of bodies: whether expressions and statements keep the rules of types, and the facts of their parts.
 //!
 //! It runs on the bodies of functions and on the initialisers of globals, when the names of the file are known. The
-//! main word is `Checker`: each of its methods passes over one construct, in the order of the walk.
+//! main word is `Checker`: each of its methods walks over one construct, in the order of the walk.
 #![tactic(auto)]
 
 mod checker;
-mod communications;
-mod endings;
 mod expressions;
 mod facts;
-mod headers;
-mod names;
-mod ranges;
-mod simple_statements;
-mod singles;
 mod statements;
 
 pub use checker::{Checker, is_nil};
-pub use endings::all_ending;
+pub use statements::endings::all_ending;

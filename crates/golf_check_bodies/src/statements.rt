@@ -10,7 +10,15 @@ ghost use Rattle.golf_check_types.specs.Statements.{in_order, block as block_of,
 ghost use Rattle.golf_check_types.specs.Statements.{if_walk, else_walk, steps, range_walk, header_walk, for_walk};
 ghost use Rattle.golf_check_types.specs.Statements.{case_walk, default_walk, breaking, walk, walk_clause};
 ghost use Rattle.golf_check_types.specs.Statements.{walk_clause_at};
-ghost use Rattle.golf_check_bodies.specs.Telling.{Walks};
+ghost use Rattle.golf_check_bodies.specs.CheckerClauses.{Walks};
+
+mod communications;
+pub mod endings;
+mod headers;
+mod names;
+mod ranges;
+mod simple;
+mod singles;
 
 use crate::checker::Checker;
 use crate::facts::count_part;
@@ -33,7 +41,7 @@ fn end_all(alloc: Global, scope: &mut Scope, mut marks: List<usize>) -> Result<(
 }
 
 impl Checker {
-    /// Passes over a statement.
+    /// Walks over a statement.
     #[cycle(walking)]
     #[tactic(auto, unfolding(golf_check_types::specs::Statements::walk), using(golf_check_types::proofs::WalkLaws::stays))]
     pub fn statement(&mut self, stmt: &Stmt) -> Result<(), TypeFault>
@@ -82,7 +90,7 @@ impl Checker {
         }
     }
 
-    /// Passes over statements in order, in one block.
+    /// Walks over statements in order, in one block.
     #[cycle(walking)]
     pub fn statements(&mut self, stmts: &[Stmt]) -> Result<(), TypeFault>
         ensures { Walks result (in_order (map walk stmts.now) self.old.scope) self.old self.new }
@@ -93,7 +101,7 @@ impl Checker {
         Ok(())
     }
 
-    // Passes over a block. Its names are not known after it.
+    // Walks over a block. Its names are not known after it.
     #[cycle(walking)]
     fn block(&mut self, body: &[Stmt]) -> Result<(), TypeFault>
         ensures { Walks result (block_of (map walk body.now) self.old.scope) self.old self.new }
@@ -104,7 +112,7 @@ impl Checker {
         Ok(())
     }
 
-    // Passes over a block that `break` and `continue` can leave.
+    // Walks over a block that `break` and `continue` can leave.
     #[cycle(walking)]
     fn loop_body(&mut self, body: &[Stmt]) -> Result<(), TypeFault>
         ensures { Walks result (loop_body_of (map walk body.now) self.old.scope) self.old self.new }
@@ -119,7 +127,7 @@ impl Checker {
         Ok(())
     }
 
-    // Passes over `first; test { body }` of an `if`, in the block that the `if` has begun.
+    // Walks over `first; test { body }` of an `if`, in the block that the `if` has begun.
     #[cycle(walking)]
     fn then_branch(
         &mut self,
@@ -170,7 +178,7 @@ impl Checker {
         Ok(())
     }
 
-    // Passes over the statement after `else`. A loop follows each `else if`, since nothing bounds their number. The
+    // Walks over the statement after `else`. A loop follows each `else if`, since nothing bounds their number. The
     // marks are those of the blocks that it begins.
     #[cycle(walking)]
     fn otherwise(&mut self, otherwise: &Stmt) -> Result<(), TypeFault>
@@ -190,7 +198,7 @@ impl Checker {
         Ok(())
     }
 
-    // Passes over a loop, which is a block around its header and its body.
+    // Walks over a loop, which is a block around its header and its body.
     #[cycle(walking)]
     fn for_statement(&mut self, header: &Header, body: &[Stmt]) -> Result<(), TypeFault>
         ensures { Walks result (for_walk self.old.line header.now (map walk body.now) self.old.scope) self.old self.new }
@@ -201,7 +209,7 @@ impl Checker {
         Ok(())
     }
 
-    // Passes over the header and the body of a loop.
+    // Walks over the header and the body of a loop.
     #[cycle(walking)]
     fn for_header(&mut self, header: &Header, body: &[Stmt]) -> Result<(), TypeFault>
         ensures { Walks result (header_walk self.old.line header.now (map walk body.now) self.old.scope) self.old self.new }
@@ -246,7 +254,7 @@ impl Checker {
         self.loop_body(body)
     }
 
-    // Passes over the clauses of a `select`. Each clause is judged from the line of the `select`.
+    // Walks over the clauses of a `select`. Each clause is judged from the line of the `select`.
     #[cycle(walking)]
     fn select_statement(&mut self, clauses: &[Clause]) -> Result<(), TypeFault>
         ensures { Walks result (in_order (map (walk_clause_at self.old.line) clauses.now) self.old.scope) self.old self.new }
@@ -259,7 +267,7 @@ impl Checker {
         Ok(())
     }
 
-    // Passes over a clause of a `select`.
+    // Walks over a clause of a `select`.
     #[cycle(walking)]
     #[tactic(auto, unfolding(golf_check_types::specs::Statements::walk_clause, golf_check_types::specs::Statements::walk))]
     fn clause(&mut self, clause: &Clause) -> Result<(), TypeFault>
@@ -273,7 +281,7 @@ impl Checker {
         }
     }
 
-    // Passes over a case. Its facts are counted, since the generator passes over it at first.
+    // Passes over a case. Its facts are counted, since the generator walks over it at first.
     #[cycle(walking)]
     #[tactic(auto, using(golf_check_types::proofs::Seams::part_filled))]
     fn case(
@@ -294,7 +302,7 @@ impl Checker {
         Ok(())
     }
 
-    // Passes over the default clause. Its facts are counted like those of a case.
+    // Walks over the default clause. Its facts are counted like those of a case.
     #[cycle(walking)]
     #[tactic(auto, using(golf_check_types::proofs::Seams::part_filled))]
     fn default_clause(&mut self, body: &[Stmt]) -> Result<(), TypeFault>
@@ -309,7 +317,7 @@ impl Checker {
         Ok(())
     }
 
-    // Passes over the statements of a clause, which `break` can leave.
+    // Walks over the statements of a clause, which `break` can leave.
     #[cycle(walking)]
     fn clause_body(&mut self, body: &[Stmt]) -> Result<(), TypeFault>
         ensures { Walks result (breaking (in_order (map walk body.now)) self.old.scope) self.old self.new }

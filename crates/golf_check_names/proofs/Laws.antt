@@ -25,7 +25,7 @@ use Rattle.golf_check_types.specs.declared.scopes.Member.{Member}
 use Rattle.golf_check_types.specs.declared.scopes.Member.TheVariants as members
 use Rattle.golf_check_types.specs.declared.scopes.FileScope.{FileScope}
 use Rattle.golf_check_types.specs.declared.scopes.Scope.{Scope}
-use Rattle.golf_check_types.specs.Faults.{IsFirst, Tells}
+use Rattle.golf_check_types.specs.Faults.{IsFirst, AnswersOrFault}
 use Rattle.golf_check_types.specs.Types.{given, given_type, type_of, type_given}
 use Rattle.golf_check_types.specs.Scopes.{member}
 use Rattle.golf_check_types.specs.Expressions.{Judged, leaf, value, called_name, struct_member, condition_member}
@@ -34,7 +34,7 @@ use Rattle.golf_check_types.specs.Expressions.{type_member, value_member, has_ty
 use Rattle.golf_check_types.specs.Expressions.{package_member, without_package}
 use Rattle.golf_check_types.specs.Calls.{called_with}
 use Rattle.golf_check_types.specs.Files.{with_forms, globals_above}
-use Rattle.golf_check_names.specs.Forms.{without_late, Forms, called_form, formed_decl}
+use Rattle.golf_check_names.specs.Forms.{without_late, AnswersOperand, called_form, formed_decl}
 
 given_late : (m : Operand) → given (without_late m) ≡ given m
 given_late (operand.Nothing late) = refl
@@ -145,11 +145,11 @@ selected_refused r l k f n _ h = refl
 -- the same of the answer that refuses
 pub refused_selector : (l : ℕ) (f : FileScope) (n : List ℕ) (m : Operand) (a : Result Operand TypeFault) (e : TypeFault)
     (r k : ℕ) → a ≡ Err e → e ≡ answers.At r k
-    → Tells a (selected_from l f n m).faults (λ x. x ≡ (selected_from l f n m).meaning)
+    → AnswersOrFault a (selected_from l f n m).faults (λ x. x ≡ (selected_from l f n m).meaning)
     → operand.Unknown ≡ (selected_from l f n m).meaning
 unfolding Refused
 refused_selector l f n m a e r k was is h =
-    selected_refused k r l f n m (subst (λ b. Tells b (selected_from l f n m).faults
+    selected_refused k r l f n m (subst (λ b. AnswersOrFault b (selected_from l f n m).faults
     (λ x. x ≡ (selected_from l f n m).meaning)) (was ∙ ap Err is) h)
 
 -- Calls.
@@ -178,7 +178,8 @@ same_called l s m n xs h =
     ∙ sym (called_late l s n xs)
 
 pub called_forms : (r : Result Operand Memory) (l : ℕ) (s : Scope) (m n : Operand) (xs : List Judged)
-    → Forms r (called_form s.file m) → without_late m ≡ without_late n → Forms r (called_with l s n xs).meaning
+    → AnswersOperand r (called_form s.file m) → without_late m ≡ without_late n
+    → AnswersOperand r (called_with l s n xs).meaning
 called_forms (Ok k) l s m n xs h e = h ∙ same_called l s m n xs e
 called_forms (Err e) l s m n xs h p = tt
 

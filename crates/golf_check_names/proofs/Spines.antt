@@ -16,7 +16,7 @@ use Rattle.golf_check_types.specs.declared.operands.Operand.TheVariants as opera
 use Rattle.golf_check_types.specs.declared.scopes.Scope.{Scope}
 use Rattle.golf_check_types.specs.Types.{element}
 use Rattle.golf_check_types.specs.Expressions.{Judged}
-use Rattle.golf_check_types.specs.Judging.{Judge, Put, judge, judge_step, element_step}
+use Rattle.golf_check_types.specs.Judgments.{Judge, Put, judge, judge_step, element_step}
 use Rattle.golf_check_names.specs.Forms.{without_late, called_form}
 use Rattle.golf_check_names.specs.Spines.{formed, formed_step, raised}
 use Rattle.golf_check_names.proofs.Laws.{same_given, same_selected, called_form_late, same_called}

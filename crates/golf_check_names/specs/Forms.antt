@@ -16,9 +16,9 @@ without_late (operand.Nothing late) = operand.Nothing None
 without_late m = m
 
 -- the answer is this operand, except for the rule that the arguments of a call break
-abbrev pub Forms : Result Operand Memory → Operand → Type 0
-Forms (Ok m) found = without_late m ≡ without_late found
-Forms (Err e) found = Unit {0}
+abbrev pub AnswersOperand : Result Operand Memory → Operand → Type 0
+AnswersOperand (Ok m) found = without_late m ≡ without_late found
+AnswersOperand (Err e) found = Unit {0}
 
 -- what a call gives, whatever its arguments are
 abbrev pub called_form : FileScope → Operand → Operand

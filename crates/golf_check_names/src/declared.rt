@@ -1,10 +1,10 @@
 //! The rules for the names that a file declares, the types that it writes, and its `main`.
 //!
-//! Each check is one pass over the declarations in source order, before any body. Before these passes, methods are
+//! Each check is one walk over the declarations in source order, before any body. Before these walks, methods are
 //! added after the fields of their structs, so that a name that comes twice is found at its second place.
 
 ghost use Rattle.std.specs.Prelude.{◌≡◌, flat_map, slice_get, OnOk, option_and_then};
-ghost use Rattle.golf_check_types.specs.Faults.{Tells, broken as broken_of};
+ghost use Rattle.golf_check_types.specs.Faults.{AnswersOrFault, broken as broken_of};
 ghost use Rattle.golf_check_types.specs.Scopes.{meaning_in};
 ghost use Rattle.golf_check_types.specs.Names.{number_of, is_number as is_number_of};
 ghost use Rattle.golf_check_types.specs.Files.{struct_number as struct_number_of};
@@ -194,7 +194,7 @@ fn method_is_named(
     name: &[u8],
     number: u32,
 ) -> Result<(), TypeFault>
-    ensures { Tells result (broken_of line WRONG_MEMBER (method_is_of file.now.structs (struct_number_of (meaning_in file.now receiver.now.type_name)) name.now number)) (λ _. Unit {0}) }
+    ensures { AnswersOrFault result (broken_of line WRONG_MEMBER (method_is_of file.now.structs (struct_number_of (meaning_in file.now receiver.now.type_name)) name.now number)) (λ _. Unit {0}) }
 {
     let owner = struct_named(
         &file.names,
@@ -215,7 +215,7 @@ fn function_is_named(
     number: u32,
     func: &Func,
 ) -> Result<(), TypeFault>
-    ensures { Tells result (function_faults file.now (record { names = names; structs = 0; functions = number }) func.now func.now.receiver) (λ _. Unit {0}) }
+    ensures { AnswersOrFault result (function_faults file.now (record { names = names; structs = 0; functions = number }) func.now func.now.receiver) (λ _. Unit {0}) }
 {
     let name = func.name.as_slice();
     match &func.receiver {
@@ -238,7 +238,7 @@ fn struct_is_named(
     name: &[u8],
     fields: &[Field],
 ) -> Result<(), TypeFault>
-    ensures { Tells result (name_faults file.now (record { names = names; structs = number; functions = 0 }) (Decl.Struct line name.now fields.now)) (λ _. Unit {0}) }
+    ensures { AnswersOrFault result (name_faults file.now (record { names = names; structs = number; functions = 0 }) (Decl.Struct line name.now fields.now)) (λ _. Unit {0}) }
 {
     require(line, NOT_DECLARABLE, may_be_named(file, names, name))?;
     let all = names_of(alloc, fields)?;
@@ -258,7 +258,7 @@ fn is_named(
     functions: u32,
     decl: &Decl,
 ) -> Result<(), TypeFault>
-    ensures { Tells result (name_faults file.now (record { names = names; structs = structs; functions = functions }) decl.now) (λ _. Unit {0}) }
+    ensures { AnswersOrFault result (name_faults file.now (record { names = names; structs = structs; functions = functions }) decl.now) (λ _. Unit {0}) }
 {
     match decl {
         Decl::Const(line, name, _) => {
@@ -321,7 +321,7 @@ fn functions_in(decl: &Decl) -> u32
 
 /// Checks the declared names: `NOT_DECLARABLE` and `WRONG_MEMBER`.
 pub fn names_are_good(alloc: Global, file: &FileScope, decls: &[Decl]) -> Result<(), TypeFault>
-    ensures { Tells result (names_faults file.now none_above decls.now) (λ _. Unit {0}) }
+    ensures { AnswersOrFault result (names_faults file.now none_above decls.now) (λ _. Unit {0}) }
 {
     let mut names = 0usize;
     let mut structs = 0usize;
@@ -342,7 +342,7 @@ fn fields_are_typed(
     scope: &Scope,
     fields: &[Field],
 ) -> Result<(), TypeFault>
-    ensures { Tells result (flat_map (field_fault line scope.now) fields.now) (λ _. Unit {0}) }
+    ensures { AnswersOrFault result (flat_map (field_fault line scope.now) fields.now) (λ _. Unit {0}) }
 {
     for field in fields {
         type_is_there(alloc, line, scope, field.of_type.get())?;
@@ -357,7 +357,7 @@ fn content_is_typed(
     scope: &Scope,
     content: &VarContent,
 ) -> Result<(), TypeFault>
-    ensures { Tells result (content_faults line scope.now content.now) (λ _. Unit {0}) }
+    ensures { AnswersOrFault result (content_faults line scope.now content.now) (λ _. Unit {0}) }
 {
     match content {
         VarContent::Zero(t) => type_is_there(alloc, line, scope, t.get()),
@@ -373,7 +373,7 @@ fn result_is_typed(
     scope: &Scope,
     t: &Option<OwnedType>,
 ) -> Result<(), TypeFault>
-    ensures { Tells result (result_fault line scope.now t.now) (λ _. Unit {0}) }
+    ensures { AnswersOrFault result (result_fault line scope.now t.now) (λ _. Unit {0}) }
 {
     match t {
         None => Ok(()),
@@ -383,7 +383,7 @@ fn result_is_typed(
 
 // Checks that the language has the types of parameters and result.
 fn func_is_typed(alloc: Global, scope: &Scope, func: &Func) -> Result<(), TypeFault>
-    ensures { Tells result (type_faults scope.now (Decl.Func func.now)) (λ _. Unit {0}) }
+    ensures { AnswersOrFault result (type_faults scope.now (Decl.Func func.now)) (λ _. Unit {0}) }
 {
     fields_are_typed(alloc, func.line, scope, func.parameters.as_slice())?;
     result_is_typed(alloc, func.line, scope, &func.result)
@@ -391,7 +391,7 @@ fn func_is_typed(alloc: Global, scope: &Scope, func: &Func) -> Result<(), TypeFa
 
 // Checks that the language has all types that a declaration writes outside bodies.
 fn decl_is_typed(alloc: Global, scope: &Scope, decl: &Decl) -> Result<(), TypeFault>
-    ensures { Tells result (type_faults scope.now decl.now) (λ _. Unit {0}) }
+    ensures { AnswersOrFault result (type_faults scope.now decl.now) (λ _. Unit {0}) }
 {
     match decl {
         Decl::Const(_, _, _) => Ok(()),
@@ -403,7 +403,7 @@ fn decl_is_typed(alloc: Global, scope: &Scope, decl: &Decl) -> Result<(), TypeFa
 
 /// Checks the written types: `UNKNOWN_NAME` and `UNKNOWN_TYPE`.
 pub fn types_are_there(alloc: Global, scope: &Scope, decls: &[Decl]) -> Result<(), TypeFault>
-    ensures { Tells result (flat_map (type_faults scope.now) decls.now) (λ _. Unit {0}) }
+    ensures { AnswersOrFault result (flat_map (type_faults scope.now) decls.now) (λ _. Unit {0}) }
 {
     for decl in decls {
         decl_is_typed(alloc, scope, decl)?;
@@ -457,7 +457,7 @@ pub fn line_of(decl: &Decl) -> u32
 
 /// Checks `main`: `NO_MAIN`. Without a `main` the fault is on line 1.
 pub fn main_is_there(decls: &[Decl]) -> Result<(), TypeFault>
-    ensures { Tells result (main_faults decls.now) (λ _. Unit {0}) }
+    ensures { AnswersOrFault result (main_faults decls.now) (λ _. Unit {0}) }
 {
     for decl in decls {
         if declares_main(decl) {

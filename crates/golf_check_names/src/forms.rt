@@ -13,25 +13,25 @@ ghost use Rattle.golf_check_types.specs.Written.{write, pointer_to as pointer_to
 ghost use Rattle.golf_check_types.specs.Expressions.{given_by, named as named_of, pointer_value, unary_meaning};
 ghost use Rattle.golf_check_types.specs.Expressions.{selected_from, in_parens};
 ghost use Rattle.golf_check_types.specs.Calls.{signature_result};
-ghost use Rattle.golf_check_types.specs.Judging.{judge};
-ghost use Rattle.golf_check_names.specs.Forms.{Forms, called_form};
+ghost use Rattle.golf_check_types.specs.Judgments.{judge};
+ghost use Rattle.golf_check_names.specs.Forms.{AnswersOperand, called_form};
 ghost use Rattle.golf_check_names.specs.Spines.{formed};
 
 use golf_base::Memory;
 use golf_check_operands::{
-    element, made_base, plain_type, pointer_to, result_base, select, value, without_package,
-    written_type,
+    built_in_result, element, made_base, plain_type, pointer_to, result_base, select, value,
+    without_package, written_type,
 };
 use golf_check_types::{
-    Base, BuiltIn, FileScope, Given, Layer, Operand, Scope, TypeFault, copy_optional, is_blank,
-    meaning_at, value_of, with_layer,
+    Base, FileScope, Given, Layer, Operand, Scope, TypeFault, copy_optional, is_blank, meaning_at,
+    value_of, with_layer,
 };
 use golf_syntax_trees::{Expr, TypeExpr, UnaryOperator, spine};
 use std::alloc::Global;
 
 // Returns what a name is. A name that is not known is a value of no known type.
 fn named(alloc: Global, line: u32, scope: &Scope, name: &[u8]) -> Result<Operand, Memory>
-    ensures { Forms result (named_of line scope.now name.now).meaning }
+    ensures { AnswersOperand result (named_of line scope.now name.now).meaning }
 {
     if is_blank(name) {
         return Ok(Operand::Blank);
@@ -44,7 +44,7 @@ fn named(alloc: Global, line: u32, scope: &Scope, name: &[u8]) -> Result<Operand
 
 // Returns a pointer to the struct of this name.
 fn pointer(alloc: Global, scope: &Scope, name: &[u8]) -> Result<Operand, Memory>
-    ensures { Forms result (pointer_value (pointer_to_of (meaning_of scope.now name.now))) }
+    ensures { AnswersOperand result (pointer_value (pointer_to_of (meaning_of scope.now name.now))) }
 {
     let meaning = meaning_at(alloc, scope, name)?;
     Ok(Operand::Value(plain_type(alloc, pointer_to(meaning))))
@@ -52,7 +52,7 @@ fn pointer(alloc: Global, scope: &Scope, name: &[u8]) -> Result<Operand, Memory>
 
 // Returns a slice of elements of the written type.
 fn slice(alloc: Global, line: u32, scope: &Scope, t: &TypeExpr) -> Result<Operand, Memory>
-    ensures { Forms result (Operand.Value (with_layer_of Layer.Slice (write t.now line scope.now).type)) }
+    ensures { AnswersOperand result (Operand.Value (with_layer_of Layer.Slice (write t.now line scope.now).type)) }
 {
     let inner = written_type(alloc, line, scope, t)?;
     Ok(Operand::Value(with_layer(alloc, Layer::Slice, inner)?))
@@ -60,7 +60,7 @@ fn slice(alloc: Global, line: u32, scope: &Scope, t: &TypeExpr) -> Result<Operan
 
 // Returns a value of the written type.
 fn made(alloc: Global, line: u32, scope: &Scope, t: &TypeExpr) -> Result<Operand, Memory>
-    ensures { Forms result (Operand.Value (write t.now line scope.now).type) }
+    ensures { AnswersOperand result (Operand.Value (write t.now line scope.now).type) }
 {
     Ok(Operand::Value(written_type(alloc, line, scope, t)?))
 }
@@ -84,7 +84,7 @@ fn selected(
     name: &[u8],
     operand: Operand,
 ) -> Result<Operand, Memory>
-    ensures { Forms result (selected_from line file.now name.now operand).meaning }
+    ensures { AnswersOperand result (selected_from line file.now name.now operand).meaning }
 {
     match select(alloc, line, file, name, operand) {
         Ok(found) => Ok(found),
@@ -97,7 +97,7 @@ fn selected(
 
 // Returns what a call of the function or method of this number gives.
 fn function_result(alloc: Global, file: &FileScope, number: u32) -> Result<Operand, Memory>
-    ensures { Forms result (signature_result (slice_get file.now.functions number)) }
+    ensures { AnswersOperand result (signature_result (slice_get file.now.functions number)) }
 {
     match file.functions.as_slice().get(number as usize) {
         None => Ok(Operand::Outcome(None)),
@@ -110,16 +110,12 @@ fn function_result(alloc: Global, file: &FileScope, number: u32) -> Result<Opera
 
 // Returns what a call gives, whatever its arguments are.
 fn called(alloc: Global, file: &FileScope, callee: Operand) -> Result<Operand, Memory>
-    ensures { Forms result (called_form file.now callee) }
+    ensures { AnswersOperand result (called_form file.now callee) }
 {
     match &callee {
         Operand::Function(number) => function_result(alloc, file, *number),
         Operand::Method(number) => function_result(alloc, file, *number),
-        Operand::BuiltIn(built_in) => match built_in {
-            BuiltIn::Length => Ok(value(alloc, Base::Int)),
-            BuiltIn::NewCondition => Ok(value(alloc, Base::Condition)),
-            _ => Ok(Operand::Nothing(None)),
-        },
+        Operand::BuiltIn(built_in) => Ok(built_in_result(alloc, *built_in, None)),
         _ => Ok(Operand::Outcome(None)),
     }
 }
@@ -128,7 +124,7 @@ fn called(alloc: Global, file: &FileScope, callee: Operand) -> Result<Operand, M
 #[cycle(forming)]
 #[tactic(auto, using(crate::proofs::Laws::same_parens))]
 fn parens_form(alloc: Global, line: u32, scope: &Scope, e: &Expr) -> Result<Operand, Memory>
-    ensures { Forms result (in_parens (judge e.now line scope.now)).meaning }
+    ensures { AnswersOperand result (in_parens (judge e.now line scope.now)).meaning }
 {
     let inner = form(alloc, line, scope, e)?;
     Ok(without_package(inner))
@@ -153,7 +149,7 @@ fn unary_form(
     operator: UnaryOperator,
     e: &Expr,
 ) -> Result<Operand, Memory>
-    ensures { Forms result (unary_meaning operator (given_by (judge e.now line scope.now))) }
+    ensures { AnswersOperand result (unary_meaning operator (given_by (judge e.now line scope.now))) }
 {
     let x = value_form(alloc, line, scope, e)?;
     Ok(unary(alloc, operator, x))
@@ -162,7 +158,7 @@ fn unary_form(
 // Returns the form of an expression with this left operand.
 #[tactic(auto, unfolding(crate::specs::Spines::formed))]
 fn rise(alloc: Global, line: u32, scope: &Scope, e: &Expr, left: Operand) -> Result<Operand, Memory>
-    ensures { Forms result (formed e.now line scope.now left) }
+    ensures { AnswersOperand result (formed e.now line scope.now left) }
 {
     match e {
         Expr::Integer(_) => Ok(left),
@@ -193,7 +189,7 @@ fn rise(alloc: Global, line: u32, scope: &Scope, e: &Expr, left: Operand) -> Res
 /// A loop follows the spine of left operands.
 #[cycle(forming)]
 pub fn form(alloc: Global, line: u32, scope: &Scope, e: &Expr) -> Result<Operand, Memory>
-    ensures { Forms result (judge e.now line scope.now).meaning }
+    ensures { AnswersOperand result (judge e.now line scope.now).meaning }
 {
     let (mut waiting, innermost) = spine(alloc, e)?;
     let mut operand = whole(alloc, line, scope, innermost)?;
@@ -205,10 +201,10 @@ pub fn form(alloc: Global, line: u32, scope: &Scope, e: &Expr) -> Result<Operand
 
 // Returns the form of an expression without a left operand.
 #[cycle(forming)]
-#[tactic(auto, unfolding(golf_check_types::specs::Judging::judge, golf_syntax_trees::specs::Spines::left_of))]
+#[tactic(auto, unfolding(golf_check_types::specs::Judgments::judge, golf_syntax_trees::specs::Spines::left_of))]
 fn whole(alloc: Global, line: u32, scope: &Scope, e: &Expr) -> Result<Operand, Memory>
     requires { left_of e.now ≡ None }
-    ensures { Forms result (judge e.now line scope.now).meaning }
+    ensures { AnswersOperand result (judge e.now line scope.now).meaning }
 {
     match e {
         Expr::Integer(_) => Ok(value(alloc, Base::Int)),

@@ -6,7 +6,7 @@
 ghost use Rattle.std.specs.Prelude.{◌≡◌, slice_set, IfOk, OnOk};
 ghost use Rattle.golf_check_types.specs.Types.{type_given};
 ghost use Rattle.golf_check_types.specs.Expressions.{given_by};
-ghost use Rattle.golf_check_types.specs.Judging.{judge};
+ghost use Rattle.golf_check_types.specs.Judgments.{judge};
 ghost use Rattle.golf_check_types.specs.Files.{outside, formed_content, globals_above, with_forms};
 ghost use Rattle.golf_check_names.specs.Forms.{formed_decl};
 

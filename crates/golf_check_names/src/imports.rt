@@ -3,7 +3,7 @@
 //! There are three packages. Each can be imported at most once, by any declaration.
 
 ghost use Rattle.std.specs.Prelude.{◌≡◌};
-ghost use Rattle.golf_check_types.specs.Faults.{Tells, broken as broken_of};
+ghost use Rattle.golf_check_types.specs.Faults.{AnswersOrFault, broken as broken_of};
 ghost use Rattle.golf_check_types.specs.Files.{package_of as package_of_of, is_new_import as is_new_import_of};
 ghost use Rattle.golf_check_types.specs.Files.{with_import as with_import_of, path_faults, with_paths, import_line};
 ghost use Rattle.golf_check_types.specs.Files.{import_paths as import_paths_of, import_faults, with_imports};
@@ -72,7 +72,7 @@ fn with_import(imports: Imports, from: Option<Package>) -> Imports
 
 // Returns the imports after one path. Its package must be known and not imported yet.
 fn import_path(line: u32, imports: Imports, path: &[u8]) -> Result<Imports, TypeFault>
-    ensures { Tells result (broken_of line WRONG_IMPORT (is_new_import_of imports (package_of_of path.now))) (λ i. i ≡ with_import_of imports (package_of_of path.now)) }
+    ensures { AnswersOrFault result (broken_of line WRONG_IMPORT (is_new_import_of imports (package_of_of path.now))) (λ i. i ≡ with_import_of imports (package_of_of path.now)) }
 {
     let from = package_of(path);
     require(line, WRONG_IMPORT, is_new_import(imports, from))?;
@@ -81,7 +81,7 @@ fn import_path(line: u32, imports: Imports, path: &[u8]) -> Result<Imports, Type
 
 // Returns the imports after these paths.
 fn import_paths(line: u32, imports: Imports, paths: &[Name]) -> Result<Imports, TypeFault>
-    ensures { Tells result (path_faults line imports paths.now) (λ i. i ≡ with_paths imports paths.now) }
+    ensures { AnswersOrFault result (path_faults line imports paths.now) (λ i. i ≡ with_paths imports paths.now) }
 {
     let mut imports = imports;
     for path in paths {
@@ -92,7 +92,7 @@ fn import_paths(line: u32, imports: Imports, paths: &[Name]) -> Result<Imports, 
 
 // Returns the imports after one declaration.
 fn import_one(imports: Imports, import: &Import) -> Result<Imports, TypeFault>
-    ensures { Tells result (path_faults (import_line import.now) imports (import_paths_of import.now)) (λ i. i ≡ with_paths imports (import_paths_of import.now)) }
+    ensures { AnswersOrFault result (path_faults (import_line import.now) imports (import_paths_of import.now)) (λ i. i ≡ with_paths imports (import_paths_of import.now)) }
 {
     match import {
         Import::One(line, path) => import_path(*line, imports, path.as_slice()),
@@ -102,7 +102,7 @@ fn import_one(imports: Imports, import: &Import) -> Result<Imports, TypeFault>
 
 /// Returns the packages that are imported. It checks `WRONG_IMPORT`.
 pub fn imported(imports: &[Import]) -> Result<Imports, TypeFault>
-    ensures { Tells result (import_faults no_imports imports.now) (λ i. i ≡ with_imports no_imports imports.now) }
+    ensures { AnswersOrFault result (import_faults no_imports imports.now) (λ i. i ≡ with_imports no_imports imports.now) }
 {
     let mut found = Imports {
         fmt: false,

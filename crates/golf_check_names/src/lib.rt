@@ -1,4 +1,4 @@
-//! The passes over a file before any body is judged: imports, declared names, written types, `main`, and the types of
+//! The walks over a file before any body is judged: imports, declared names, written types, `main`, and the types of
 //! globals by the forms of their initialisers.
 //!
 //! After them the scope outside all functions is complete: what the names of the file are, and which types they have.

@@ -6,7 +6,7 @@
 
 ghost use Rattle.std.specs.Prelude.{◌≡◌, slice_get, IfOk};
 ghost use Rattle.std.specs.List.{list_all};
-ghost use Rattle.golf_check_types.specs.Faults.{Tells};
+ghost use Rattle.golf_check_types.specs.Faults.{AnswersOrFault};
 ghost use Rattle.golf_check_types.specs.Types.{type_given as type_given_of, has_base as has_base_of, has_layer, is_any};
 ghost use Rattle.golf_check_types.specs.Types.{takes};
 ghost use Rattle.golf_check_types.specs.Calls.{argument_faults, same_number as same_number_of, parameter_faults};
@@ -19,7 +19,8 @@ ghost use Rattle.golf_check_types.specs.Calls.{is_struct_pointer as is_struct_po
 ghost use Rattle.golf_check_types.specs.Calls.{takes_alone as takes_alone_of, signature_takes};
 ghost use Rattle.golf_check_types.specs.Calls.{finalises_by as finalises_by_of, finalises as finalises_of};
 ghost use Rattle.golf_check_types.specs.Calls.{late_rule as late_rule_of, built_in_result as built_in_result_of};
-ghost use Rattle.golf_check_types.specs.Calls.{is_steady as is_steady_of, steady_faults};
+ghost use Rattle.golf_check_types.specs.Calls.{is_steady as is_steady_of, is_steady_call as is_steady_call_of};
+ghost use Rattle.golf_check_types.specs.Calls.{steady_faults};
 ghost use Rattle.golf_check_types.specs.Calls.{sets_finaliser as sets_finaliser_of, call_faults, called as called_of};
 
 use crate::values::{assignable, can_take, has_any, has_base};
@@ -39,7 +40,7 @@ fn arguments_fit(
     parameters: &[Option<GoType>],
     values: &[Given],
 ) -> Result<(), TypeFault>
-    ensures { Tells result (argument_faults line parameters.now values.now) (λ _. Unit {0}) }
+    ensures { AnswersOrFault result (argument_faults line parameters.now values.now) (λ _. Unit {0}) }
 {
     let mut rest = values;
     for p in parameters {
@@ -62,7 +63,7 @@ fn same_number(parameters: &[Option<GoType>], values: &[Given]) -> bool
 
 // Checks that the values fit the parameters and that there are as many: `NOT_ASSIGNABLE` and `WRONG_CALL`.
 fn fit(line: u32, parameters: &[Option<GoType>], values: &[Given]) -> Result<(), TypeFault>
-    ensures { Tells result (parameter_faults line parameters.now values.now) (λ _. Unit {0}) }
+    ensures { AnswersOrFault result (parameter_faults line parameters.now values.now) (λ _. Unit {0}) }
 {
     arguments_fit(line, parameters, values)?;
     require(line, WRONG_CALL, same_number(parameters, values))
@@ -86,7 +87,7 @@ fn call_function(
     number: u32,
     values: &[Given],
 ) -> Result<Operand, TypeFault>
-    ensures { Tells result (signature_faults line (slice_get file.now.functions number) values.now) (λ m. m ≡ signature_result (slice_get file.now.functions number)) }
+    ensures { AnswersOrFault result (signature_faults line (slice_get file.now.functions number) values.now) (λ m. m ≡ signature_result (slice_get file.now.functions number)) }
 {
     match file.functions.as_slice().get(number as usize) {
         None => Ok(Operand::Outcome(None)),
@@ -110,7 +111,19 @@ fn parameters_of(alloc: Global, built_in: BuiltIn) -> Result<List<Option<GoType>
         }
         BuiltIn::NewCondition => parameters.push(Some(plain(alloc, Base::Mutex)))?,
         BuiltIn::Add => parameters.push(Some(plain(alloc, Base::Int)))?,
-        _ => {}
+        BuiltIn::Print
+        | BuiltIn::Collect
+        | BuiltIn::Lock
+        | BuiltIn::Unlock
+        | BuiltIn::Done
+        | BuiltIn::WaitGroup
+        | BuiltIn::WriteLock
+        | BuiltIn::WriteUnlock
+        | BuiltIn::ReadLock
+        | BuiltIn::ReadUnlock
+        | BuiltIn::WaitCondition
+        | BuiltIn::Signal
+        | BuiltIn::Broadcast => {}
     }
     Ok(parameters)
 }
@@ -150,7 +163,7 @@ fn built_in_fits(
     built_in: BuiltIn,
     values: &[Given],
 ) -> Result<(), TypeFault>
-    ensures { Tells result (built_in_faults line built_in values.now) (λ _. Unit {0}) }
+    ensures { AnswersOrFault result (built_in_faults line built_in values.now) (λ _. Unit {0}) }
 {
     let parameters = parameters_of(alloc, built_in)?;
     match built_in {
@@ -163,7 +176,22 @@ fn built_in_fits(
             require(line, WRONG_CHANNEL, first_is_closed(values))
         }
         BuiltIn::Print => Ok(()),
-        _ => fit(line, parameters.as_slice(), values),
+        BuiltIn::Panic
+        | BuiltIn::Collect
+        | BuiltIn::SetFinalizer
+        | BuiltIn::NewCondition
+        | BuiltIn::Lock
+        | BuiltIn::Unlock
+        | BuiltIn::Add
+        | BuiltIn::Done
+        | BuiltIn::WaitGroup
+        | BuiltIn::WriteLock
+        | BuiltIn::WriteUnlock
+        | BuiltIn::ReadLock
+        | BuiltIn::ReadUnlock
+        | BuiltIn::WaitCondition
+        | BuiltIn::Signal
+        | BuiltIn::Broadcast => fit(line, parameters.as_slice(), values),
     }
 }
 
@@ -192,17 +220,76 @@ fn late_rule(built_in: BuiltIn, values: &[Given]) -> Option<u32>
     match built_in {
         BuiltIn::Print => rule_unless(NOT_PRINTABLE, all_print(values)),
         BuiltIn::Panic => rule_unless(NOT_PRINTABLE, first_is_text(values)),
-        _ => None,
+        BuiltIn::Length
+        | BuiltIn::Close
+        | BuiltIn::Collect
+        | BuiltIn::SetFinalizer
+        | BuiltIn::NewCondition
+        | BuiltIn::Lock
+        | BuiltIn::Unlock
+        | BuiltIn::Add
+        | BuiltIn::Done
+        | BuiltIn::WaitGroup
+        | BuiltIn::WriteLock
+        | BuiltIn::WriteUnlock
+        | BuiltIn::ReadLock
+        | BuiltIn::ReadUnlock
+        | BuiltIn::WaitCondition
+        | BuiltIn::Signal
+        | BuiltIn::Broadcast => None,
     }
 }
 
-fn built_in_result(alloc: Global, built_in: BuiltIn, late: Option<u32>) -> Operand
+/// Returns what a call of a built-in operation gives, with the rule that it breaks later.
+pub fn built_in_result(alloc: Global, built_in: BuiltIn, late: Option<u32>) -> Operand
     ensures { result ≡ built_in_result_of built_in late }
 {
     match built_in {
         BuiltIn::Length => Operand::Value(Some(plain(alloc, Base::Int))),
         BuiltIn::NewCondition => Operand::Value(Some(plain(alloc, Base::Condition))),
-        _ => Operand::Nothing(late),
+        BuiltIn::Close
+        | BuiltIn::Panic
+        | BuiltIn::Print
+        | BuiltIn::Collect
+        | BuiltIn::SetFinalizer
+        | BuiltIn::Lock
+        | BuiltIn::Unlock
+        | BuiltIn::Add
+        | BuiltIn::Done
+        | BuiltIn::WaitGroup
+        | BuiltIn::WriteLock
+        | BuiltIn::WriteUnlock
+        | BuiltIn::ReadLock
+        | BuiltIn::ReadUnlock
+        | BuiltIn::WaitCondition
+        | BuiltIn::Signal
+        | BuiltIn::Broadcast => Operand::Nothing(late),
+    }
+}
+
+// Returns whether the initialiser of a global may call this built-in operation.
+fn is_steady_call(built_in: BuiltIn) -> bool
+    ensures { result ≡ is_steady_call_of built_in }
+{
+    match built_in {
+        BuiltIn::Length | BuiltIn::NewCondition => true,
+        BuiltIn::Close
+        | BuiltIn::Panic
+        | BuiltIn::Print
+        | BuiltIn::Collect
+        | BuiltIn::SetFinalizer
+        | BuiltIn::Lock
+        | BuiltIn::Unlock
+        | BuiltIn::Add
+        | BuiltIn::Done
+        | BuiltIn::WaitGroup
+        | BuiltIn::WriteLock
+        | BuiltIn::WriteUnlock
+        | BuiltIn::ReadLock
+        | BuiltIn::ReadUnlock
+        | BuiltIn::WaitCondition
+        | BuiltIn::Signal
+        | BuiltIn::Broadcast => false,
     }
 }
 
@@ -211,18 +298,14 @@ fn is_steady(callee: &Operand) -> bool
     ensures { result ≡ is_steady_of callee.now }
 {
     match callee {
-        Operand::BuiltIn(built_in) => match built_in {
-            BuiltIn::Length => true,
-            BuiltIn::NewCondition => true,
-            _ => false,
-        },
+        Operand::BuiltIn(built_in) => is_steady_call(*built_in),
         _ => false,
     }
 }
 
 /// Checks that the initialiser of a global may call this: `NOT_STEADY`. Elsewhere any call is allowed.
 pub fn keeps_steady(line: u32, initialises: Option<u32>, callee: &Operand) -> Result<(), TypeFault>
-    ensures { Tells result (steady_faults line initialises callee.now) (λ _. Unit {0}) }
+    ensures { AnswersOrFault result (steady_faults line initialises callee.now) (λ _. Unit {0}) }
 {
     require(line, NOT_STEADY, initialises.is_none() || is_steady(callee))
 }
@@ -249,7 +332,7 @@ pub fn call(
     callee: &Operand,
     values: &[Given],
 ) -> Result<Operand, TypeFault>
-    ensures { Tells result (call_faults line file.now callee.now values.now) (λ m. m ≡ called_of file.now callee.now values.now) }
+    ensures { AnswersOrFault result (call_faults line file.now callee.now values.now) (λ m. m ≡ called_of file.now callee.now values.now) }
 {
     match callee {
         Operand::Function(number) => call_function(alloc, line, file, *number, values),

@@ -11,7 +11,7 @@ mod selectors;
 mod values;
 mod written_types;
 
-pub use calls::{call, finalises, keeps_steady, rule_unless, sets_finaliser};
+pub use calls::{built_in_result, call, finalises, keeps_steady, rule_unless, sets_finaliser};
 pub use literals::{
     all_fit, elements_fit, field_place, fields_differ, int_value, made, made_sized, made_struct,
     named, struct_of,

@@ -7,7 +7,7 @@ ghost use Rattle.std.specs.Prelude.{◌≡◌, ◌≤◌, ◌++◌, [], pos, map
 ghost use Rattle.std.specs.Prelude.{option_and_then};
 ghost use Rattle.std.specs.List.{list_any};
 ghost use Rattle.std.specs.Str.{bytes_eq};
-ghost use Rattle.golf_check_types.specs.Faults.{Tells, broken as broken_of};
+ghost use Rattle.golf_check_types.specs.Faults.{AnswersOrFault, broken as broken_of};
 ghost use Rattle.golf_check_types.specs.Types.{given as given_of, has_base as has_base_of, has_layer, is_any};
 ghost use Rattle.golf_check_types.specs.Types.{is_channel, assignable as assignable_of};
 ghost use Rattle.golf_check_types.specs.Expressions.{named as named_of, known_name, found_name};
@@ -17,7 +17,7 @@ ghost use Rattle.golf_check_types.specs.Expressions.{field_place as field_place_
 ghost use Rattle.golf_check_types.specs.Expressions.{field_type as field_type_of};
 ghost use Rattle.golf_check_types.specs.Expressions.{field_of_member as field_of_member_of, put_faults, all_put_faults};
 ghost use Rattle.golf_check_types.specs.Expressions.{fields_differ as fields_differ_of};
-ghost use Rattle.golf_check_types.specs.Judging.{Finds};
+ghost use Rattle.golf_check_types.specs.Judgments.{AnswersJudged};
 ghost use Rattle.golf_check_types.specs.Scopes.{meaning as meaning_of, type_at as type_at_of};
 ghost use Rattle.golf_check_types.specs.Written.{pointer_to as pointer_to_of};
 
@@ -65,7 +65,7 @@ fn is_above(initialises: Option<u32>, read: Option<u32>) -> bool
 
 // Returns the operand of a name, unless it reads a global that is not above the one that is initialised.
 fn found(line: u32, initialises: Option<u32>, operand: Operand) -> Result<Operand, TypeFault>
-    ensures { Finds result (found_name line initialises operand) }
+    ensures { AnswersJudged result (found_name line initialises operand) }
 {
     require(
         line,
@@ -81,7 +81,7 @@ fn known(
     initialises: Option<u32>,
     meaning: Option<Operand>,
 ) -> Result<Operand, TypeFault>
-    ensures { Finds result (known_name line initialises meaning) }
+    ensures { AnswersJudged result (known_name line initialises meaning) }
 {
     match meaning {
         None => Err(TypeFault::At {
@@ -94,7 +94,7 @@ fn known(
 
 /// Returns what a name is. It checks `UNKNOWN_NAME` and `NOT_STEADY`.
 pub fn named(alloc: Global, line: u32, scope: &Scope, name: &[u8]) -> Result<Operand, TypeFault>
-    ensures { Finds result (named_of line scope.now name.now) }
+    ensures { AnswersJudged result (named_of line scope.now name.now) }
 {
     if is_blank(name) {
         return Ok(Operand::Blank);
@@ -121,7 +121,7 @@ fn small_value(digits: &[u8]) -> Option<u64>
 /// Returns the number for which the digits stand. It checks `TOO_LARGE`.
 #[tactic(auto, unfolding(golf_check_types::specs::Expressions::fits_int))]
 pub fn int_value(line: u32, digits: &[u8]) -> Result<i64, TypeFault>
-    ensures { Tells result (broken_of line TOO_LARGE (fits_int_of digits.now)) (λ n. n ≡ pos (value_from 0 digits.now)) }
+    ensures { AnswersOrFault result (broken_of line TOO_LARGE (fits_int_of digits.now)) (λ n. n ≡ pos (value_from 0 digits.now)) }
 {
     match small_value(digits) {
         None => Err(TypeFault::At {
@@ -139,7 +139,7 @@ pub fn made_struct(
     scope: &Scope,
     name: &[u8],
 ) -> Result<Operand, TypeFault>
-    ensures { Finds result (made_struct_of line (pointer_to_of (meaning_of scope.now name.now))) }
+    ensures { AnswersJudged result (made_struct_of line (pointer_to_of (meaning_of scope.now name.now))) }
 {
     let meaning = meaning_at(alloc, scope, name)?;
     let base = pointer_to(meaning);
@@ -229,7 +229,7 @@ pub fn field_place(file: &FileScope, base: Option<Base>, name: &[u8]) -> u32
 
 // Checks that a value fits the field for it, if the field is known.
 fn put_fits(line: u32, field: &Option<Option<GoType>>, given: &Given) -> Result<(), TypeFault>
-    ensures { Tells result (put_faults line field.now given.now) (λ _. Unit {0}) }
+    ensures { AnswersOrFault result (put_faults line field.now given.now) (λ _. Unit {0}) }
 {
     match field {
         None => Ok(()),
@@ -246,7 +246,7 @@ fn element_fits(
     element: &Element,
     given: &Given,
 ) -> Result<(), TypeFault>
-    ensures { Tells result (put_faults line (field_type_of file.now base element.now.field) given.now) (λ _. Unit {0}) }
+    ensures { AnswersOrFault result (put_faults line (field_type_of file.now base element.now.field) given.now) (λ _. Unit {0}) }
 {
     let field = field_type(alloc, file, base, element.field.as_slice())?;
     put_fits(line, &field, given)
@@ -261,7 +261,7 @@ pub fn all_fit(
     elements: &[Element],
     values: &[Given],
 ) -> Result<(), TypeFault>
-    ensures { Tells result (all_put_faults line file.now base (map (λ e. e.field) elements.now) values.now) (λ _. Unit {0}) }
+    ensures { AnswersOrFault result (all_put_faults line file.now base (map (λ e. e.field) elements.now) values.now) (λ _. Unit {0}) }
 {
     let mut rest = values;
     for e in elements {
@@ -309,7 +309,7 @@ pub fn fields_differ(
 
 /// Checks that each value fits the elements of a slice: `NOT_ASSIGNABLE`.
 pub fn elements_fit(line: u32, values: &[Given], t: &Option<GoType>) -> Result<(), TypeFault>
-    ensures { Tells result (flat_map (λ v. broken_of line NOT_ASSIGNABLE (assignable_of v t.now)) values.now) (λ _. Unit {0}) }
+    ensures { AnswersOrFault result (flat_map (λ v. broken_of line NOT_ASSIGNABLE (assignable_of v t.now)) values.now) (λ _. Unit {0}) }
 {
     for v in values {
         require(line, NOT_ASSIGNABLE, assignable(v, t))?;
@@ -319,7 +319,7 @@ pub fn elements_fit(line: u32, values: &[Given], t: &Option<GoType>) -> Result<(
 
 /// Returns what `make(T)` gives, after its type. It checks `WRONG_CALL`.
 pub fn made(alloc: Global, line: u32, t: Option<GoType>) -> Result<Operand, TypeFault>
-    ensures { Tells result (broken_of line WRONG_CALL (has_layer is_channel (given_of (Operand.Value t)))) (λ m. m ≡ Operand.Value t) }
+    ensures { AnswersOrFault result (broken_of line WRONG_CALL (has_layer is_channel (given_of (Operand.Value t)))) (λ m. m ≡ Operand.Value t) }
 {
     let own = copy_optional(alloc, &t)?;
     require(line, WRONG_CALL, has_channel(&given_type(t)))?;
@@ -333,7 +333,7 @@ pub fn made_sized(
     t: Option<GoType>,
     size: &Given,
 ) -> Result<Operand, TypeFault>
-    ensures { Tells result (broken_of line WRONG_OPERAND (has_base_of Base.Int size.now) ++ broken_of line WRONG_CALL (has_layer is_any (given_of (Operand.Value t)))) (λ m. m ≡ Operand.Value t) }
+    ensures { AnswersOrFault result (broken_of line WRONG_OPERAND (has_base_of Base.Int size.now) ++ broken_of line WRONG_CALL (has_layer is_any (given_of (Operand.Value t)))) (λ m. m ≡ Operand.Value t) }
 {
     let own = copy_optional(alloc, &t)?;
     require(line, WRONG_OPERAND, has_base(Base::Int, size))?;

@@ -3,7 +3,7 @@
 //! An operand can be used as a value (`is_value`) or as a name of any kind (`is_name`). Operators take values.
 
 ghost use Rattle.std.specs.Prelude.{◌≡◌, ◌&&◌};
-ghost use Rattle.golf_check_types.specs.Faults.{Tells, broken as broken_of};
+ghost use Rattle.golf_check_types.specs.Faults.{AnswersOrFault, broken as broken_of};
 ghost use Rattle.golf_check_types.specs.Types.{given as given_of, has_base as has_base_of, has_layer, is_slice};
 ghost use Rattle.golf_check_types.specs.Types.{element as element_of};
 ghost use Rattle.golf_check_types.specs.Expressions.{late_faults, value_faults, name_faults, value as value_of_base};
@@ -19,7 +19,7 @@ use std::alloc::Global;
 
 /// Reports the rule that the arguments of a call without a result break, if there is one.
 pub fn late(line: u32, rule: Option<u32>) -> Result<(), TypeFault>
-    ensures { Tells result (late_faults line rule) (λ _. Unit {0}) }
+    ensures { AnswersOrFault result (late_faults line rule) (λ _. Unit {0}) }
 {
     match rule {
         None => Ok(()),
@@ -29,7 +29,7 @@ pub fn late(line: u32, rule: Option<u32>) -> Result<(), TypeFault>
 
 /// Checks that an operand is a value: `UNKNOWN_NAME` and `WRONG_USE`.
 pub fn is_value(line: u32, operand: &Operand) -> Result<(), TypeFault>
-    ensures { Tells result (value_faults line operand.now) (λ _. Unit {0}) }
+    ensures { AnswersOrFault result (value_faults line operand.now) (λ _. Unit {0}) }
 {
     match operand {
         Operand::Value(_)
@@ -60,7 +60,7 @@ pub fn is_value(line: u32, operand: &Operand) -> Result<(), TypeFault>
 
 /// Checks that an operand can be used as a name of any kind: `UNKNOWN_NAME` and `WRONG_USE`.
 pub fn is_name(line: u32, operand: &Operand) -> Result<(), TypeFault>
-    ensures { Tells result (name_faults line operand.now) (λ _. Unit {0}) }
+    ensures { AnswersOrFault result (name_faults line operand.now) (λ _. Unit {0}) }
 {
     match operand {
         Operand::Blank => Err(TypeFault::At {
@@ -77,7 +77,7 @@ pub fn is_name(line: u32, operand: &Operand) -> Result<(), TypeFault>
 
 /// Returns what an operand gives as a value, if it is one.
 pub(crate) fn as_value(alloc: Global, line: u32, operand: Operand) -> Result<Given, TypeFault>
-    ensures { Tells result (value_faults line operand) (λ v. v ≡ given_of operand) }
+    ensures { AnswersOrFault result (value_faults line operand) (λ v. v ≡ given_of operand) }
 {
     is_value(line, &operand)?;
     Ok(value_of(alloc, operand))
@@ -108,7 +108,7 @@ pub fn unary(
     operator: UnaryOperator,
     x: Given,
 ) -> Result<Operand, TypeFault>
-    ensures { Tells result (unary_faults line scope.now operator x) (λ m. m ≡ unary_meaning operator x) }
+    ensures { AnswersOrFault result (unary_faults line scope.now operator x) (λ m. m ≡ unary_meaning operator x) }
 {
     match operator {
         UnaryOperator::Negate => {
@@ -172,7 +172,7 @@ pub fn binary(
     x: Given,
     y: Given,
 ) -> Result<Operand, TypeFault>
-    ensures { Tells result (broken_of line WRONG_OPERAND (binary_fits_of operator x y)) (λ m. m ≡ value_of_base (result_base_of operator)) }
+    ensures { AnswersOrFault result (broken_of line WRONG_OPERAND (binary_fits_of operator x y)) (λ m. m ≡ value_of_base (result_base_of operator)) }
 {
     require(line, WRONG_OPERAND, binary_fits(operator, &x, &y))?;
     Ok(value(alloc, result_base(operator)))
@@ -180,7 +180,7 @@ pub fn binary(
 
 /// Returns the element at an index. It checks `WRONG_OPERAND`.
 pub fn index(line: u32, x: Given, i: Given) -> Result<Operand, TypeFault>
-    ensures { Tells result (broken_of line WRONG_OPERAND (has_layer is_slice x && has_base_of Base.Int i)) (λ m. m ≡ Operand.Element (element_of x)) }
+    ensures { AnswersOrFault result (broken_of line WRONG_OPERAND (has_layer is_slice x && has_base_of Base.Int i)) (λ m. m ≡ Operand.Element (element_of x)) }
 {
     require(
         line,

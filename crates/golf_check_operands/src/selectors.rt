@@ -4,7 +4,7 @@
 //! selected method is an operand that can only be called.
 
 ghost use Rattle.std.specs.Prelude.{◌≡◌};
-ghost use Rattle.golf_check_types.specs.Judging.{Finds};
+ghost use Rattle.golf_check_types.specs.Judgments.{AnswersJudged};
 ghost use Rattle.golf_check_types.specs.Expressions.{fmt_member as fmt_member_of, runtime_member as runtime_member_of};
 ghost use Rattle.golf_check_types.specs.Expressions.{sync_member as sync_member_of};
 ghost use Rattle.golf_check_types.specs.Expressions.{package_member as package_member_of, has_type as has_type_of};
@@ -85,7 +85,7 @@ fn has_type(from: Package, name: &[u8]) -> bool
 
 // Returns the operand of a built-in, or reports `UNKNOWN_NAME` if there is none.
 fn called_name(line: u32, name: Option<BuiltIn>) -> Result<Operand, TypeFault>
-    ensures { Finds result (called_name_of line name) }
+    ensures { AnswersJudged result (called_name_of line name) }
 {
     match name {
         None => Err(TypeFault::At {
@@ -98,7 +98,7 @@ fn called_name(line: u32, name: Option<BuiltIn>) -> Result<Operand, TypeFault>
 
 // Returns a member of a package: a type, which is no value, or a function. It checks `UNKNOWN_NAME`.
 fn package_selected(line: u32, from: Package, name: &[u8]) -> Result<Operand, TypeFault>
-    ensures { Finds result (package_selected_of line from name.now) }
+    ensures { AnswersJudged result (package_selected_of line from name.now) }
 {
     if has_type(from, name) {
         return Ok(Operand::TypeName);
@@ -185,7 +185,7 @@ fn condition_method(name: &[u8]) -> Option<BuiltIn>
 // Returns the member of a condition of this name: its mutex, or a method.
 #[tactic(auto, unfolding(golf_check_types::specs::Expressions::condition_member))]
 fn condition_member(alloc: Global, line: u32, name: &[u8]) -> Result<Operand, TypeFault>
-    ensures { Finds result (condition_member_of line name.now) }
+    ensures { AnswersJudged result (condition_member_of line name.now) }
 {
     if name == b"L".as_slice() {
         return Ok(value(alloc, Base::Mutex));
@@ -201,7 +201,7 @@ fn struct_member(
     number: u32,
     member: Option<Member>,
 ) -> Result<Operand, TypeFault>
-    ensures { Finds result (struct_member_of line file.now number member) }
+    ensures { AnswersJudged result (struct_member_of line file.now number member) }
 {
     match member {
         None => Err(TypeFault::At {
@@ -226,7 +226,7 @@ fn base_member(
     name: &[u8],
     base: Base,
 ) -> Result<Operand, TypeFault>
-    ensures { Finds result (base_member_of line file.now name.now base) }
+    ensures { AnswersJudged result (base_member_of line file.now name.now base) }
 {
     match base {
         Base::Pointer(number) => {
@@ -251,7 +251,7 @@ fn value_member(
     name: &[u8],
     given: &Given,
 ) -> Result<Operand, TypeFault>
-    ensures { Finds result (value_member_of line file.now name.now given.now) }
+    ensures { AnswersJudged result (value_member_of line file.now name.now given.now) }
 {
     match given {
         Given::Typed(t) => match t.layers.as_slice() {
@@ -277,7 +277,7 @@ pub fn select(
     name: &[u8],
     operand: Operand,
 ) -> Result<Operand, TypeFault>
-    ensures { Finds result (selected_from line file.now name.now operand) }
+    ensures { AnswersJudged result (selected_from line file.now name.now operand) }
 {
     match &operand {
         Operand::Package(from) => package_selected(line, *from, name),

@@ -1,6 +1,6 @@
 //! Tests of values (Go specification, "Assignability", "Comparison operators").
 //!
-//! They answer yes or no and name no rule. A value whose type is not known passes all of them, so that only the first
+//! They answer yes or no and name no rule. A value whose type is not known satisfies all of them, so that only the first
 //! fault of an expression is reported.
 
 ghost use Rattle.std.specs.Prelude.{◌≡◌};

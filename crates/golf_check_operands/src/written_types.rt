@@ -4,13 +4,13 @@
 //! that the language does not have is `None`, and a value of it has no type.
 
 ghost use Rattle.std.specs.Prelude.{◌≡◌, IfOk, option_map};
-ghost use Rattle.golf_check_types.specs.Faults.{Tells};
+ghost use Rattle.golf_check_types.specs.Faults.{AnswersOrFault};
 ghost use Rattle.golf_check_types.specs.Types.{plain as plain_of};
 ghost use Rattle.golf_check_types.specs.Written.{named_base as named_base_of, made_base as made_base_of};
 ghost use Rattle.golf_check_types.specs.Written.{sync_base as sync_base_of, pointer_to as pointer_to_of, of_sync};
 ghost use Rattle.golf_check_types.specs.Written.{write};
 ghost use Rattle.golf_check_types.specs.Expressions.{made_sync as made_sync_of};
-ghost use Rattle.golf_check_types.specs.Judging.{Finds};
+ghost use Rattle.golf_check_types.specs.Judgments.{AnswersJudged};
 
 use golf_base::Memory;
 use golf_check_types::rules::{UNKNOWN_NAME, UNKNOWN_TYPE};
@@ -131,7 +131,7 @@ pub fn written_type(
 
 // Checks that package sync is imported and has such a type.
 fn sync_type_is_there(line: u32, imported: bool, base: Option<Base>) -> Result<(), TypeFault>
-    ensures { Tells result (of_sync line imported base).faults (λ _. Unit {0}) }
+    ensures { AnswersOrFault result (of_sync line imported base).faults (λ _. Unit {0}) }
 {
     require(line, UNKNOWN_NAME, imported)?;
     require(line, UNKNOWN_TYPE, base.is_some())
@@ -140,7 +140,7 @@ fn sync_type_is_there(line: u32, imported: bool, base: Option<Base>) -> Result<(
 /// Checks that the language has a written type: `UNKNOWN_NAME` and `UNKNOWN_TYPE`.
 #[tactic(auto, unfolding(golf_check_types::specs::Written::write))]
 pub fn type_is_there(alloc: Global, line: u32, scope: &Scope, t: &TypeExpr) -> Result<(), TypeFault>
-    ensures { Tells result (write t.now line scope.now).faults (λ _. Unit {0}) }
+    ensures { AnswersOrFault result (write t.now line scope.now).faults (λ _. Unit {0}) }
 {
     match t {
         TypeExpr::Named(name) => require(line, UNKNOWN_TYPE, named_base(name.as_slice()).is_some()),
@@ -168,7 +168,7 @@ pub fn written(
     scope: &Scope,
     t: &TypeExpr,
 ) -> Result<Option<GoType>, TypeFault>
-    ensures { Tells result (write t.now line scope.now).faults (λ r. r ≡ (write t.now line scope.now).type) }
+    ensures { AnswersOrFault result (write t.now line scope.now).faults (λ r. r ≡ (write t.now line scope.now).type) }
 {
     type_is_there(alloc, line, scope, t)?;
     Ok(written_type(alloc, line, scope, t)?)
@@ -176,7 +176,7 @@ pub fn written(
 
 /// Returns what `&sync.T{}` and `new(sync.T)` give. It checks that package sync is imported and has the type.
 pub fn made_sync(alloc: Global, line: u32, scope: &Scope, name: &[u8]) -> Result<Operand, TypeFault>
-    ensures { Finds result (made_sync_of line scope.now name.now) }
+    ensures { AnswersJudged result (made_sync_of line scope.now name.now) }
 {
     let base = made_base(name);
     sync_type_is_there(line, scope.file.imports.sync, base)?;

@@ -18,7 +18,7 @@ use Rattle.golf_check_types.specs.declared.scopes.FileScope.{FileScope}
 use Rattle.golf_check_types.specs.declared.scopes.Scope.{Scope}
 use Rattle.golf_check_types.specs.Types.{plain, with_layer}
 use Rattle.golf_check_types.specs.Scopes.{or_else, entry_operand, meaning_in, predeclared, meaning}
-use Rattle.golf_check_types.specs.Written.{Write, write, write_step, of_base, of_sync, sync_base, behind_layer}
+use Rattle.golf_check_types.specs.Written.{WriteType, write, write_step, of_base, of_sync, sync_base, behind_layer}
 use Rattle.golf_check_types.specs.Written.{pointer_to}
 use Rattle.golf_check_types.specs.Files.{outside, field_names, typed_names, all_typed_names, result_type}
 
@@ -26,8 +26,8 @@ module _ (s u : Scope) (pointers : (n : List ℕ) → pointer_to (meaning s n) �
   abbrev P : TypeExpr → Type 0
   P x = (l k : ℕ) → (write x l s).type ≡ (write x k u).type
 
-  at : (y : TypeLayer P) (l k : ℕ) → (write_step (map-TypeExpr TypeExpr Write write (bare_type P y)) l s).type ≡
-      (write_step (map-TypeExpr TypeExpr Write write (bare_type P y)) k u).type
+  at : (y : TypeLayer P) (l k : ℕ) → (write_step (map-TypeExpr TypeExpr WriteType write (bare_type P y)) l s).type ≡
+      (write_step (map-TypeExpr TypeExpr WriteType write (bare_type P y)) k u).type
   at (F.Named n) l k = refl
   at (F.Pointer n) l k = ap (option_map plain) (pointers n)
   at (F.SyncPointer n) l k = refl
@@ -39,8 +39,8 @@ module _ (s u : Scope) (pointers : (n : List ℕ) → pointer_to (meaning s n) �
 
   rolled : (y : TypeLayer P) → P (roll-TypeExpr (bare_type P y))
   unfolding write
-  rolled y l k = subst (λ (w : Write). (w l s).type ≡ (w k u).type)
-      (sym (fold-roll-TypeExpr Write write_step (bare_type P y))) (at y l k)
+  rolled y l k = subst (λ (w : WriteType). (w l s).type ≡ (w k u).type)
+      (sym (fold-roll-TypeExpr WriteType write_step (bare_type P y))) (at y l k)
 
   pub written-alike : (x : TypeExpr) → P x
   written-alike = every-type P rolled
@@ -67,8 +67,9 @@ module _ (s u : Scope) (pointers : (n : List ℕ) → pointer_to (meaning s n) �
   abbrev R : TypeExpr → Type 0
   R x = (l : ℕ) → write x l s ≡ write x l u
 
-  whole : (y : TypeLayer R) (l : ℕ) → write_step (map-TypeExpr TypeExpr Write write (bare_type R y)) l s ≡ write_step
-      (map-TypeExpr TypeExpr Write write (bare_type R y)) l u
+  whole : (y : TypeLayer R) (l : ℕ) → write_step (map-TypeExpr TypeExpr WriteType write (bare_type R y)) l s
+      ≡ write_step
+      (map-TypeExpr TypeExpr WriteType write (bare_type R y)) l u
   whole (F.Named n) l = refl
   whole (F.Pointer n) l = ap (of_base l) (pointers n)
   whole (F.SyncPointer n) l = ap (λ b. of_sync l b (sync_base n)) sync
@@ -80,7 +81,8 @@ module _ (s u : Scope) (pointers : (n : List ℕ) → pointer_to (meaning s n) �
 
   whole-rolled : (y : TypeLayer R) → R (roll-TypeExpr (bare_type R y))
   unfolding write
-  whole-rolled y l = subst (λ (w : Write). w l s ≡ w l u) (sym (fold-roll-TypeExpr Write write_step (bare_type R y)))
+  whole-rolled y l = subst (λ (w : WriteType). w l s ≡ w l u)
+      (sym (fold-roll-TypeExpr WriteType write_step (bare_type R y)))
       (whole y l)
 
   pub written-same : (x : TypeExpr) → R x

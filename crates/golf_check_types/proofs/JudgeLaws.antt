@@ -1,5 +1,5 @@
 -- What expressions with lists of parts are.
--- For: `judge`, specs/Judging.antt
+-- For: `judge`, specs/Judgments.antt
 -- By: induction over the list of elements; else computing
 use Rattle.std.proofs.Common.{◌≡◌, ℕ, List, [], ◌∷◌, map, refl, sym, ap, ◌∙◌}
 use Rattle.std.proofs.lemmas.Simd.{map-map}
@@ -16,7 +16,7 @@ use Rattle.golf_check_types.specs.Scopes.{meaning}
 use Rattle.golf_check_types.specs.Written.{write_at, pointer_to}
 use Rattle.golf_check_types.specs.Expressions.{struct_literal, slice_literal}
 use Rattle.golf_check_types.specs.Calls.{call_judged}
-use Rattle.golf_check_types.specs.Judging.{Judge, Put, judge, judge_at, value_at, judge_step, element_step}
+use Rattle.golf_check_types.specs.Judgments.{Judge, Put, judge, judge_at, value_at, judge_step, element_step}
 
 pub judge-Call : (f : Expr) (xs : List Expr) (l : ℕ) (s : Scope)
     → judge (ex.Call f xs) l s ≡ call_judged l s (judge f l s) (map (judge_at l s) xs)

@@ -1,5 +1,5 @@
 -- What an expression is depends on the names that are known, and on nothing else of its scope.
--- For: `judge`, specs/Judging.antt; `write`, specs/Written.antt
+-- For: `judge`, specs/Judgments.antt; `write`, specs/Written.antt
 -- By: induction over the tree of an expression, and over the tree of a written type
 use Rattle.std.proofs.Common.{◌≡◌, ℕ, Bool, List, [], ◌∷◌, map, Option, refl, sym, ap, ◌∙◌, subst}
 use Rattle.golf_syntax_trees.specs.declared.types.TypeExpr.{TypeExpr, roll-TypeExpr}
@@ -17,11 +17,11 @@ use Rattle.golf_check_types.specs.declared.types.GoType.{GoType}
 use Rattle.golf_check_types.specs.declared.scopes.Scope.{Scope}
 use Rattle.golf_check_types.specs.Types.{with_layer}
 use Rattle.golf_check_types.specs.Scopes.{meaning}
-use Rattle.golf_check_types.specs.Written.{Write, write, write_step, behind_layer, pointer_to}
+use Rattle.golf_check_types.specs.Written.{WriteType, write, write_step, behind_layer, pointer_to}
 use Rattle.golf_check_types.specs.Expressions.{struct_literal, slice_literal, made, made_sized, selector, unary_judged}
 use Rattle.golf_check_types.specs.Expressions.{binary_judged, index_judged, in_parens}
 use Rattle.golf_check_types.specs.Calls.{call_judged}
-use Rattle.golf_check_types.specs.Judging.{Judge, Put, judge, judge_step, element_step}
+use Rattle.golf_check_types.specs.Judgments.{Judge, Put, judge, judge_step, element_step}
 
 -- the same names, elsewhere
 abbrev pub elsewhere : Scope → ℕ → Option GoType → Bool → Bool → ℕ → Scope
@@ -37,8 +37,8 @@ module _ (d : ℕ) (o : Option GoType) (b k : Bool) (n : ℕ) where
   W x = (l : ℕ) (s : Scope) → write x l (there s) ≡ write x l s
 
   write-at : (y : TypeLayer W) (l : ℕ) (s : Scope)
-      → write_step (map-TypeExpr TypeExpr Write write (bare_type W y)) l (there s) ≡ write_step
-      (map-TypeExpr TypeExpr Write write (bare_type W y)) l s
+      → write_step (map-TypeExpr TypeExpr WriteType write (bare_type W y)) l (there s) ≡ write_step
+      (map-TypeExpr TypeExpr WriteType write (bare_type W y)) l s
   unfolding meaning
   write-at (TF.Slice x) l s = ap (behind_layer layer.Slice) (x.1 l s)
   write-at (TF.Chan x) l s = ap (behind_layer layer.Chan) (x.1 l s)
@@ -48,8 +48,8 @@ module _ (d : ℕ) (o : Option GoType) (b k : Bool) (n : ℕ) where
 
   write-rolled : (y : TypeLayer W) → W (roll-TypeExpr (bare_type W y))
   unfolding write
-  write-rolled y l s = subst (λ (w : Write). w l (there s) ≡ w l s)
-      (sym (fold-roll-TypeExpr Write write_step (bare_type W y))) (write-at y l s)
+  write-rolled y l s = subst (λ (w : WriteType). w l (there s) ≡ w l s)
+      (sym (fold-roll-TypeExpr WriteType write_step (bare_type W y))) (write-at y l s)
 
   write-same : (x : TypeExpr) → W x
   write-same = every-type W write-rolled

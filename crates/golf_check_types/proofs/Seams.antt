@@ -1,5 +1,5 @@
 -- Which rule is the first that is broken, if one part is checked and then another.
--- For: `Refuses` and `Tells`, specs/Faults.antt
+-- For: `StopsAt` and `AnswersOrFault`, specs/Faults.antt
 -- By: cases of the answer; no induction
 use Rattle.std.proofs.Common.{◌≡◌, ℕ, ◌-◌, List, [], ◌∷◌, ◌++◌, length, sym, ap, subst, ◌∙◌, append_assoc, arith}
 use Rattle.std.proofs.Common.{length-append}
@@ -11,7 +11,7 @@ use Rattle.golf_check_types.specs.declared.operands.Operand.{Operand}
 use Rattle.golf_check_types.specs.declared.facts.Fact.{Fact}
 use Rattle.golf_check_types.specs.declared.facts.Fact.TheVariants as fact
 use Rattle.golf_check_types.specs.Facts.{with_parts, part}
-use Rattle.golf_check_types.specs.Faults.{Fault, IsFirst, Refuses, Tells}
+use Rattle.golf_check_types.specs.Faults.{Fault, IsFirst, StopsAt, AnswersOrFault}
 
 pub none_of_both : (xs ys : List Fault) → xs ≡ [] → ys ≡ [] → xs ++ ys ≡ []
 none_of_both xs ys p q = ap (λ zs. zs ++ ys) p ∙ q
@@ -21,17 +21,17 @@ first_front r l [] ys h = absurd h
 first_front r l (f ∷ fs) ys h = h
 
 -- what refuses the first part refuses both
-pub refuses_front : (e : TypeFault) (xs ys : List Fault) → Refuses e xs → Refuses e (xs ++ ys)
+pub refuses_front : (e : TypeFault) (xs ys : List Fault) → StopsAt e xs → StopsAt e (xs ++ ys)
 refuses_front answers.Memory xs ys h = tt
 refuses_front (answers.At line rule) xs ys h = first_front rule line xs ys h
 
 -- if the first part breaks nothing, what refuses the second refuses both
-pub refuses_behind : (e : TypeFault) (xs ys : List Fault) → xs ≡ [] → Refuses e ys → Refuses e (xs ++ ys)
-refuses_behind e xs ys p h = subst (λ zs. Refuses e (zs ++ ys)) (sym p) h
+pub refuses_behind : (e : TypeFault) (xs ys : List Fault) → xs ≡ [] → StopsAt e ys → StopsAt e (xs ++ ys)
+refuses_behind e xs ys p h = subst (λ zs. StopsAt e (zs ++ ys)) (sym p) h
 
 -- if the first part breaks nothing, the answer of the second tells of both
 pub tells_behind : {A : Type 0} (r : Result A TypeFault) (xs ys : List Fault) (P Q : A → Type 0) → xs ≡ []
-    → ((a : A) → P a → Q a) → Tells r ys P → Tells r (xs ++ ys) Q
+    → ((a : A) → P a → Q a) → AnswersOrFault r ys P → AnswersOrFault r (xs ++ ys) Q
 tells_behind (Ok a) xs ys P Q p f h = (none_of_both xs ys p h.0, f a h.1)
 tells_behind (Err e) xs ys P Q p f h = refuses_behind e xs ys p h
 

@@ -61,7 +61,19 @@ parameters_of built_in.Panic = any_type ∷ []
 parameters_of built_in.SetFinalizer = any_type ∷ any_type ∷ []
 parameters_of built_in.NewCondition = Some (plain base.Mutex) ∷ []
 parameters_of built_in.Add = Some (plain base.Int) ∷ []
-parameters_of _ = []
+parameters_of built_in.Print = []
+parameters_of built_in.Collect = []
+parameters_of built_in.Lock = []
+parameters_of built_in.Unlock = []
+parameters_of built_in.Done = []
+parameters_of built_in.WaitGroup = []
+parameters_of built_in.WriteLock = []
+parameters_of built_in.WriteUnlock = []
+parameters_of built_in.ReadLock = []
+parameters_of built_in.ReadUnlock = []
+parameters_of built_in.WaitCondition = []
+parameters_of built_in.Signal = []
+parameters_of built_in.Broadcast = []
 
 abbrev pub all_first : (Given → Bool) → List Given → Bool
 all_first fits [] = true
@@ -74,7 +86,22 @@ built_in_faults l built_in.Length vs = broken l WRONG_OPERAND (all_first (has_la
 built_in_faults l built_in.Close vs = parameter_faults l (parameters_of built_in.Close) vs
     ++ broken l WRONG_CHANNEL (all_first (has_layer takes) vs)
 built_in_faults l built_in.Print vs = []
-built_in_faults l b vs = parameter_faults l (parameters_of b) vs
+built_in_faults l built_in.Panic vs = parameter_faults l (parameters_of built_in.Panic) vs
+built_in_faults l built_in.Collect vs = parameter_faults l (parameters_of built_in.Collect) vs
+built_in_faults l built_in.SetFinalizer vs = parameter_faults l (parameters_of built_in.SetFinalizer) vs
+built_in_faults l built_in.NewCondition vs = parameter_faults l (parameters_of built_in.NewCondition) vs
+built_in_faults l built_in.Lock vs = parameter_faults l (parameters_of built_in.Lock) vs
+built_in_faults l built_in.Unlock vs = parameter_faults l (parameters_of built_in.Unlock) vs
+built_in_faults l built_in.Add vs = parameter_faults l (parameters_of built_in.Add) vs
+built_in_faults l built_in.Done vs = parameter_faults l (parameters_of built_in.Done) vs
+built_in_faults l built_in.WaitGroup vs = parameter_faults l (parameters_of built_in.WaitGroup) vs
+built_in_faults l built_in.WriteLock vs = parameter_faults l (parameters_of built_in.WriteLock) vs
+built_in_faults l built_in.WriteUnlock vs = parameter_faults l (parameters_of built_in.WriteUnlock) vs
+built_in_faults l built_in.ReadLock vs = parameter_faults l (parameters_of built_in.ReadLock) vs
+built_in_faults l built_in.ReadUnlock vs = parameter_faults l (parameters_of built_in.ReadUnlock) vs
+built_in_faults l built_in.WaitCondition vs = parameter_faults l (parameters_of built_in.WaitCondition) vs
+built_in_faults l built_in.Signal vs = parameter_faults l (parameters_of built_in.Signal) vs
+built_in_faults l built_in.Broadcast vs = parameter_faults l (parameters_of built_in.Broadcast) vs
 
 abbrev pub is_empty : List Judged → Bool
 is_empty [] = true
@@ -127,19 +154,71 @@ finalises f v m = is_struct_pointer v && finalises_by f (type_given v) m
 abbrev pub late_rule : BuiltIn → List Given → Option ℕ
 late_rule built_in.Print vs = rule_unless NOT_PRINTABLE (list_all prints vs)
 late_rule built_in.Panic vs = rule_unless NOT_PRINTABLE (all_first (has_base base.Text) vs)
-late_rule _ vs = None
+late_rule built_in.Length vs = None
+late_rule built_in.Close vs = None
+late_rule built_in.Collect vs = None
+late_rule built_in.SetFinalizer vs = None
+late_rule built_in.NewCondition vs = None
+late_rule built_in.Lock vs = None
+late_rule built_in.Unlock vs = None
+late_rule built_in.Add vs = None
+late_rule built_in.Done vs = None
+late_rule built_in.WaitGroup vs = None
+late_rule built_in.WriteLock vs = None
+late_rule built_in.WriteUnlock vs = None
+late_rule built_in.ReadLock vs = None
+late_rule built_in.ReadUnlock vs = None
+late_rule built_in.WaitCondition vs = None
+late_rule built_in.Signal vs = None
+late_rule built_in.Broadcast vs = None
 
 abbrev pub built_in_result : BuiltIn → Option ℕ → Operand
 built_in_result built_in.Length late = operand.Value (Some (plain base.Int))
 built_in_result built_in.NewCondition late = operand.Value (Some (plain base.Condition))
-built_in_result _ late = operand.Nothing late
+built_in_result built_in.Close late = operand.Nothing late
+built_in_result built_in.Panic late = operand.Nothing late
+built_in_result built_in.Print late = operand.Nothing late
+built_in_result built_in.Collect late = operand.Nothing late
+built_in_result built_in.SetFinalizer late = operand.Nothing late
+built_in_result built_in.Lock late = operand.Nothing late
+built_in_result built_in.Unlock late = operand.Nothing late
+built_in_result built_in.Add late = operand.Nothing late
+built_in_result built_in.Done late = operand.Nothing late
+built_in_result built_in.WaitGroup late = operand.Nothing late
+built_in_result built_in.WriteLock late = operand.Nothing late
+built_in_result built_in.WriteUnlock late = operand.Nothing late
+built_in_result built_in.ReadLock late = operand.Nothing late
+built_in_result built_in.ReadUnlock late = operand.Nothing late
+built_in_result built_in.WaitCondition late = operand.Nothing late
+built_in_result built_in.Signal late = operand.Nothing late
+built_in_result built_in.Broadcast late = operand.Nothing late
 
 -- Any call.
 
 -- Rule 7: the initialiser of a global calls only `len` and `NewCond`.
+abbrev pub is_steady_call : BuiltIn → Bool
+is_steady_call built_in.Length = true
+is_steady_call built_in.Close = false
+is_steady_call built_in.Panic = false
+is_steady_call built_in.Print = false
+is_steady_call built_in.Collect = false
+is_steady_call built_in.SetFinalizer = false
+is_steady_call built_in.NewCondition = true
+is_steady_call built_in.Lock = false
+is_steady_call built_in.Unlock = false
+is_steady_call built_in.Add = false
+is_steady_call built_in.Done = false
+is_steady_call built_in.WaitGroup = false
+is_steady_call built_in.WriteLock = false
+is_steady_call built_in.WriteUnlock = false
+is_steady_call built_in.ReadLock = false
+is_steady_call built_in.ReadUnlock = false
+is_steady_call built_in.WaitCondition = false
+is_steady_call built_in.Signal = false
+is_steady_call built_in.Broadcast = false
+
 abbrev pub is_steady : Operand → Bool
-is_steady (operand.BuiltIn built_in.Length) = true
-is_steady (operand.BuiltIn built_in.NewCondition) = true
+is_steady (operand.BuiltIn b) = is_steady_call b
 is_steady _ = false
 
 abbrev pub steady_faults : ℕ → Option ℕ → Operand → List Fault

@@ -13,7 +13,7 @@ use Rattle.golf_check_types.specs.Types.{type_of}
 abbrev pub with_parts : Operand → List Fact → List Fact
 with_parts m inner = fact.Expression m (length inner) ∷ inner
 
--- the facts of a part that may be passed over or come later, with their number
+-- the facts of a part that may be left out or come later, with their number
 abbrev pub part : List Fact → List Fact
 part inner = fact.Part (length inner) ∷ inner
 

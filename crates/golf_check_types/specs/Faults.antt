@@ -18,11 +18,11 @@ IsFirst rule line [] = ⊥
 IsFirst rule line (f ∷ fs) = record { rule = rule; line = line } ≡ f
 
 -- The reason why a check stops: memory, at any time, or the first broken rule.
-abbrev pub Refuses : TypeFault → List Fault → Type 0
-Refuses answers.Memory faults = Unit {0}
-Refuses (answers.At line rule) faults = IsFirst rule line faults
+abbrev pub StopsAt : TypeFault → List Fault → Type 0
+StopsAt answers.Memory faults = Unit {0}
+StopsAt (answers.At line rule) faults = IsFirst rule line faults
 
 -- An answer comes only if no rule is broken. Without an answer, memory ran out or the first broken rule is reported.
-abbrev pub Tells : {A : Type 0} → Result A TypeFault → List Fault → (A → Type 0) → Type 0
-Tells (Ok a) faults Good = (faults ≡ []) × Good a
-Tells (Err e) faults Good = Refuses e faults
+abbrev pub AnswersOrFault : {A : Type 0} → Result A TypeFault → List Fault → (A → Type 0) → Type 0
+AnswersOrFault (Ok a) faults Good = (faults ≡ []) × Good a
+AnswersOrFault (Err e) faults Good = StopsAt e faults

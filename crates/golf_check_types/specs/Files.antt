@@ -44,7 +44,7 @@ use Rattle.golf_check_types.specs.Names.{number_of, with_name, is_number, is_bla
 use Rattle.golf_check_types.specs.Scopes.{is_reserved, may_be_declared, meaning, meaning_in, kind_in}
 use Rattle.golf_check_types.specs.Written.{write_at, pointer_to}
 use Rattle.golf_check_types.specs.Expressions.{facts_of, used, given_by, value_from, fits_int}
-use Rattle.golf_check_types.specs.Judging.{judge_at}
+use Rattle.golf_check_types.specs.Judgments.{judge_at}
 use Rattle.golf_check_types.specs.Statements.{Walk, Walked, nothing, breaks, judges, told, declares_one, behind}
 use Rattle.golf_check_types.specs.Statements.{in_order, walk}
 use Rattle.golf_check_types.specs.Endings.{of_all, ending}

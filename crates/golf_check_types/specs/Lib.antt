@@ -7,7 +7,7 @@ pub mod Written
 pub mod Facts
 pub mod Expressions
 pub mod Calls
-pub mod Judging
+pub mod Judgments
 pub mod Statements
 pub mod Endings
 pub mod Files

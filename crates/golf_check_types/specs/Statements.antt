@@ -31,6 +31,7 @@ use Rattle.golf_check_types.specs.declared.types.Base.TheVariants as base
 use Rattle.golf_check_types.specs.declared.types.GoType.{GoType}
 use Rattle.golf_check_types.specs.declared.operands.Operand.{Operand}
 use Rattle.golf_check_types.specs.declared.operands.Operand.TheVariants as operand
+use Rattle.golf_check_types.specs.declared.operands.BuiltIn.{BuiltIn}
 use Rattle.golf_check_types.specs.declared.operands.BuiltIn.TheVariants as built_in
 use Rattle.golf_check_types.specs.declared.operands.Given.{Given}
 use Rattle.golf_check_types.specs.declared.operands.Given.TheVariants as given_as
@@ -48,7 +49,7 @@ use Rattle.golf_check_types.specs.Written.{write_at}
 use Rattle.golf_check_types.specs.Expressions.{facts_of, used, named_or_used, given_by, value_faults, late_faults}
 use Rattle.golf_check_types.specs.Expressions.{nothing_faults}
 use Rattle.golf_check_types.specs.Calls.{call_judged}
-use Rattle.golf_check_types.specs.Judging.{judge_at}
+use Rattle.golf_check_types.specs.Judgments.{judge_at}
 
 -- the locals that are declared after a statement, the types of the slots that it hands out, the rules that it breaks,
 -- and the facts of its parts
@@ -115,7 +116,7 @@ in_block w s = closed (w (begun s))
 abbrev pub block : List Walk → Walk
 block body = in_block (in_order body)
 
--- a part that may be passed over or come later: its facts are counted
+-- a part that may be left out or come later: its facts are counted
 abbrev pub counted : Walk → Walk
 counted w s = told (w s) (part (w s).facts)
 
@@ -337,15 +338,31 @@ var_content l n (content.Untyped e) = untyped l n e
 
 -- Go and defer statements.
 
+-- Rule 12 for built-in operations: `close`, and the methods of package sync.
+abbrev pub can_begin : BuiltIn → Bool
+can_begin built_in.Length = false
+can_begin built_in.Close = true
+can_begin built_in.Panic = false
+can_begin built_in.Print = false
+can_begin built_in.Collect = false
+can_begin built_in.SetFinalizer = false
+can_begin built_in.NewCondition = false
+can_begin built_in.Lock = true
+can_begin built_in.Unlock = true
+can_begin built_in.Add = true
+can_begin built_in.Done = true
+can_begin built_in.WaitGroup = true
+can_begin built_in.WriteLock = true
+can_begin built_in.WriteUnlock = true
+can_begin built_in.ReadLock = true
+can_begin built_in.ReadUnlock = true
+can_begin built_in.WaitCondition = true
+can_begin built_in.Signal = true
+can_begin built_in.Broadcast = true
+
 -- Rule 12: a function or method of the file, `close`, or a method of package sync.
 abbrev pub may_be_begun : Operand → Bool
-may_be_begun (operand.BuiltIn built_in.Length) = false
-may_be_begun (operand.BuiltIn built_in.Panic) = false
-may_be_begun (operand.BuiltIn built_in.Print) = false
-may_be_begun (operand.BuiltIn built_in.Collect) = false
-may_be_begun (operand.BuiltIn built_in.SetFinalizer) = false
-may_be_begun (operand.BuiltIn built_in.NewCondition) = false
-may_be_begun (operand.BuiltIn b) = true
+may_be_begun (operand.BuiltIn b) = can_begin b
 may_be_begun (operand.Function k) = true
 may_be_begun (operand.Method k) = true
 may_be_begun operand.Unknown = true

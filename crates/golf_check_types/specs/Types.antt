@@ -86,7 +86,7 @@ abbrev pub is_nil : Given → Bool
 is_nil given_as.Nil = true
 is_nil _ = false
 
--- Tests of values. A value whose type is not known passes each test, so it breaks no rule.
+-- Tests of values. A value whose type is not known satisfies each test, so it breaks no rule.
 
 -- whether the value is of this type without layers
 abbrev pub has_base : Base → Given → Bool
@@ -94,7 +94,7 @@ has_base b (given_as.Typed t) = same_layers t.layers [] && same_base t.base b
 has_base b given_as.Nil = false
 has_base b given_as.Unknown = true
 
--- whether the outermost layer passes the test
+-- whether the outermost layer satisfies the test
 abbrev pub starts_with : (Layer → Bool) → List Layer → Bool
 starts_with fits [] = false
 starts_with fits (x ∷ xs) = fits x

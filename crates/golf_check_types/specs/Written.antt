@@ -61,10 +61,10 @@ of_sync l imported b = record {
 abbrev pub behind_layer : Layer → Written → Written
 behind_layer x t = record { type = with_layer x t.type; faults = t.faults }
 
-abbrev pub Write : Type 0
-Write = ℕ → Scope → Written
+abbrev pub WriteType : Type 0
+WriteType = ℕ → Scope → Written
 
-abbrev pub write_step : TypeExpr-F Write → Write
+abbrev pub write_step : TypeExpr-F WriteType → WriteType
 write_step (Named n) l s = of_base l (named_base n)
 write_step (Pointer n) l s = of_base l (pointer_to (meaning s n))
 write_step (SyncPointer n) l s = of_sync l s.file.imports.sync (sync_base n)
@@ -74,8 +74,8 @@ write_step (SendChan t) l s = behind_layer layer.SendChan (t l s)
 write_step (ReceiveChan t) l s = behind_layer layer.ReceiveChan (t l s)
 write_step EmptyStruct l s = of_base l (Some base.Unit)
 
-unfoldable pub write : TypeExpr → Write
-write = fold-TypeExpr Write write_step
+unfoldable pub write : TypeExpr → WriteType
+write = fold-TypeExpr WriteType write_step
 
 abbrev pub write_at : ℕ → Scope → TypeExpr → Written
 write_at l s t = write t l s

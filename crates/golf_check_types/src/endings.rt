@@ -1,6 +1,6 @@
 //! The results of the analysis of terminating statements.
 //!
-//! `golf_check_bodies/src/endings.rt` computes them for a tree, as `specs/Endings.antt` defines them.
+//! `golf_check_bodies/src/statements/endings.rt` computes them for a tree, as `specs/Endings.antt` defines them.
 
 /// Whether an expression is the name `panic`, and whether it is a call of that name.
 #[derive(Clone, Copy, Debug, PartialEq, Eq)]

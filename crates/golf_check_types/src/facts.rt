@@ -1,7 +1,7 @@
 //! The facts that the checker records of a file.
 //!
 //! The generator reads facts and has no scope, so facts say what code needs: what an expression is, which slot a
-//! variable has, and how many facts belong to a part that is passed over.
+//! variable has, and how many facts belong to a part that is skipped.
 
 use crate::operands::Operand;
 

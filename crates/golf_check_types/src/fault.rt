@@ -5,7 +5,7 @@
 
 ghost use Rattle.std.specs.Prelude.{◌≡◌};
 ghost use Rattle.golf_check_types.specs.declared.fault.TypeFault.TheVariants as faults;
-ghost use Rattle.golf_check_types.specs.Faults.{Tells, broken as broken_of};
+ghost use Rattle.golf_check_types.specs.Faults.{AnswersOrFault, broken as broken_of};
 
 use golf_base::Memory;
 
@@ -28,7 +28,7 @@ impl From<Memory> for TypeFault {
 
 /// Returns `Ok` if the test holds, and otherwise the fault of this rule on this line.
 pub fn require(line: u32, rule: u32, holds: bool) -> Result<(), TypeFault>
-    ensures { Tells result (broken_of line rule holds) (λ _. Unit {0}) }
+    ensures { AnswersOrFault result (broken_of line rule holds) (λ _. Unit {0}) }
 {
     if holds {
         Ok(())

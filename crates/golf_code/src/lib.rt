@@ -4,6 +4,16 @@
 //! made from the facts is that code.
 #![tactic(auto)]
 
+mod comparison;
+mod constants;
+mod file_code;
 mod files;
+mod functions;
+mod initials;
+mod made;
+mod numbers;
+mod values;
+mod walk;
 
+pub use comparison::{begin_with_code, has_same_body};
 pub use files::generate;

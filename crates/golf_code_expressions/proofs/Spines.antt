@@ -31,7 +31,7 @@ use Rattle.golf_code_expressions.specs.declared.writer.Draft.{Draft}
 use Rattle.golf_code_expressions.specs.declared.writer.Writer.{Writer}
 use Rattle.golf_code_expressions.specs.Spines.{has_left, written, written_step, begun, begun_binary, begun_step, ended}
 use Rattle.golf_code_expressions.specs.Spines.{ended_step, after_selector, after_call, after_binary, grown}
-use Rattle.golf_code_expressions.specs.Spines.{with_emitted, Descended, Rising}
+use Rattle.golf_code_expressions.specs.Spines.{with_emitted, Descended, RisingCode}
 use Rattle.golf_code_expressions.proofs.Wholes.{as_many}
 
 -- Parts, and then a construct, whose left operand has this code.
@@ -208,7 +208,7 @@ module _ (e : Expr) (old : Writer) where
       }
 
   module _ (l : ℕ) where
-    module _ (ws vs : List (Bor Expr)) (b : Bor Expr) (d : Draft) (r : Rising l e old ws d)
+    module _ (ws vs : List (Bor Expr)) (b : Bor Expr) (d : Draft) (r : RisingCode l e old ws d)
         (last : ws ≡ vs ++ b ∷ []) where
       seen : shown ws ≡ shown vs ++ b.now ∷ []
       seen = shorter ws vs b last
@@ -222,7 +222,7 @@ module _ (e : Expr) (old : Writer) where
       -- what stands after the left operand of the next one outwards is written
       pub rises : (at : List Fact) (more : Draft) → at ≡ drop (length vs) old.facts
           → ((f : Fact) (fs : List Fact) → at ≡ f ∷ fs
-          → more ≡ with_emitted d (ended d.tables.now l b.now (operand_in f) fs d.emitted)) → Rising l e old vs more
+          → more ≡ with_emitted d (ended d.tables.now l b.now (operand_in f) fs d.emitted)) → RisingCode l e old vs more
       rises at more there next =
           let t = old.draft.tables.now in
           let found = left-some (length vs) old.facts (omega (arith, long, r.enough)) in

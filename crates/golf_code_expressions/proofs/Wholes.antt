@@ -25,8 +25,8 @@ use Rattle.golf_code_facts.specs.Expressions.{Take, taking, taking_step, element
 use Rattle.golf_code_expressions.specs.declared.places.LeftSide.TheVariants as place
 use Rattle.golf_code_expressions.specs.declared.writer.Draft.{Draft}
 use Rattle.golf_code_expressions.specs.declared.writer.Writer.{Writer}
-use Rattle.golf_code_expressions.specs.Writing.{with_piece, Extends}
-use Rattle.golf_code_expressions.specs.Places.{IsPlace}
+use Rattle.golf_code_expressions.specs.WriterClauses.{with_piece, Extends}
+use Rattle.golf_code_expressions.specs.Places.{HasLeftSide}
 
 module _ (t : Tables) (l : ℕ) where
   abbrev P : Expr → Type 0
@@ -91,10 +91,10 @@ module _ (t : Tables) (l : ℕ) where
         ∙ sym (ap (λ z. (taking t z l (m ∷ fs)).piece) is ∙ ap (λ (x : Made). x.piece) (taking-Slice w xs))
 
 -- a piece is added whatever facts come next
-pub passed_over : {A : Type 0} (r : Result A Memory) (p : Piece) (old new : Writer) (fs : List Fact)
+pub skipped_over : {A : Type 0} (r : Result A Memory) (p : Piece) (old new : Writer) (fs : List Fact)
     → Extends r p (record { facts = fs; draft = old.draft }) new → Extends r p old new
-passed_over (Ok a) p old new fs h = h
-passed_over (Err e) p old new fs h = tt
+skipped_over (Ok a) p old new fs h = h
+skipped_over (Err e) p old new fs h = tt
 
 -- Where facts are missing nothing is written.
 
@@ -109,13 +109,14 @@ none_written l e w none =
     ∙ ap (λ fs. with_piece w.draft (taking t e l fs).piece) (sym none)
 
 pub no_place : (l : ℕ) (e : Expr) (w : Writer) (left : List Fact) → w.facts ≡ [] → left ≡ []
-    → IsPlace l place.Nothing (taking w.draft.tables.now e l w.facts)
+    → HasLeftSide l place.Nothing (taking w.draft.tables.now e l w.facts)
     × (written left w.draft ≡ written (skip w.facts)
     (with_piece w.draft (taking w.draft.tables.now e l w.facts).parts))
 no_place l e w left none h =
     let t = w.draft.tables.now in
     let same : taking t e l w.facts ≡ only Piece.Empty = ap (taking t e l) none ∙ no_facts t l e in (
-      subst (λ (x : Made). IsPlace l place.Nothing x) (sym same) (record { twice = refl; read = refl; store = refl }),
+      subst (λ (x : Made). HasLeftSide l place.Nothing x) (sym same)
+          (record { twice = refl; read = refl; store = refl }),
       ap (λ fs. written fs w.draft) h
           ∙ ap (λ fs. written (skip fs) w.draft) (sym none)
           ∙ ap (λ (x : Made). written (skip w.facts) (with_piece w.draft x.parts)) (sym same),

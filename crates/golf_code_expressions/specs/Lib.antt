@@ -1,3 +1,3 @@
-pub mod Writing
+pub mod WriterClauses
 pub mod Places
 pub mod Spines

@@ -11,7 +11,7 @@ use Rattle.golf_code_of.specs.Expressions.{Made, name}
 use Rattle.golf_code_expressions.specs.declared.places.LeftSide.{LeftSide}
 use Rattle.golf_code_expressions.specs.declared.places.LeftSide.TheVariants as place
 use Rattle.golf_code_expressions.specs.declared.writer.Writer.{Writer}
-use Rattle.golf_code_expressions.specs.Writing.{with_piece}
+use Rattle.golf_code_expressions.specs.WriterClauses.{with_piece}
 
 -- the pieces that double the operands that name the place, turn them into the value, and take them with a new value on
 -- top
@@ -37,21 +37,22 @@ store_of l place.Element = op l Instr.SetIndex
 store_of l place.Nothing = Piece.Empty
 
 -- a left side with such code has this kind of place
-pub record IsPlace (l : ℕ) (p : LeftSide) (x : Made) : Type 0 where
+pub record HasLeftSide (l : ℕ) (p : LeftSide) (x : Made) : Type 0 where
   pub twice : x.twice ≡ twice_of l p
   pub read : x.read ≡ read_of l p
   pub store : x.store ≡ store_of l p
 
 -- the operands that name the place were added, and the answer is its kind
-abbrev pub Tells : ℕ → Result LeftSide Memory → Made → Writer → Writer → Type 0
-Tells l (Ok p) x old new = IsPlace l p x × (new.draft ≡ with_piece old.draft x.parts)
-Tells l (Err e) x old new = Unit {0}
+abbrev pub TellsLeftSide : ℕ → Result LeftSide Memory → Made → Writer → Writer → Type 0
+TellsLeftSide l (Ok p) x old new = HasLeftSide l p x × (new.draft ≡ with_piece old.draft x.parts)
+TellsLeftSide l (Err e) x old new = Unit {0}
 
 -- the same, and these facts are left
 abbrev pub TellsAll : ℕ → Result LeftSide Memory → Made → List Fact → Writer → Writer → Type 0
-TellsAll l (Ok p) x left old new = IsPlace l p x × (new ≡ record { facts = left; draft = with_piece old.draft x.parts })
+TellsAll l (Ok p) x left old new = HasLeftSide l p x
+    × (new ≡ record { facts = left; draft = with_piece old.draft x.parts })
 TellsAll l (Err e) x left old new = Unit {0}
 
 -- a name with this meaning has this kind of place, and no operand names it
 abbrev pub IsVariable : Operand → LeftSide → Type 0
-IsVariable m p = (l : ℕ) (t : Tables) → IsPlace l p (name l t m) × ((name l t m).parts ≡ Piece.Empty)
+IsVariable m p = (l : ℕ) (t : Tables) → HasLeftSide l p (name l t m) × ((name l t m).parts ≡ Piece.Empty)

@@ -8,7 +8,7 @@ use Rattle.golf_syntax_trees.specs.declared.expressions.BinaryOperator.TheVarian
 use Rattle.golf_syntax_trees.specs.declared.expressions.Expr.{Expr, out-Expr, size-Expr}
 use Rattle.golf_syntax_trees.specs.declared.expressions.Element.{Element}
 use Rattle.golf_syntax_trees.specs.declared.expressions.Expr.TheOpen.{Expr-F, Selector, Index, Call, Binary}
-use Rattle.golf_syntax_trees.specs.Spines.{shown, Within}
+use Rattle.golf_syntax_trees.specs.Spines.{shown, AreNoLarger}
 use Rattle.golf_data.specs.declared.code.Instr.{Instr}
 use Rattle.golf_check_types.specs.declared.facts.Fact.{Fact}
 use Rattle.golf_check_types.specs.declared.operands.Operand.{Operand}
@@ -20,7 +20,7 @@ use Rattle.golf_code_layout.specs.declared.emitted.Emitted.{Emitted}
 use Rattle.golf_code_layout.specs.declared.emitted.Emitted.TheVariants as emit
 use Rattle.golf_code_of.specs.declared.tables.Tables.{Tables}
 use Rattle.golf_code_of.specs.Expressions.{combining}
-use Rattle.golf_code_of.specs.Calls.{Argument, pushes, calling}
+use Rattle.golf_code_of.specs.Calls.{ArgumentCode, pushes, calling}
 use Rattle.golf_code_facts.specs.Facts.{operand_in, next_is, skip}
 use Rattle.golf_code_facts.specs.Expressions.{taking, arguments}
 use Rattle.golf_code_expressions.specs.declared.writer.Draft.{Draft}
@@ -68,7 +68,7 @@ after_selector l _ ms = ms
 abbrev pub after_index : ℕ → Piece → List Emitted → List Emitted
 after_index l i ms = onto ms i ++ emit.Op Instr.Index l ∷ []
 
-abbrev pub after_call : ℕ → Operand → ℕ → List Argument → List Emitted → List Emitted
+abbrev pub after_call : ℕ → Operand → ℕ → List ArgumentCode → List Emitted → List Emitted
 after_call l callee n xs ms = onto (onto ms (pushes xs)) (calling l callee n)
 
 abbrev pub after_either : ℕ → Bool → Piece → List Emitted → List Emitted
@@ -106,9 +106,9 @@ grown t l (e ∷ es) (f ∷ fs) ms = ended t l e (operand_in f) fs (grown t l es
 abbrev pub with_emitted : Draft → List Emitted → Draft
 with_emitted d ms = record d { emitted = ms }
 
-abbrev pub Follows : {A : Type 0} → Result A Memory → List Emitted → Writer → Writer → Type 0
-Follows (Ok a) ms old new = new.draft ≡ with_emitted old.draft ms
-Follows (Err e) ms old new = Unit {0}
+abbrev pub WritesAfter : {A : Type 0} → Result A Memory → List Emitted → Writer → Writer → Type 0
+WritesAfter (Ok a) ms old new = new.draft ≡ with_emitted old.draft ms
+WritesAfter (Err e) ms old new = Unit {0}
 
 -- The loop followed the left operands from the expression to an inner one, and these expressions wait for it.
 abbrev pub Descended : Expr → Writer → List (Bor Expr) → Expr → Writer → Type 0
@@ -119,7 +119,7 @@ Descended e old ws inner new = record {
   draft : new.draft ≡ with_emitted old.draft new.draft.emitted;
   facts : new.facts ≡ drop (length ws) old.facts;
   enough : length ws ≤ length old.facts;
-  within : Within size-Expr (size-Expr e) (shown ws);
+  within : AreNoLarger size-Expr (size-Expr e) (shown ws);
   inner : size-Expr inner ≤ size-Expr e;
 }
 
@@ -128,11 +128,11 @@ abbrev pub Stops : Expr → List Fact → Type 0
 Stops e fs = (f : Fact) (gs : List Fact) → fs ≡ f ∷ gs → written e (operand_in f) (next_is gs) ≡ None
 
 -- these expressions wait for the code that was written
-abbrev pub Rising : ℕ → Expr → Writer → List (Bor Expr) → Draft → Type 0
-Rising l e old ws d = record {
+abbrev pub RisingCode : ℕ → Expr → Writer → List (Bor Expr) → Draft → Type 0
+RisingCode l e old ws d = record {
   whole : grown old.draft.tables.now l (shown ws) old.facts d.emitted ≡ onto old.draft.emitted
       (taking old.draft.tables.now e l old.facts).piece;
   draft : d ≡ with_emitted old.draft d.emitted;
   enough : length ws ≤ length old.facts;
-  within : Within size-Expr (size-Expr e) (shown ws);
+  within : AreNoLarger size-Expr (size-Expr e) (shown ws);
 }

@@ -16,10 +16,10 @@ ghost use Rattle.golf_code_layout.specs.Emission.{Adds};
 ghost use Rattle.golf_code_facts.specs.Facts.{operand_in, next_is, past_one, skip, type_of_value};
 ghost use Rattle.golf_code_facts.specs.Facts.{base_of as base_of_of};
 ghost use Rattle.golf_code_facts.specs.Expressions.{taking, arguments as arguments_of, pieces, puts};
-ghost use Rattle.golf_code_expressions.specs.Writing.{Extends, Writes};
+ghost use Rattle.golf_code_expressions.specs.WriterClauses.{Extends, Writes};
 ghost use Rattle.golf_code_expressions.specs.Spines.{has_left as has_left_of, written, begun, ended, after_selector};
 ghost use Rattle.golf_code_expressions.specs.Spines.{after_index, after_call, after_either, after_both, after_binary};
-ghost use Rattle.golf_code_expressions.specs.Spines.{Descended, Stops, Follows};
+ghost use Rattle.golf_code_expressions.specs.Spines.{Descended, Stops, WritesAfter};
 
 use crate::calls::{calling, finaliser, sets_finaliser};
 use crate::names::{base_of, makes_of_value, name, new_struct, new_sync};
@@ -159,7 +159,7 @@ fn descend<'e>(writer: &mut Writer, e: &'e Expr) -> Result<(List<&'e Expr>, &'e 
     Ok((waiting, inner))
 }
 
-/// Adds the code that pushes the value of an expression whose facts come next, and passes over these facts.
+/// Adds the code that pushes the value of an expression whose facts come next, and skips these facts.
 ///
 /// A loop follows the left operands, since nothing bounds how many there are in one another.
 #[cycle(writing)]
@@ -193,7 +193,7 @@ fn innermost_at(writer: &mut Writer, line: u32, e: &Expr) -> Result<(), Memory>
 // Adds the code after that of the left operand, for an expression whose facts come next.
 #[cycle(writing)]
 fn follow(writer: &mut Writer, line: u32, e: &Expr) -> Result<(), Memory>
-    ensures { (f : Fact) (fs : List Fact) → writer.old.facts ≡ f ∷ fs → Follows result (ended writer.old.draft.tables.now line e.now (operand_in f) fs writer.old.draft.emitted) writer.old writer.new }
+    ensures { (f : Fact) (fs : List Fact) → writer.old.facts ≡ f ∷ fs → WritesAfter result (ended writer.old.draft.tables.now line e.now (operand_in f) fs writer.old.draft.emitted) writer.old writer.new }
 {
     let Some(fact) = writer.facts.take() else {
         return Ok(());
@@ -206,7 +206,7 @@ fn follow(writer: &mut Writer, line: u32, e: &Expr) -> Result<(), Memory>
 #[cycle(writing)]
 #[tactic(auto, unfolding(crate::specs::Spines::ended))]
 fn rest(writer: &mut Writer, line: u32, e: &Expr, operand: &Operand) -> Result<(), Memory>
-    ensures { Follows result (ended writer.old.draft.tables.now line e.now operand.now writer.old.facts writer.old.draft.emitted) writer.old writer.new }
+    ensures { WritesAfter result (ended writer.old.draft.tables.now line e.now operand.now writer.old.facts writer.old.draft.emitted) writer.old writer.new }
 {
     match e {
         Expr::Selector(_, _) => selected(&mut writer.draft.emitted, line, operand),
@@ -269,7 +269,7 @@ fn unary_at(writer: &mut Writer, line: u32, operator: UnaryOperator, e: &Expr) -
 // Adds the code of the index, after that of the slice.
 #[cycle(writing)]
 fn index_at(writer: &mut Writer, line: u32, i: &Expr) -> Result<(), Memory>
-    ensures { Follows result (after_index line (taking writer.old.draft.tables.now i.now line (skip writer.old.facts)).piece writer.old.draft.emitted) writer.old writer.new }
+    ensures { WritesAfter result (after_index line (taking writer.old.draft.tables.now i.now line (skip writer.old.facts)).piece writer.old.draft.emitted) writer.old writer.new }
 {
     writer.facts.skip();
     expression(writer, line, i)?;
@@ -279,7 +279,7 @@ fn index_at(writer: &mut Writer, line: u32, i: &Expr) -> Result<(), Memory>
 // Adds the code of the second operand, and the code that gives `value` if the first one decides.
 #[cycle(writing)]
 fn decided_at(writer: &mut Writer, line: u32, b: &Expr, value: bool) -> Result<(), Memory>
-    ensures { Follows result (after_either line value (taking writer.old.draft.tables.now b.now line (skip writer.old.facts)).piece writer.old.draft.emitted) writer.old writer.new }
+    ensures { WritesAfter result (after_either line value (taking writer.old.draft.tables.now b.now line (skip writer.old.facts)).piece writer.old.draft.emitted) writer.old writer.new }
 {
     unless(&mut writer.draft.emitted, line, 0)?;
     writer.facts.skip();
@@ -292,7 +292,7 @@ fn decided_at(writer: &mut Writer, line: u32, b: &Expr, value: bool) -> Result<(
 
 #[cycle(writing)]
 fn or_at(writer: &mut Writer, line: u32, b: &Expr) -> Result<(), Memory>
-    ensures { Follows result (after_binary line BinaryOperator.Or (taking writer.old.draft.tables.now b.now line (skip writer.old.facts)).piece writer.old.draft.emitted) writer.old writer.new }
+    ensures { WritesAfter result (after_binary line BinaryOperator.Or (taking writer.old.draft.tables.now b.now line (skip writer.old.facts)).piece writer.old.draft.emitted) writer.old writer.new }
 {
     op(&mut writer.draft.emitted, line, Instr::Not)?;
     decided_at(writer, line, b, true)
@@ -300,7 +300,7 @@ fn or_at(writer: &mut Writer, line: u32, b: &Expr) -> Result<(), Memory>
 
 #[cycle(writing)]
 fn both_at(writer: &mut Writer, line: u32, operator: BinaryOperator, b: &Expr) -> Result<(), Memory>
-    ensures { Follows result (after_both line operator (taking writer.old.draft.tables.now b.now line (skip writer.old.facts)).piece writer.old.draft.emitted) writer.old writer.new }
+    ensures { WritesAfter result (after_both line operator (taking writer.old.draft.tables.now b.now line (skip writer.old.facts)).piece writer.old.draft.emitted) writer.old writer.new }
 {
     writer.facts.skip();
     expression(writer, line, b)?;
@@ -315,7 +315,7 @@ fn binary_at(
     operator: BinaryOperator,
     b: &Expr,
 ) -> Result<(), Memory>
-    ensures { Follows result (after_binary line operator (taking writer.old.draft.tables.now b.now line (skip writer.old.facts)).piece writer.old.draft.emitted) writer.old writer.new }
+    ensures { WritesAfter result (after_binary line operator (taking writer.old.draft.tables.now b.now line (skip writer.old.facts)).piece writer.old.draft.emitted) writer.old writer.new }
 {
     match operator {
         BinaryOperator::Or => or_at(writer, line, b),
@@ -339,7 +339,7 @@ fn put_at(writer: &mut Writer, line: u32, e: &Expr) -> Result<(), Memory>
     ensures { Writes result (puts line (taking writer.old.draft.tables.now e.now ∷ []) writer.old.facts) (skip (past_one writer.old.facts)) writer.old writer.new }
 {
     let place = writer.facts.field();
-    writer.facts.pass();
+    writer.facts.skip_one();
     op(&mut writer.draft.emitted, line, Instr::Dup)?;
     expression(writer, line, e)?;
     op(&mut writer.draft.emitted, line, Instr::SetField(place))
@@ -430,7 +430,7 @@ fn arguments(writer: &mut Writer, line: u32, xs: &[Expr]) -> Result<(), Memory>
 // Adds the code of the arguments and the call, after that of the receiver.
 #[cycle(writing)]
 fn call_at(writer: &mut Writer, line: u32, xs: &[Expr]) -> Result<(), Memory>
-    ensures { Follows result (after_call line (next_is writer.old.facts) (length xs.now) (arguments_of line (map (taking writer.old.draft.tables.now) xs.now) (skip writer.old.facts)) writer.old.draft.emitted) writer.old writer.new }
+    ensures { WritesAfter result (after_call line (next_is writer.old.facts) (length xs.now) (arguments_of line (map (taking writer.old.draft.tables.now) xs.now) (skip writer.old.facts)) writer.old.draft.emitted) writer.old writer.new }
 {
     let callee = writer.facts.operand();
     writer.facts.skip();

@@ -1,6 +1,6 @@
 //! The facts of the part of a file that is still to be written.
 //!
-//! The writer takes them in the order in which the checker recorded them. `skip` passes over the
+//! The writer takes them in the order in which the checker recorded them. `skip` skips the
 //! facts of a whole part.
 
 ghost use Rattle.std.specs.Prelude.{◌≡◌, ◌∷◌, [], drop, IfSome, IfNone};
@@ -162,8 +162,8 @@ impl<'a> Facts<'a> {
         }
     }
 
-    /// Passes over the next fact.
-    pub fn pass(&mut self)
+    /// Skips the next fact.
+    pub fn skip_one(&mut self)
         ensures { self.new ≡ past_one self.old }
     {
         match self.left {
@@ -172,7 +172,7 @@ impl<'a> Facts<'a> {
         }
     }
 
-    /// Passes over the next fact and all facts that belong to it.
+    /// Skips the next fact and all facts that belong to it.
     pub fn skip(&mut self)
         ensures { self.new ≡ skip_of self.old }
     {

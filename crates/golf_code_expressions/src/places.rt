@@ -7,7 +7,7 @@ ghost use Rattle.golf_code_layout.specs.Emission.{Adds};
 ghost use Rattle.golf_code_of.specs.Expressions.{selector, index};
 ghost use Rattle.golf_code_facts.specs.Facts.{skip};
 ghost use Rattle.golf_code_facts.specs.Expressions.{taking};
-ghost use Rattle.golf_code_expressions.specs.Places.{twice_of, read_of, store_of, IsVariable, Tells, TellsAll};
+ghost use Rattle.golf_code_expressions.specs.Places.{twice_of, read_of, store_of, IsVariable, TellsLeftSide, TellsAll};
 
 use crate::expressions::expression;
 use crate::writer::Writer;
@@ -90,7 +90,7 @@ fn named(operand: &Operand) -> LeftSide
 
 // Adds the code of the struct, and returns the place of a selector with this meaning.
 fn selected(writer: &mut Writer, line: u32, operand: &Operand, e: &Expr) -> Result<LeftSide, Memory>
-    ensures { Tells line result (selector line operand.now (taking writer.old.draft.tables.now e.now line writer.old.facts).piece) writer.old writer.new }
+    ensures { TellsLeftSide line result (selector line operand.now (taking writer.old.draft.tables.now e.now line writer.old.facts).piece) writer.old writer.new }
 {
     match operand {
         Operand::Field(field, _) => {
@@ -118,7 +118,7 @@ fn selected(writer: &mut Writer, line: u32, operand: &Operand, e: &Expr) -> Resu
 
 // Adds the code of the slice and the index, and returns the place of an element.
 fn element(writer: &mut Writer, line: u32, a: &Expr, i: &Expr) -> Result<LeftSide, Memory>
-    ensures { Tells line result (index line (taking writer.old.draft.tables.now a.now line writer.old.facts).piece (taking writer.old.draft.tables.now i.now line (skip writer.old.facts)).piece) writer.old writer.new }
+    ensures { TellsLeftSide line result (index line (taking writer.old.draft.tables.now a.now line writer.old.facts).piece (taking writer.old.draft.tables.now i.now line (skip writer.old.facts)).piece) writer.old writer.new }
 {
     expression(writer, line, a)?;
     expression(writer, line, i)?;
@@ -134,7 +134,7 @@ fn whole<'a>(
     e: &Expr,
     fact: &'a Fact,
 ) -> Result<LeftSide, Memory>
-    ensures { Tells line result (taking writer.old.draft.tables.now e.now line (fact.now ∷ writer.old.facts)) writer.old writer.new }
+    ensures { TellsLeftSide line result (taking writer.old.draft.tables.now e.now line (fact.now ∷ writer.old.facts)) writer.old writer.new }
 {
     let operand = writer.facts.operand_of(fact);
     match e {
@@ -158,7 +158,7 @@ fn whole<'a>(
     }
 }
 
-/// Adds the operands that name the place of a left side whose facts come next, and passes over these facts. Returns the
+/// Adds the operands that name the place of a left side whose facts come next, and skips these facts. Returns the
 /// kind of place.
 #[cycle(placing)]
 pub fn left_side(writer: &mut Writer, line: u32, e: &Expr) -> Result<LeftSide, Memory>

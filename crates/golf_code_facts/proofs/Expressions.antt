@@ -21,13 +21,13 @@ use Rattle.golf_check_types.specs.Scopes.{meaning}
 use Rattle.golf_check_types.specs.Types.{plain, with_layer}
 use Rattle.golf_check_types.specs.Written.{pointer_to, made_base, write_at}
 use Rattle.golf_check_types.specs.Expressions.{facts_of, field_place, put_facts, selected_from}
-use Rattle.golf_check_types.specs.Judging.{Judge, Put, judge, judge_at}
+use Rattle.golf_check_types.specs.Judgments.{Judge, Put, judge, judge_at}
 use Rattle.golf_code_layout.specs.Piece.{Piece, all}
 use Rattle.golf_code_of.specs.declared.tables.Tables.{Tables}
 use Rattle.golf_code_of.specs.Expressions.{Made, only, index, unary_operator, binary_operator, made_sized}
 use Rattle.golf_code_of.specs.Expressions.{slice_literal, puts as puts_of, new_struct, new_sync, selector}
-use Rattle.golf_code_of.specs.Coding.{Coded, CodedPut, coded, code_at, argument}
-use Rattle.golf_code_of.specs.Calls.{Argument, call}
+use Rattle.golf_code_of.specs.ExpressionCode.{Coded, CodedPut, coded, code_at, argument}
+use Rattle.golf_code_of.specs.Calls.{ArgumentCode, call}
 use Rattle.golf_code_of.proofs.Judgments.{judgments-agree}
 use Rattle.golf_code_of.proofs.JudgeEquations.{element_judge, element-judge-is, judge_layer, judge-rolls}
 use Rattle.golf_code_of.proofs.ExprCodes.{element_coded, element-coded-is, coded_layer, coded-rolls}
@@ -75,7 +75,7 @@ module _ (t : Tables) where
     args-are (x ∷ xs) = ap (λ (j : Judge). argument_of (j l s).meaning ∷ args l (map one xs))
         (sym (judgments-agree t x.0)) ∙ ap (λ z. argument l s (coded t x.0) ∷ z) (args-are xs)
       where
-        argument_of : Operand → Argument
+        argument_of : Operand → ArgumentCode
         argument_of m = record { meaning = m; piece = ((coded t x.0).code l s).piece }
 
     abbrev named_one : KnownElement P → List ℕ × One l

@@ -25,7 +25,7 @@ use Rattle.golf_check_types.specs.declared.scopes.Imports.{Imports}
 use Rattle.golf_check_types.specs.declared.scopes.FileScope.{FileScope}
 use Rattle.golf_check_types.specs.declared.scopes.Scope.{Scope}
 use Rattle.golf_check_types.specs.Expressions.{facts_of}
-use Rattle.golf_check_types.specs.Judging.{judge_at}
+use Rattle.golf_check_types.specs.Judgments.{judge_at}
 use Rattle.golf_check_types.specs.Statements as W
 use Rattle.golf_check_types.specs.Statements.{Walk, walk, behind}
 use Rattle.golf_check_types.specs.Files.{outside, result_type, receiver_walk, parameter_walk, all_typed_names}
@@ -35,15 +35,15 @@ use Rattle.golf_check_types.specs.Files.{with_imports, no_imports, facts_in, ini
 use Rattle.golf_check_types.proofs.Alike.{result-alike, pointers-alike}
 use Rattle.golf_check_types.proofs.WalkLaws.{behind-both, stays}
 use Rattle.golf_code_layout.specs.Piece.{Piece, all, op}
-use Rattle.golf_code_of.specs.declared.making.Around.{Around}
+use Rattle.golf_code_of.specs.declared.surroundings.Around.{Around}
 use Rattle.golf_code_of.specs.declared.tables.Tables.{Tables}
 use Rattle.golf_code_of.specs.Table.{Texts}
 use Rattle.golf_code_of.specs.Texts.{texts_of}
 use Rattle.golf_code_of.specs.Values.{const_value}
 use Rattle.golf_code_of.specs.Expressions.{Made}
-use Rattle.golf_code_of.specs.Coding.{piece_at}
-use Rattle.golf_code_of.specs.Statements.{Laid, Part}
-use Rattle.golf_code_of.specs.Laying.{stmt_part}
+use Rattle.golf_code_of.specs.ExpressionCode.{piece_at}
+use Rattle.golf_code_of.specs.Statements.{Laid, StatementPart}
+use Rattle.golf_code_of.specs.StatementCode.{stmt_part}
 use Rattle.golf_code_of.specs.Files.{function, function_of, body_part, body_laid, slots_of, last_return, functions_from}
 use Rattle.golf_code_of.specs.Files.{initial, initials, constants_in, tables_of, code_in, CodeOf, giving, main_line}
 use Rattle.golf_code_of.proofs.Walks.{walks-agree}
@@ -57,7 +57,7 @@ use Rattle.golf_code_facts.specs.Laws.{FilesFollow}
 use Rattle.golf_code_facts.proofs.Steps.{skipped}
 use Rattle.golf_code_facts.proofs.Expressions.{made-alone, past-alone}
 use Rattle.golf_code_facts.proofs.Statements.{body}
-use Rattle.golf_code_facts.specs.Laying.{stmt_by}
+use Rattle.golf_code_facts.specs.StatementCode.{stmt_by}
 
 -- Declarations that are passed over.
 
@@ -146,9 +146,10 @@ module _ (t : Tables) (file : Scope) (x : Func) where
   abbrev start : Scope
   start = body_scope file x
 
-  walks-are : (xs : List Stmt) → map (λ (p : Part). p.walk) (map (stmt_part t) xs) ≡ map walk xs
+  walks-are : (xs : List Stmt) → map (λ (p : StatementPart). p.walk) (map (stmt_part t) xs) ≡ map walk xs
   walks-are [] = refl
-  walks-are (y ∷ ys) = ap (λ w. w ∷ map (λ (p : Part). p.walk) (map (stmt_part t) ys)) (walks-agree.statements t y)
+  walks-are (y ∷ ys) = ap (λ w. w ∷ map (λ (p : StatementPart). p.walk) (map (stmt_part t) ys))
+      (walks-agree.statements t y)
       ∙ ap (λ ws. walk y ∷ ws) (walks-are ys)
 
   same-walk : (body_part t x).walk ≡ body_walk

@@ -22,15 +22,15 @@ use Rattle.golf_check_types.specs.Facts.{part, target}
 use Rattle.golf_check_types.specs.Types.{is_slice, element}
 use Rattle.golf_check_types.specs.Names.{is_blank}
 use Rattle.golf_check_types.specs.Expressions.{facts_of, given_by}
-use Rattle.golf_check_types.specs.Judging.{judge_at}
+use Rattle.golf_check_types.specs.Judgments.{judge_at}
 use Rattle.golf_check_types.specs.Statements as W
 use Rattle.golf_check_types.specs.Statements.{behind, is_outer}
 use Rattle.golf_code_layout.specs.Piece.{Piece, all, op}
-use Rattle.golf_code_of.specs.declared.making.Around.{Around}
+use Rattle.golf_code_of.specs.declared.surroundings.Around.{Around}
 use Rattle.golf_code_of.specs.declared.tables.Tables.{Tables}
 use Rattle.golf_code_of.specs.Expressions.{Made}
-use Rattle.golf_code_of.specs.Coding.{piece_at}
-use Rattle.golf_code_of.specs.Statements.{Laid, Part, past, wrapped, in_order, block, optional}
+use Rattle.golf_code_of.specs.ExpressionCode.{piece_at}
+use Rattle.golf_code_of.specs.Statements.{Laid, StatementPart, past, wrapped, in_order, block, optional}
 use Rattle.golf_code_of.specs.Loops as C
 use Rattle.golf_code_of.specs.Loops.{round, over_slice, over_channel, behind_hidden}
 use Rattle.golf_code_facts.specs.Facts.{operand_in, hidden_in, next, past_one, skip}
@@ -42,7 +42,7 @@ use Rattle.golf_code_facts.proofs.Expressions.{made-alone, past-alone, made-amon
 use Rattle.golf_code_facts.proofs.Simple.{named, optional_piece, optional-lay, on_optional}
 use Rattle.golf_code_facts.proofs.Parts.{Follows, none_made, on_after, on_block}
 
-module _ (x : Part) (k : LayBy) (fx : Follows x k) where
+module _ (x : StatementPart) (k : LayBy) (fx : Follows x k) where
   pub on_loop : (b c : ℕ) → Follows (C.in_loop b c x) (in_loop b c k)
   on_loop b c = record {
     code = λ a s rest. fx.code (record { breaks = b; continues = c; functions = a.functions })
@@ -169,7 +169,7 @@ module _ (t : Tables) (l : ℕ) where
   either true names h of_type s gs e body = ap (λ p. over_slice l h e p body) (in_slice names h of_type s gs)
   either false names h of_type s gs e body = ap (λ p. over_channel l h e p body) (in_channel names of_type s gs)
 
-  module _ (names : RangeNames) (e : Expr) (xs : List Part) (ks : List LayBy)
+  module _ (names : RangeNames) (e : Expr) (xs : List StatementPart) (ks : List LayBy)
       (f : Follows (in_order xs) (in_order_by ks)) where
     on_body : Follows (C.in_loop 2 0 (block xs)) (in_loop 2 0 (in_order_by ks))
     on_body = on_loop (block xs) (in_order_by ks) (on_block (in_order xs) (in_order_by ks) f) 2 0
@@ -237,7 +237,8 @@ module _ (t : Tables) (l : ℕ) where
 
 -- Headers.
 
-module _ (t : Tables) (l : ℕ) (xs : List Part) (ks : List LayBy) (f : Follows (in_order xs) (in_order_by ks)) where
+module _ (t : Tables) (l : ℕ) (xs : List StatementPart) (ks : List LayBy)
+    (f : Follows (in_order xs) (in_order_by ks)) where
   looped : (b : ℕ) → Follows (C.in_loop b 0 (block xs)) (in_loop b 0 (in_order_by ks))
   looped b = on_loop (block xs) (in_order_by ks) (on_block (in_order xs) (in_order_by ks) f) b 0
 

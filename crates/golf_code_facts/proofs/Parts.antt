@@ -11,16 +11,17 @@ use Rattle.golf_check_types.specs.declared.operands.Operand.{Operand}
 use Rattle.golf_check_types.specs.declared.scopes.Scope.{Scope}
 use Rattle.golf_check_types.specs.Scopes.{begun}
 use Rattle.golf_check_types.specs.Expressions.{facts_of}
-use Rattle.golf_check_types.specs.Judging.{judge_at, Judge}
+use Rattle.golf_check_types.specs.Judgments.{judge_at, Judge}
 use Rattle.golf_check_types.specs.Statements.{Walk, behind}
 use Rattle.golf_code_layout.specs.Piece.{Piece, all}
-use Rattle.golf_code_of.specs.declared.making.Around.{Around}
+use Rattle.golf_code_of.specs.declared.surroundings.Around.{Around}
 use Rattle.golf_code_of.specs.declared.tables.Tables.{Tables}
 use Rattle.golf_code_of.specs.Expressions.{Made}
-use Rattle.golf_code_of.specs.Coding.{piece_at, argument_at, coded}
-use Rattle.golf_code_of.specs.Calls.{Argument, pushes, makings, beginning}
+use Rattle.golf_code_of.specs.ExpressionCode.{piece_at, argument_at, coded}
+use Rattle.golf_code_of.specs.Calls.{ArgumentCode, pushes, makings, beginning}
 use Rattle.golf_code_of.proofs.Judgments.{judgments-agree}
-use Rattle.golf_code_of.specs.Statements.{Laid, Part, laid, follow, past, within, wrapped, then, in_block, behind_test}
+use Rattle.golf_code_of.specs.Statements.{Laid, StatementPart, laid, follow, past, within, wrapped, then, in_block}
+use Rattle.golf_code_of.specs.Statements.{behind_test}
 use Rattle.golf_code_of.specs.Statements.{ends_here as ends_here_part, or_else as or_else_part, begin_part}
 use Rattle.golf_code_facts.specs.Facts.{skip, skip_all}
 use Rattle.golf_code_facts.specs.Expressions.{taking, arguments}
@@ -31,7 +32,7 @@ use Rattle.golf_code_facts.proofs.Expressions.{made-alone, made-among, past-amon
 use Rattle.golf_code_facts.proofs.Simple.{PieceFollows}
 
 -- a statement: whatever names are known, its code is that by the first facts, and those after them are left
-pub record Follows (x : Part) (k : LayBy) : Type 0 where
+pub record Follows (x : StatementPart) (k : LayBy) : Type 0 where
   pub code : (a : Around) (s : Scope) (rest : List Fact) → k a ((x.walk s).facts ++ rest) ≡ by (x.lay a s) rest
 
 pub on_piece : (w : Walk) (p : Scope → Piece) (k : List Fact → PieceBy) → PieceFollows w p k
@@ -42,7 +43,7 @@ on_piece w p k f = record { code = λ a s rest. ap (λ (z : PieceBy). by (laid z
 pub none_made : (a : Around) → record a { functions = a.functions + 0 } ≡ a
 none_made a = ap (λ n. record a { functions = n }) (let e : a.functions + 0 ≡ a.functions = omega arith in e)
 
-module _ (x y : Part) (k j : LayBy) (fx : Follows x k) (fy : Follows y j) where
+module _ (x y : StatementPart) (k j : LayBy) (fx : Follows x k) (fy : Follows y j) where
   pub on_then : Follows (then x y) (then_by k j)
   on_then = record { code = at }
     where
@@ -75,7 +76,7 @@ module _ (x y : Part) (k j : LayBy) (fx : Follows x k) (fy : Follows y j) where
           (fy.code (within 1 (past a (x.lay (within 2 a) s))) (behind s (x.walk s)) rest)
 
 -- after code for which no function is made
-pub on_after : (x y : Part) (p : Scope → Piece) (k : List Fact → PieceBy) (j : LayBy) → PieceFollows x.walk p k
+pub on_after : (x y : StatementPart) (p : Scope → Piece) (k : List Fact → PieceBy) (j : LayBy) → PieceFollows x.walk p k
     → ((a : Around) (s : Scope) → x.lay a s ≡ laid (p s)) → Follows y j → Follows (then x y) (after k j)
 on_after x y p k j fx is fy = record { code = at }
   where
@@ -93,7 +94,7 @@ on_after x y p k j fx is fy = record { code = at }
         ∙ ap (λ b. by (follow (laid (p s)) (y.lay b (behind s (x.walk s)))) rest) (sym (none_made a))
         ∙ ap (λ f. by (follow f (y.lay (past a f) (behind s (x.walk s)))) rest) (sym (is a s))
 
-module _ (x : Part) (k : LayBy) (fx : Follows x k) where
+module _ (x : StatementPart) (k : LayBy) (fx : Follows x k) where
   pub on_block : Follows (in_block x) k
   on_block = record { code = λ a s rest. fx.code a (begun s) rest }
 
@@ -141,7 +142,7 @@ module _ (t : Tables) (l : ℕ) (s : Scope) where
   facts-are [] = refl
   facts-are (x ∷ xs) = ap (λ z. facts_of (judge_at l s x) ++ z) (facts-are xs)
 
-  abbrev known : Expr → Judge → Argument
+  abbrev known : Expr → Judge → ArgumentCode
   known x j = record { meaning = (j l s).meaning; piece = ((coded t x).code l s).piece }
 
   args-are : (xs : List Expr) → args l (map one xs) ≡ map (argument_at t l s) xs
@@ -190,7 +191,7 @@ on_begin t l begin f xs = record { code = at }
         X : List Fact
         X = flat_map facts_of (map (judge_at l s) xs)
 
-        last : Piece → List Argument → List Fact → LaidBy
+        last : Piece → List ArgumentCode → List Fact → LaidBy
         last p ys fs = by (record {
           piece = all (p ∷ pushes ys ∷ beginning l begin a.functions m ys ∷ []);
           made = makings l m ys;

@@ -16,16 +16,16 @@ use Rattle.golf_check_types.specs.declared.scopes.Scope.{Scope}
 use Rattle.golf_check_types.specs.Scopes.{begun}
 use Rattle.golf_check_types.specs.Facts.{new_target}
 use Rattle.golf_check_types.specs.Expressions.{Judged, facts_of}
-use Rattle.golf_check_types.specs.Judging.{judge, judge_at}
+use Rattle.golf_check_types.specs.Judgments.{judge, judge_at}
 use Rattle.golf_check_types.specs.Statements as W
 use Rattle.golf_check_types.specs.Statements.{Walked, behind, carried, assigned, assigned_name}
 use Rattle.golf_check_types.proofs.NamesAlone.{judged-by-names}
 use Rattle.golf_code_layout.specs.Piece.{Piece, all, op}
-use Rattle.golf_code_of.specs.declared.making.Around.{Around}
+use Rattle.golf_code_of.specs.declared.surroundings.Around.{Around}
 use Rattle.golf_code_of.specs.declared.tables.Tables.{Tables}
 use Rattle.golf_code_of.specs.Expressions.{Made}
-use Rattle.golf_code_of.specs.Coding.{piece_at}
-use Rattle.golf_code_of.specs.Statements.{Laid, Part, past, wrapped, in_order}
+use Rattle.golf_code_of.specs.ExpressionCode.{piece_at}
+use Rattle.golf_code_of.specs.Statements.{Laid, StatementPart, past, wrapped, in_order}
 use Rattle.golf_code_of.specs.Selects as C
 use Rattle.golf_code_of.specs.Selects.{ClausePart, case_to, default_or, in_clause, breaking}
 use Rattle.golf_code_facts.specs.Facts.{skip}
@@ -118,7 +118,7 @@ module _ (t : Tables) (l k : ℕ) where
 
 -- Clauses.
 
-module _ (xs : List Part) (ks : List LayBy) (f : Follows (in_order xs) (in_order_by ks)) where
+module _ (xs : List StatementPart) (ks : List LayBy) (f : Follows (in_order xs) (in_order_by ks)) where
   on_breaking : Follows (breaking (in_order xs)) (in_order_by ks)
   on_breaking = record { code = λ a s rest. f.code a (record s { breaks = true }) rest }
 

@@ -18,15 +18,15 @@ use Rattle.golf_check_types.specs.declared.operands.Operand.TheVariants as opera
 use Rattle.golf_check_types.specs.declared.scopes.Scope.{Scope}
 use Rattle.golf_check_types.specs.Facts.{new_target, target}
 use Rattle.golf_check_types.specs.Expressions.{facts_of}
-use Rattle.golf_check_types.specs.Judging.{judge_at}
+use Rattle.golf_check_types.specs.Judgments.{judge_at}
 use Rattle.golf_check_types.specs.Statements as W
 use Rattle.golf_check_types.specs.Statements.{Walk, behind, carried, bool_type, is_new, new_or_kept, assigned_name}
 use Rattle.golf_check_types.specs.Statements.{assigned}
 use Rattle.golf_code_layout.specs.Piece.{Piece, all, op}
-use Rattle.golf_code_of.specs.declared.making.Around.{Around}
+use Rattle.golf_code_of.specs.declared.surroundings.Around.{Around}
 use Rattle.golf_code_of.specs.declared.tables.Tables.{Tables}
 use Rattle.golf_code_of.specs.Expressions.{Made}
-use Rattle.golf_code_of.specs.Coding.{code_at, piece_at}
+use Rattle.golf_code_of.specs.ExpressionCode.{code_at, piece_at}
 use Rattle.golf_code_of.specs.Statements.{laid, drops, updates, assigns, update_instr, stores_to, stores_pair}
 use Rattle.golf_code_of.specs.Statements.{simple_piece, returns, first_value, optional}
 use Rattle.golf_code_facts.specs.Facts.{operand_in, next_is, past_one, skip}

@@ -1,5 +1,5 @@
 -- The code of every statement by its facts is its code.
--- For: `stmt_by`, golf_code_facts/specs/Laying.antt; the law `statements_follow`, src/lib.rt.
+-- For: `stmt_by`, golf_code_facts/specs/StatementCode.antt; the law `statements_follow`, src/lib.rt.
 -- By: induction over the tree of a statement, and over the list of statements of a body.
 use Rattle.std.proofs.Common.{◌≡◌, ℕ, List, [], ◌∷◌, ◌++◌, map, refl, sym, ap, subst, ◌∙◌}
 use Rattle.golf_syntax_trees.specs.declared.statements.Stmt.{Stmt, roll-Stmt}
@@ -15,12 +15,12 @@ use Rattle.golf_check_types.specs.Statements.{Walk}
 use Rattle.golf_code_of.specs.declared.tables.Tables.{Tables}
 use Rattle.golf_code_of.specs.Statements.{in_order, block, then_part, optional, behind_test}
 use Rattle.golf_code_of.specs.Selects.{select_part}
-use Rattle.golf_code_of.specs.Laying.{stmt_part, clause_part}
+use Rattle.golf_code_of.specs.StatementCode.{stmt_part, clause_part}
 use Rattle.golf_code_of.proofs.StmtCodes.{part_layer, clause_layer, part-rolls, clause-rolls}
 use Rattle.golf_code_of.proofs.Walks.{walks-agree}
 use Rattle.golf_code_facts.specs.Statements.{LayBy, in_order as in_order_by, optional_by, after_test, then_lay}
 use Rattle.golf_code_facts.specs.Selects.{ClauseBy, select_lay}
-use Rattle.golf_code_facts.specs.Laying.{stmt_by, clause_by, stmt_by_step, clause_by_step}
+use Rattle.golf_code_facts.specs.StatementCode.{stmt_by, clause_by, stmt_by_step, clause_by_step}
 use Rattle.golf_code_facts.specs.Laws.{StatementsFollow}
 use Rattle.golf_code_facts.proofs.Simple.{on_simple, on_var, on_return, optional_piece, optional-lay, on_optional}
 use Rattle.golf_code_facts.proofs.Parts.{Follows, on_piece, on_then, on_or_else, on_after, on_block, on_end, on_test}

@@ -18,7 +18,7 @@ use Rattle.golf_check_types.specs.Expressions.{Judged, facts_of, field_place}
 use Rattle.golf_check_types.specs.Calls.{sets_finaliser, plain_call as plain_judged, finaliser_call, called_with}
 use Rattle.golf_code_layout.specs.Piece.{Piece}
 use Rattle.golf_code_of.specs.Expressions.{Made, put, puts as puts_of}
-use Rattle.golf_code_of.specs.Calls.{Argument}
+use Rattle.golf_code_of.specs.Calls.{ArgumentCode}
 use Rattle.golf_code_facts.specs.Facts.{base_of, skip, skip_all}
 use Rattle.golf_code_facts.specs.Expressions.{Take, arguments, puts}
 
@@ -60,10 +60,10 @@ module _ (l : ℕ) where
   abbrev pub facts : List (One l) → List Fact
   facts xs = flat_map (λ x. with_parts x.meaning x.inner) xs
 
-  abbrev argument_of : Operand → Made → Argument
+  abbrev argument_of : Operand → Made → ArgumentCode
   argument_of m c = record { meaning = m; piece = c.piece }
 
-  abbrev pub args : List (One l) → List Argument
+  abbrev pub args : List (One l) → List ArgumentCode
   args xs = map (λ x. record { meaning = x.meaning; piece = x.code.piece }) xs
 
   pub all_taken : (xs : List (One l)) (rest : List Fact) → arguments l (takes xs) (facts xs ++ rest) ≡ args xs

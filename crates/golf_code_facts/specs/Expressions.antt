@@ -13,7 +13,7 @@ use Rattle.golf_code_of.specs.Table.{text_number}
 use Rattle.golf_code_of.specs.declared.tables.Tables.{Tables}
 use Rattle.golf_code_of.specs.Expressions.{Made, only, name, put, new_struct, new_sync, slice_literal, made, made_sized}
 use Rattle.golf_code_of.specs.Expressions.{selector, index, unary_operator, binary_operator}
-use Rattle.golf_code_of.specs.Calls.{Argument, call}
+use Rattle.golf_code_of.specs.Calls.{ArgumentCode, call}
 use Rattle.golf_code_facts.specs.Facts.{operand_in, number_in, field_in, type_in, base_in, next, next_is, past_one}
 use Rattle.golf_code_facts.specs.Facts.{skip}
 
@@ -22,12 +22,12 @@ abbrev pub Take : Type 0
 Take = ℕ → List Fact → Made
 
 -- expressions one after another, as arguments
-abbrev pub arguments : ℕ → List Take → List Fact → List Argument
+abbrev pub arguments : ℕ → List Take → List Fact → List ArgumentCode
 arguments l [] fs = []
 arguments l (x ∷ xs) fs = record { meaning = next_is fs; piece = (x l fs).piece } ∷ arguments l xs (skip fs)
 
 -- the pieces that push the arguments
-abbrev pub pieces : List Argument → List Piece
+abbrev pub pieces : List ArgumentCode → List Piece
 pieces xs = map (λ x. x.piece) xs
 
 -- puts each value into its field; the place of the field comes before the facts of the value

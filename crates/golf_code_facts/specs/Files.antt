@@ -21,7 +21,7 @@ use Rattle.golf_check_types.specs.Files.{file_scope, with_imports, no_imports}
 use Rattle.golf_code_layout.specs.Piece.{Piece, all, op}
 use Rattle.golf_code_of.specs.declared.tables.Tables.{Tables}
 use Rattle.golf_code_of.specs.Table.{Texts}
-use Rattle.golf_code_of.specs.declared.making.Making.{Making}
+use Rattle.golf_code_of.specs.declared.surroundings.Making.{Making}
 use Rattle.golf_code_of.specs.Texts.{texts_of}
 use Rattle.golf_code_of.specs.Values.{zero_value, const_value}
 use Rattle.golf_code_of.specs.Files.{Functions, no_functions, function, last_return, made_function, main_number}
@@ -29,7 +29,7 @@ use Rattle.golf_code_of.specs.Files.{main_line, giving}
 use Rattle.golf_code_facts.specs.Facts.{number_in, arguments_in, slots_in, next, past_one, skip}
 use Rattle.golf_code_facts.specs.Expressions.{pushed_at}
 use Rattle.golf_code_facts.specs.Statements.{LaidBy, PieceBy, piece_by, in_order}
-use Rattle.golf_code_facts.specs.Laying.{stmt_by}
+use Rattle.golf_code_facts.specs.StatementCode.{stmt_by}
 
 -- Declarations that are passed over: the facts after each of them.
 

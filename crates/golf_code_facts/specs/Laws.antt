@@ -7,18 +7,18 @@ use Rattle.golf_syntax_trees.specs.declared.declarations.File.{File}
 use Rattle.golf_check_types.specs.declared.facts.Fact.{Fact}
 use Rattle.golf_check_types.specs.declared.scopes.Scope.{Scope}
 use Rattle.golf_check_types.specs.Expressions.{facts_of}
-use Rattle.golf_check_types.specs.Judging.{judge_at}
+use Rattle.golf_check_types.specs.Judgments.{judge_at}
 use Rattle.golf_check_types.specs.Statements.{walk}
 use Rattle.golf_check_types.specs.Files.{facts_in}
-use Rattle.golf_code_of.specs.declared.making.Around.{Around}
+use Rattle.golf_code_of.specs.declared.surroundings.Around.{Around}
 use Rattle.golf_code_of.specs.declared.tables.Tables.{Tables}
-use Rattle.golf_code_of.specs.Coding.{code_at}
-use Rattle.golf_code_of.specs.Laying.{stmt_part}
+use Rattle.golf_code_of.specs.ExpressionCode.{code_at}
+use Rattle.golf_code_of.specs.StatementCode.{stmt_part}
 use Rattle.golf_code_of.specs.Files.{CodeOf}
 use Rattle.golf_code_facts.specs.Facts.{skip}
 use Rattle.golf_code_facts.specs.Expressions.{taken_at}
 use Rattle.golf_code_facts.specs.Statements.{by}
-use Rattle.golf_code_facts.specs.Laying.{stmt_by}
+use Rattle.golf_code_facts.specs.StatementCode.{stmt_by}
 use Rattle.golf_code_facts.specs.Files.{CodeBy}
 
 abbrev pub ExpressionsFollow : Type 0

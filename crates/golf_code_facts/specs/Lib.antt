@@ -3,6 +3,6 @@ pub mod Expressions
 pub mod Statements
 pub mod Loops
 pub mod Selects
-pub mod Laying
+pub mod StatementCode
 pub mod Files
 pub mod Laws

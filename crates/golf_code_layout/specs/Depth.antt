@@ -38,7 +38,7 @@ behind gives i None = None
 behind gives i (Some n) = through gives i n
 
 -- the most operands in a piece, the operands after it, and the operands at the targets around
-pub record Flow : Type 0 where
+pub record OperandDepth : Type 0 where
   pub most : ℕ
   pub behind : Option ℕ
   pub targets : List (Option ℕ)
@@ -47,18 +47,18 @@ abbrev pub above : Option ℕ → ℕ → Option ℕ
 above h n = option_map (λ below. below + n) h
 
 -- the cases of a `select`, on top of these operands
-abbrev pub chosen : Option ℕ → List SelectCase → List (Option ℕ) → Flow
+abbrev pub chosen : Option ℕ → List SelectCase → List (Option ℕ) → OperandDepth
 chosen below [] ts = record { most = 0; behind = None; targets = ts }
 chosen below (c ∷ cs) ts =
     let rest = chosen below cs (reached ts c.target (above below (case_left c.kind))) in
     record { most = max (height (above below (case_left c.kind))) rest.most; behind = None; targets = rest.targets }
 
-abbrev pub defaulted : Option ℕ → Option ℕ → Flow → Flow
+abbrev pub defaulted : Option ℕ → Option ℕ → OperandDepth → OperandDepth
 defaulted below None f = f
 defaulted below (Some k) f = record f { targets = reached f.targets k below }
 
 -- a piece that begins with h operands
-abbrev pub flow : List Bool → Piece → Option ℕ → List (Option ℕ) → Flow
+abbrev pub flow : List Bool → Piece → Option ℕ → List (Option ℕ) → OperandDepth
 flow gives Piece.Empty h ts = record { most = 0; behind = h; targets = ts }
 flow gives (Piece.Op i line) h ts = let after =
     behind gives i h in record { most = height after; behind = after; targets = ts }

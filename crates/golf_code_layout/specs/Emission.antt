@@ -27,6 +27,6 @@ Adds (Ok a) p old new = new ≡ onto old p
 Adds (Err fault) p old new = Unit {0}
 
 -- the parts grow by one part
-abbrev pub Grows : {A : Type 0} → Result A Memory → Emitted → List Emitted → List Emitted → Type 0
-Grows (Ok a) m old new = new ≡ old ++ m ∷ []
-Grows (Err fault) m old new = Unit {0}
+abbrev pub GrowsByPart : {A : Type 0} → Result A Memory → Emitted → List Emitted → List Emitted → Type 0
+GrowsByPart (Ok a) m old new = new ≡ old ++ m ∷ []
+GrowsByPart (Err fault) m old new = Unit {0}

@@ -10,12 +10,12 @@
 #![tactic(auto)]
 
 mod emitted;
-mod writing;
+mod parts;
 
 ghost use Rattle.golf_code_layout.specs.Laws.{PlacedSize};
 
 pub use emitted::Emitted;
-pub use writing::{again, block, end, exit, op, unless};
+pub use parts::{again, block, end, exit, op, unless};
 
 /// States that a piece has its size wherever it is placed.
 pub fn placed_pieces_have_their_size()

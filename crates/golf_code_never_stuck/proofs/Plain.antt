@@ -6,21 +6,21 @@ use Rattle.golf_theory.specs.Membership.{In}
 use Rattle.golf_data.specs.declared.code.Code.{Code}
 use Rattle.golf_model.specs.State.{State, start}
 use Rattle.golf_model.specs.Turn.{wants_collection, step}
-use Rattle.golf_model.specs.Collecting.{plain_collect}
-use Rattle.golf_model.specs.Running.{Event, has_ended, collected_if, happens_in, happens, run, stops}
+use Rattle.golf_model.specs.Collections.{plain_collect}
+use Rattle.golf_model.specs.Runs.{Event, has_ended, collected_if, happens_in, happens, run, stops}
 use Rattle.golf_model.specs.Futures.{Leads}
 use Rattle.golf_model_futures.proofs.Leading.{numbered-collect}
 use Rattle.golf_model_futures.proofs.Presence.{Sane, sane-start, sane-step, whole-collect}
 use Rattle.golf_model_futures.proofs.Stopping.{run-kept, stops-kept}
-use Rattle.golf_model_order.specs.Orderly.{IsOrderly}
-use Rattle.golf_model_order.proofs.Keeping.{order-step}
-use Rattle.golf_model_order.proofs.Leading.{leads-orderly}
+use Rattle.golf_model_futures.specs.Orderly.{IsOrderly}
+use Rattle.golf_model_futures.proofs.Keeping.{order-step}
+use Rattle.golf_model_futures.proofs.OrderedLeading.{leads-orderly}
 use Rattle.golf_model_typing.specs.Types.{ValueType, Typing}
 use Rattle.golf_model_typing.specs.Grows.{Grows}
 use Rattle.golf_model_typing.specs.Shapes.{HasShapes}
 use Rattle.golf_model_typing.specs.WellTyped.{WellTyped}
-use Rattle.golf_model_progress.proofs.Leading.{typed-real}
-use Rattle.golf_model_progress.proofs.Turning.{move-on, turns-keep-types, start-is-typed}
+use Rattle.golf_model_typing.proofs.Leading.{typed-real}
+use Rattle.golf_model_typing.proofs.Turning.{move-on, turns-keep-types, start-is-typed}
 use Rattle.golf_code_of.specs.Files.{CodeOf}
 use Rattle.golf_code_shapes.specs.FileLaws.{types_of_file}
 use Rattle.golf_code_never_stuck.specs.Laws.{PlainGoesOn, PlainRunsGoOn}

@@ -8,7 +8,7 @@ use Rattle.golf_syntax_trees.specs.Declarations.{decl_good}
 use Rattle.golf_check_types.specs.Files.{Typed}
 use Rattle.golf_model.specs.State.{State, ending}
 use Rattle.golf_model.specs.Turn.{step}
-use Rattle.golf_model.specs.Collecting.{sets_finalisers, real_collect}
+use Rattle.golf_model.specs.Collections.{sets_finalisers, real_collect}
 use Rattle.golf_model.specs.Futures.{Leads}
 use Rattle.golf_code_of.specs.Files.{CodeOf}
 
@@ -18,7 +18,7 @@ pub record IsProgram (file : File) : Type 0 where
   pub typed : Typed file
 
 -- the code is that of such a file, and moves reach the state from its opening state
-pub record Reached (code : Code) (s : State) : Type 0 where
+pub record ReachedState (code : Code) (s : State) : Type 0 where
   pub file : File
   pub program : IsProgram file
   pub coded : code ≡ CodeOf file

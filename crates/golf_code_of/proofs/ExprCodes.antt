@@ -1,5 +1,5 @@
 -- The code of each kind of expression, as an equation.
--- For: `coded` (golf_code_of/specs/Coding.antt)
+-- For: `coded` (golf_code_of/specs/ExpressionCode.antt)
 -- By: computing, kind by kind
 use Rattle.std.proofs.Common.{◌≡◌, ℕ, List, map, ap, sym, ◌∙◌}
 use Rattle.golf_syntax_trees.specs.declared.types.TypeExpr.{TypeExpr}
@@ -13,7 +13,7 @@ use Rattle.golf_syntax_trees.specs.declared.expressions.Expr.TheOpen as F
 use Rattle.golf_syntax_trees.specs.declared.expressions.Expr.TheFolds.{fold-Element, fold-roll-Expr, map-Expr}
 use Rattle.golf_syntax_trees.proofs.ExpressionInduction.{fold-element, fold-elements}
 use Rattle.golf_code_of.specs.declared.tables.Tables.{Tables}
-use Rattle.golf_code_of.specs.Coding.{Coded, CodedPut, coded, coded_step, element_coded_step}
+use Rattle.golf_code_of.specs.ExpressionCode.{Coded, CodedPut, coded, coded_step, element_coded_step}
 
 -- an element of a struct literal
 abbrev pub coded_put : Tables → Element → CodedPut

@@ -1,5 +1,5 @@
 -- What each kind of expression is, as an equation.
--- For: `judge` (golf_check_types/specs/Judging.antt)
+-- For: `judge` (golf_check_types/specs/Judgments.antt)
 -- By: computing, kind by kind
 use Rattle.std.proofs.Common.{◌≡◌, ℕ, List, map, ap, sym, ◌∙◌}
 use Rattle.golf_syntax_trees.specs.declared.types.TypeExpr.{TypeExpr}
@@ -12,7 +12,7 @@ use Rattle.golf_syntax_trees.specs.declared.expressions.Expr.TheOpen.{Expr-F}
 use Rattle.golf_syntax_trees.specs.declared.expressions.Expr.TheOpen as F
 use Rattle.golf_syntax_trees.specs.declared.expressions.Expr.TheFolds.{fold-Element, fold-roll-Expr, map-Expr}
 use Rattle.golf_syntax_trees.proofs.ExpressionInduction.{fold-element, fold-elements}
-use Rattle.golf_check_types.specs.Judging.{Judge, Put, judge, judge_step, element_step}
+use Rattle.golf_check_types.specs.Judgments.{Judge, Put, judge, judge_step, element_step}
 
 -- an element of a struct literal
 abbrev pub put_of : Element → Put

@@ -4,9 +4,9 @@
 use Rattle.std.proofs.Common.{◌≡◌, refl}
 use Rattle.golf_syntax_trees.specs.declared.expressions.Expr.{Expr}
 use Rattle.golf_syntax_trees.proofs.ExpressionInduction.{carried}
-use Rattle.golf_check_types.specs.Judging.{Judge, Put, judge, judge_step, element_step}
+use Rattle.golf_check_types.specs.Judgments.{Judge, Put, judge, judge_step, element_step}
 use Rattle.golf_code_of.specs.declared.tables.Tables.{Tables}
-use Rattle.golf_code_of.specs.Coding.{Coded, CodedPut, put_judge, coded, coded_step, element_coded_step}
+use Rattle.golf_code_of.specs.ExpressionCode.{Coded, CodedPut, put_judge, coded, coded_step, element_coded_step}
 use Rattle.golf_code_of.specs.Laws.{JudgmentsAgree}
 
 pub agree : (t : Tables) (e : Expr) → (coded t e).judge ≡ judge e

@@ -1,5 +1,5 @@
 -- The code of each kind of statement and clause, as an equation.
--- For: `stmt_part`, `clause_part` (golf_code_of/specs/Laying.antt)
+-- For: `stmt_part`, `clause_part` (golf_code_of/specs/StatementCode.antt)
 -- By: computing, kind by kind; no induction
 use Rattle.std.proofs.Common.{◌≡◌, ℕ, List, map, ap, sym, ◌∙◌}
 use Rattle.std.specs.Prelude.{Option}
@@ -17,24 +17,24 @@ use Rattle.golf_syntax_trees.specs.declared.statements.Clause.TheOpen as F
 use Rattle.golf_syntax_trees.specs.declared.statements.Clause.TheFolds.{fold-roll-Stmt, fold-roll-Clause, map-Stmt}
 use Rattle.golf_syntax_trees.specs.declared.statements.Clause.TheFolds.{map-Clause}
 use Rattle.golf_code_of.specs.declared.tables.Tables.{Tables}
-use Rattle.golf_code_of.specs.Statements.{Part}
+use Rattle.golf_code_of.specs.Statements.{StatementPart}
 use Rattle.golf_code_of.specs.Selects.{ClausePart}
-use Rattle.golf_code_of.specs.Laying.{stmt_part, clause_part, stmt_part_step, clause_part_step}
+use Rattle.golf_code_of.specs.StatementCode.{stmt_part, clause_part, stmt_part_step, clause_part_step}
 
 -- one layer of a statement, and of a clause
-abbrev pub part_layer : Tables → Stmt-F Clause Stmt → Part
-part_layer t y = stmt_part_step t (map-Stmt Clause Stmt ClausePart Part (clause_part t) (stmt_part t) y)
+abbrev pub part_layer : Tables → Stmt-F Clause Stmt → StatementPart
+part_layer t y = stmt_part_step t (map-Stmt Clause Stmt ClausePart StatementPart (clause_part t) (stmt_part t) y)
 
 abbrev pub clause_layer : Tables → Clause-F Clause Stmt → ClausePart
-clause_layer t y = clause_part_step t (map-Clause Clause Stmt ClausePart Part (clause_part t) (stmt_part t) y)
+clause_layer t y = clause_part_step t (map-Clause Clause Stmt ClausePart StatementPart (clause_part t) (stmt_part t) y)
 
 pub part-rolls : (t : Tables) (y : Stmt-F Clause Stmt) → stmt_part t (roll-Stmt y) ≡ part_layer t y
 unfolding stmt_part clause_part
-part-rolls t = fold-roll-Stmt ClausePart Part (clause_part_step t) (stmt_part_step t)
+part-rolls t = fold-roll-Stmt ClausePart StatementPart (clause_part_step t) (stmt_part_step t)
 
 pub clause-rolls : (t : Tables) (y : Clause-F Clause Stmt) → clause_part t (roll-Clause y) ≡ clause_layer t y
 unfolding stmt_part clause_part
-clause-rolls t = fold-roll-Clause ClausePart Part (clause_part_step t) (stmt_part_step t)
+clause-rolls t = fold-roll-Clause ClausePart StatementPart (clause_part_step t) (stmt_part_step t)
 
 pub part-Var : (t : Tables) (v : Var) → stmt_part t (st.Var v) ≡ stmt_part_step t (F.Var v)
 part-Var t v = ap (stmt_part t) (sym (st.rolls-Var v)) ∙ part-rolls t (F.Var v)

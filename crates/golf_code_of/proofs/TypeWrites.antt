@@ -7,15 +7,15 @@ use Rattle.golf_syntax_trees.specs.declared.types.TypeExpr.TheVariants as ty
 use Rattle.golf_syntax_trees.specs.declared.types.TypeExpr.TheOpen.{TypeExpr-F}
 use Rattle.golf_syntax_trees.specs.declared.types.TypeExpr.TheOpen as F
 use Rattle.golf_syntax_trees.specs.declared.types.TypeExpr.TheFolds.{fold-roll-TypeExpr, map-TypeExpr}
-use Rattle.golf_check_types.specs.Written.{Write, write, write_step}
+use Rattle.golf_check_types.specs.Written.{WriteType, write, write_step}
 
 -- one layer of a type
-abbrev pub write_layer : TypeExpr-F TypeExpr → Write
-write_layer y = write_step (map-TypeExpr TypeExpr Write write y)
+abbrev pub write_layer : TypeExpr-F TypeExpr → WriteType
+write_layer y = write_step (map-TypeExpr TypeExpr WriteType write y)
 
 pub write-rolls : (y : TypeExpr-F TypeExpr) → write (roll-TypeExpr y) ≡ write_layer y
 unfolding write
-write-rolls = fold-roll-TypeExpr Write write_step
+write-rolls = fold-roll-TypeExpr WriteType write_step
 
 pub write-Named : (n : List ℕ) → write (ty.Named n) ≡ write_step (F.Named n)
 write-Named n = ap write (sym (ty.rolls-Named n)) ∙ write-rolls (F.Named n)

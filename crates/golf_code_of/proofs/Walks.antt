@@ -15,10 +15,10 @@ use Rattle.golf_syntax_trees.proofs.StatementInduction.{carried, carried-clause}
 use Rattle.golf_check_types.specs.Statements as W
 use Rattle.golf_check_types.specs.Statements.{Walk, walk, walk_clause, clause_step, stmt_step}
 use Rattle.golf_code_of.specs.declared.tables.Tables.{Tables}
-use Rattle.golf_code_of.specs.Statements.{Part, optional}
+use Rattle.golf_code_of.specs.Statements.{StatementPart, optional}
 use Rattle.golf_code_of.specs.Loops.{header_part}
 use Rattle.golf_code_of.specs.Selects.{ClausePart}
-use Rattle.golf_code_of.specs.Laying.{stmt_part, clause_part, stmt_part_step, clause_part_step}
+use Rattle.golf_code_of.specs.StatementCode.{stmt_part, clause_part, stmt_part_step, clause_part_step}
 use Rattle.golf_code_of.specs.Laws.{WalksAgree}
 
 module _ (t : Tables) where
@@ -26,10 +26,11 @@ module _ (t : Tables) where
   optional-walk None = refl
   optional-walk (Some x) = refl
 
-  abbrev walks : List Part → List Walk
-  walks xs = map (λ (x : Part). x.walk) xs
+  abbrev walks : List StatementPart → List Walk
+  walks xs = map (λ (x : StatementPart). x.walk) xs
 
-  header-walk : (l : ℕ) (h : Header) (xs : List Part) → (header_part t l h xs).walk ≡ W.header_walk l h (walks xs)
+  header-walk : (l : ℕ) (h : Header) (xs : List StatementPart)
+      → (header_part t l h xs).walk ≡ W.header_walk l h (walks xs)
   header-walk l (header.Steps first test post) xs =
       ap (λ w. W.then w (W.behind_optional l test (W.then (W.counted (optional t post).walk) (W.loop_body (walks xs)))))
       (optional-walk first)
@@ -39,8 +40,8 @@ module _ (t : Tables) where
   header-walk l (header.While test) xs = refl
   header-walk l (header.Range names over) xs = refl
 
-  carries : (y : Stmt-F ClausePart Part) → (stmt_part_step t y).walk ≡ stmt_step
-      (map-Stmt ClausePart Part (ℕ → Walk) Walk (λ c. c.walk) (λ x. x.walk) y)
+  carries : (y : Stmt-F ClausePart StatementPart) → (stmt_part_step t y).walk ≡ stmt_step
+      (map-Stmt ClausePart StatementPart (ℕ → Walk) Walk (λ c. c.walk) (λ x. x.walk) y)
   carries (F.If l first test body) = ap (λ w. W.in_block (W.then w (W.behind_test l test (W.block (walks body)))))
       (optional-walk first)
   carries (F.IfElse l first test body otherwise) =
@@ -57,20 +58,22 @@ module _ (t : Tables) where
   carries (F.Continue l) = refl
   carries (F.Block l body) = refl
 
-  carries-clause : (y : Clause-F ClausePart Part)
+  carries-clause : (y : Clause-F ClausePart StatementPart)
       → (clause_part_step t y).walk ≡ clause_step
-      (map-Clause ClausePart Part (ℕ → Walk) Walk (λ c. c.walk) (λ x. x.walk) y)
+      (map-Clause ClausePart StatementPart (ℕ → Walk) Walk (λ c. c.walk) (λ x. x.walk) y)
   carries-clause (F.Case k c body) = refl
   carries-clause (F.Default k body) = refl
 
   pub statement : (x : Stmt) → (stmt_part t x).walk ≡ walk x
   unfolding stmt_part clause_part walk walk_clause
-  statement = carried ClausePart Part (clause_part_step t) (stmt_part_step t) (ℕ → Walk) Walk clause_step stmt_step
+  statement = carried ClausePart StatementPart (clause_part_step t) (stmt_part_step t)
+      (ℕ → Walk) Walk clause_step stmt_step
       (λ c. c.walk) (λ x. x.walk) carries-clause carries
 
   clause : (c : Clause) → (clause_part t c).walk ≡ walk_clause c
   unfolding stmt_part clause_part walk walk_clause
-  clause = carried-clause ClausePart Part (clause_part_step t) (stmt_part_step t) (ℕ → Walk) Walk clause_step stmt_step
+  clause = carried-clause ClausePart StatementPart (clause_part_step t) (stmt_part_step t)
+      (ℕ → Walk) Walk clause_step stmt_step
       (λ c. c.walk) (λ x. x.walk) carries-clause carries
 
 pub walks-agree : WalksAgree

@@ -11,7 +11,7 @@ use Rattle.golf_check_types.specs.declared.operands.BuiltIn.TheVariants as built
 use Rattle.golf_check_types.specs.Types.{plain, type_given, given}
 use Rattle.golf_check_types.specs.Calls.{sets_finaliser}
 use Rattle.golf_code_layout.specs.Piece.{Piece, all, op}
-use Rattle.golf_code_of.specs.declared.making.Making.{Making}
+use Rattle.golf_code_of.specs.declared.surroundings.Making.{Making}
 use Rattle.golf_code_of.specs.Expressions.{Made, only}
 
 -- the code of a built-in call, after its operands; there are n of them
@@ -45,11 +45,11 @@ calling l (operand.BuiltIn b) n = operation l b n
 calling l _ n = Piece.Empty
 
 -- an expression as an argument: its meaning and its code
-pub record Argument : Type 0 where
+pub record ArgumentCode : Type 0 where
   pub meaning : Operand
   pub piece : Piece
 
-abbrev pub pushes : List Argument → Piece
+abbrev pub pushes : List ArgumentCode → Piece
 pushes xs = all (map (λ x. x.piece) xs)
 
 -- a function as a finaliser, or nil
@@ -58,12 +58,12 @@ finaliser l (operand.Function k) = op l (Instr.SetFinalizer (k + 1))
 finaliser l _ = op l Instr.ClearFinalizer
 
 -- `SetFinalizer(p, f)`: the instruction names the function
-abbrev pub finalising : ℕ → List Argument → Piece
+abbrev pub finalising : ℕ → List ArgumentCode → Piece
 finalising l (x ∷ (y ∷ ys)) = all (x.piece ∷ finaliser l y.meaning ∷ [])
 finalising l _ = Piece.Empty
 
 -- receiver, arguments, and the call
-abbrev pub call : ℕ → Operand → Piece → List Argument → Made
+abbrev pub call : ℕ → Operand → Piece → List ArgumentCode → Made
 call l f receiver xs = only (cond (sets_finaliser f) (finalising l xs)
     (all (receiver ∷ pushes xs ∷ calling l f (length xs) ∷ [])))
 
@@ -82,22 +82,28 @@ receiver_base built_in.ReadUnlock = Some base.ReadWriteMutex
 receiver_base built_in.WaitCondition = Some base.Condition
 receiver_base built_in.Signal = Some base.Condition
 receiver_base built_in.Broadcast = Some base.Condition
-receiver_base _ = None
+receiver_base built_in.Length = None
+receiver_base built_in.Close = None
+receiver_base built_in.Panic = None
+receiver_base built_in.Print = None
+receiver_base built_in.Collect = None
+receiver_base built_in.SetFinalizer = None
+receiver_base built_in.NewCondition = None
 
 abbrev pub with_receiver : Option Base → List (Option GoType) → List (Option GoType)
 with_receiver None ts = ts
 with_receiver (Some b) ts = Some (plain b) ∷ ts
 
 -- the types of receiver and arguments
-abbrev pub begun_parameters : BuiltIn → List Argument → List (Option GoType)
-begun_parameters b xs = with_receiver (receiver_base b) (map (λ (x : Argument). type_given (given x.meaning)) xs)
+abbrev pub begun_parameters : BuiltIn → List ArgumentCode → List (Option GoType)
+begun_parameters b xs = with_receiver (receiver_base b) (map (λ (x : ArgumentCode). type_given (given x.meaning)) xs)
 
-abbrev pub makings : ℕ → Operand → List Argument → List Making
+abbrev pub makings : ℕ → Operand → List ArgumentCode → List Making
 makings l (operand.BuiltIn b) xs = record { operation = b; parameters = begun_parameters b xs; line = l } ∷ []
 makings l _ xs = []
 
 -- `go` or `defer`; the next function that is made has the number `next`
-abbrev pub beginning : ℕ → (ℕ → ℕ → Instr) → ℕ → Operand → List Argument → Piece
+abbrev pub beginning : ℕ → (ℕ → ℕ → Instr) → ℕ → Operand → List ArgumentCode → Piece
 beginning l begin next (operand.Function k) xs = op l (begin (k + 1) (length xs))
 beginning l begin next (operand.Method k) xs = op l (begin (k + 1) (length xs + 1))
 beginning l begin next (operand.BuiltIn b) xs = op l (begin next (length (begun_parameters b xs)))

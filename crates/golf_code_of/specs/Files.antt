@@ -29,11 +29,11 @@ use Rattle.golf_live.specs.Live.{live}
 use Rattle.golf_code_of.specs.Texts.{texts_of}
 use Rattle.golf_code_of.specs.declared.tables.Tables.{Tables}
 use Rattle.golf_code_of.specs.Values.{push, zero_value, const_value}
-use Rattle.golf_code_of.specs.declared.making.Making.{Making}
+use Rattle.golf_code_of.specs.declared.surroundings.Making.{Making}
 use Rattle.golf_code_of.specs.Calls.{operation}
-use Rattle.golf_code_of.specs.Coding.{piece_at}
-use Rattle.golf_code_of.specs.Statements.{Laid, Part, in_order}
-use Rattle.golf_code_of.specs.Laying.{stmt_part}
+use Rattle.golf_code_of.specs.ExpressionCode.{piece_at}
+use Rattle.golf_code_of.specs.Statements.{Laid, StatementPart, in_order}
+use Rattle.golf_code_of.specs.StatementCode.{stmt_part}
 
 -- a function with this body and its masks; `gives` says for each function whether it gives a value
 abbrev pub function : List Bool → ℕ → ℕ → ℕ → Piece → Function
@@ -48,7 +48,7 @@ function gives params slots line body = record {
 
 -- Functions and methods of the file.
 
-abbrev pub body_part : Tables → Func → Part
+abbrev pub body_part : Tables → Func → StatementPart
 body_part t f = in_order (map (stmt_part t) f.body)
 
 -- the body of a function; `functions` is the number of functions before the next one that is made

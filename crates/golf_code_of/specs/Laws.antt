@@ -4,11 +4,11 @@ use Rattle.std.specs.Prelude.{◌≡◌}
 use Rattle.golf_syntax_trees.specs.declared.expressions.Expr.{Expr}
 use Rattle.golf_syntax_trees.specs.declared.statements.Stmt.{Stmt}
 use Rattle.golf_syntax_trees.specs.declared.statements.Clause.{Clause}
-use Rattle.golf_check_types.specs.Judging.{judge}
+use Rattle.golf_check_types.specs.Judgments.{judge}
 use Rattle.golf_check_types.specs.Statements.{walk, walk_clause}
 use Rattle.golf_code_of.specs.declared.tables.Tables.{Tables}
-use Rattle.golf_code_of.specs.Coding.{coded}
-use Rattle.golf_code_of.specs.Laying.{stmt_part, clause_part}
+use Rattle.golf_code_of.specs.ExpressionCode.{coded}
+use Rattle.golf_code_of.specs.StatementCode.{stmt_part, clause_part}
 
 abbrev pub JudgmentsAgree : Type 0
 JudgmentsAgree = (t : Tables) (e : Expr) → (coded t e).judge ≡ judge e

@@ -3,10 +3,10 @@ pub mod Texts
 pub mod Values
 pub mod Expressions
 pub mod Calls
-pub mod Coding
+pub mod ExpressionCode
 pub mod Statements
 pub mod Loops
 pub mod Selects
-pub mod Laying
+pub mod StatementCode
 pub mod Files
 pub mod Laws

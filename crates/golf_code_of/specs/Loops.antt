@@ -13,16 +13,16 @@ use Rattle.golf_check_types.specs.declared.scopes.Scope.{Scope}
 use Rattle.golf_check_types.specs.Types.{is_slice, type_given}
 use Rattle.golf_check_types.specs.Names.{is_blank}
 use Rattle.golf_check_types.specs.Expressions.{given_by}
-use Rattle.golf_check_types.specs.Judging.{judge_at}
+use Rattle.golf_check_types.specs.Judgments.{judge_at}
 use Rattle.golf_check_types.specs.Statements as W
 use Rattle.golf_check_types.specs.Statements.{behind, is_outer, hides, hidden, range_name, int_type}
 use Rattle.golf_code_layout.specs.Piece.{Piece, all, op}
 use Rattle.golf_code_of.specs.declared.tables.Tables.{Tables}
-use Rattle.golf_code_of.specs.Coding.{piece_at}
-use Rattle.golf_code_of.specs.Statements.{Lay, Part, wrapped, past, then, in_block, block, optional}
+use Rattle.golf_code_of.specs.ExpressionCode.{piece_at}
+use Rattle.golf_code_of.specs.Statements.{Lay, StatementPart, wrapped, past, then, in_block, block, optional}
 
 -- the inside of a loop; `break` and `continue` leave it by these targets
-abbrev pub in_loop : ℕ → ℕ → Part → Part
+abbrev pub in_loop : ℕ → ℕ → StatementPart → StatementPart
 in_loop breaks continues x = record {
   walk = W.looping x.walk;
   lay = λ a s. x.lay (record { breaks = breaks; continues = continues; functions = a.functions })
@@ -34,14 +34,14 @@ abbrev pub round : Piece → Piece
 round p = Piece.Block (Piece.Again p)
 
 -- `for { }`
-abbrev pub forever : ℕ → Part → Part
+abbrev pub forever : ℕ → StatementPart → StatementPart
 forever l body = record {
   walk = body.walk;
   lay = λ a s. wrapped (λ p. round (all (p ∷ Piece.Exit l 0 ∷ []))) (body.lay a s);
 }
 
 -- `for test { }`
-abbrev pub while : Tables → ℕ → Expr → Part → Part
+abbrev pub while : Tables → ℕ → Expr → StatementPart → StatementPart
 while t l test body = record {
   walk = W.behind_test l test body.walk;
   lay = λ a s. wrapped (λ p. round (all (piece_at t l s test ∷ Piece.Unless l 1 ∷ p ∷ Piece.Exit l 0 ∷ [])))
@@ -54,19 +54,19 @@ abbrev pub optional_test : Tables → ℕ → Option Expr → Scope → Piece
 optional_test t l None s = Piece.Empty
 optional_test t l (Some e) s = all (piece_at t l s e ∷ Piece.Unless l 1 ∷ [])
 
-abbrev pub steps_lay : Tables → ℕ → Option Expr → Part → Part → Lay
+abbrev pub steps_lay : Tables → ℕ → Option Expr → StatementPart → StatementPart → Lay
 steps_lay t l test post body a s =
     let p = post.lay a s in
     wrapped (λ b. round (all (optional_test t l test s ∷ Piece.Block b ∷ p.piece ∷ Piece.Exit l 0 ∷ [])))
     (body.lay (past a p) (behind s (post.walk s)))
 
-abbrev pub stepping : Tables → ℕ → Option Expr → Part → Part → Part
+abbrev pub stepping : Tables → ℕ → Option Expr → StatementPart → StatementPart → StatementPart
 stepping t l test post body = record {
   walk = W.behind_optional l test (W.then (W.counted post.walk) body.walk);
   lay = steps_lay t l test post body;
 }
 
-abbrev pub steps : Tables → ℕ → Option Simple → Option Expr → Option Simple → List Part → Part
+abbrev pub steps : Tables → ℕ → Option Simple → Option Expr → Option Simple → List StatementPart → StatementPart
 steps t l first test post body = then (optional t first)
     (stepping t l test (optional t post) (in_loop 2 0 (block body)))
 
@@ -119,12 +119,12 @@ range_piece l names v e s body = cond (is_outer is_slice v)
     (over_slice l s.next e (slice_names l s.next names (behind_hidden v s)) body)
     (over_channel l s.next e (channel_name l names (behind_hidden v s)) body)
 
-abbrev pub range_lay : Tables → ℕ → RangeNames → Expr → Part → Lay
+abbrev pub range_lay : Tables → ℕ → RangeNames → Expr → StatementPart → Lay
 range_lay t l names e body a s =
     let v = given_by (judge_at l s e) in
     wrapped (range_piece l names v (piece_at t l s e) s) (body.lay a (behind s (W.range_slots names v s)))
 
-abbrev pub ranging : Tables → ℕ → RangeNames → Expr → List Part → Part
+abbrev pub ranging : Tables → ℕ → RangeNames → Expr → List StatementPart → StatementPart
 ranging t l names e body = record {
   walk = λ s. W.both (W.range_head l names e s)
       (W.then (W.range_slots names (given_by (judge_at l s e))) (in_loop 2 0 (block body)).walk s);
@@ -132,11 +132,11 @@ ranging t l names e body = record {
       range_lay t l names e (in_loop 2 0 (block body));
 }
 
-abbrev pub header_part : Tables → ℕ → Header → List Part → Part
+abbrev pub header_part : Tables → ℕ → Header → List StatementPart → StatementPart
 header_part t l header.Forever body = forever l (in_loop 1 0 (block body))
 header_part t l (header.While e) body = while t l e (in_loop 1 0 (block body))
 header_part t l (header.Steps first test post) body = steps t l first test post body
 header_part t l (header.Range names e) body = ranging t l names e body
 
-abbrev pub for_part : Tables → ℕ → Header → List Part → Part
+abbrev pub for_part : Tables → ℕ → Header → List StatementPart → StatementPart
 for_part t l h body = in_block (header_part t l h body)

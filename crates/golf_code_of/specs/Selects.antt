@@ -12,9 +12,10 @@ use Rattle.golf_check_types.specs.Statements as W
 use Rattle.golf_check_types.specs.Statements.{Walk, behind, carried}
 use Rattle.golf_code_layout.specs.Piece.{Piece, all, op}
 use Rattle.golf_code_of.specs.declared.tables.Tables.{Tables}
-use Rattle.golf_code_of.specs.Coding.{piece_at}
-use Rattle.golf_code_of.specs.declared.making.Around.{Around}
-use Rattle.golf_code_of.specs.Statements.{Lay, Part, laid, wrapped, past, then_lay, in_order, stores_name, stores_pair}
+use Rattle.golf_code_of.specs.ExpressionCode.{piece_at}
+use Rattle.golf_code_of.specs.declared.surroundings.Around.{Around}
+use Rattle.golf_code_of.specs.Statements.{Lay, StatementPart, laid, wrapped, past, then_lay, in_order, stores_name}
+use Rattle.golf_code_of.specs.Statements.{stores_pair}
 
 -- A clause: its walk, its kind (none for `default`), the code of its operands on the line of `select`, the code after
 -- the choice, and its own line.
@@ -51,28 +52,28 @@ takes_in t l k (comm.DefineReceived n m e) s = stores_pair k t s n m (carried l 
 
 -- Clauses, each in a block of its own, which `break` leaves.
 
-abbrev pub breaking : Part → Part
+abbrev pub breaking : StatementPart → StatementPart
 breaking x = record { walk = W.breaking x.walk; lay = λ a s. x.lay a (record s { breaks = true }) }
 
-abbrev pub communication : Tables → ℕ → ℕ → Communication → Part
+abbrev pub communication : Tables → ℕ → ℕ → Communication → StatementPart
 communication t l k c = record { walk = W.communication l k c; lay = λ a s. laid (takes_in t l k c s) }
 
-abbrev pub case_lay : Tables → ℕ → ℕ → Communication → List Part → Lay
+abbrev pub case_lay : Tables → ℕ → ℕ → Communication → List StatementPart → Lay
 case_lay t l k c body a s = then_lay (communication t l k c).lay (communication t l k c).walk
     (breaking (in_order body)).lay a (begun s)
 
-abbrev pub case_clause : Tables → ℕ → Communication → List Part → ClausePart
+abbrev pub case_clause : Tables → ℕ → Communication → List StatementPart → ClausePart
 case_clause t k c body = record {
-  walk = λ l. W.case_walk l k c (map (λ (x : Part). x.walk) body);
+  walk = λ l. W.case_walk l k c (map (λ (x : StatementPart). x.walk) body);
   kind = Some (kind_of c);
   operands = operands_of t c;
   lay = λ l. case_lay t l k c body;
   line = k;
 }
 
-abbrev pub default_clause : ℕ → List Part → ClausePart
+abbrev pub default_clause : ℕ → List StatementPart → ClausePart
 default_clause k body = record {
-  walk = λ l. W.default_walk (map (λ (x : Part). x.walk) body);
+  walk = λ l. W.default_walk (map (λ (x : StatementPart). x.walk) body);
   kind = None;
   operands = λ l s. Piece.Empty;
   lay = λ l a s. (breaking (in_order body)).lay a (begun s);
@@ -115,7 +116,7 @@ clauses_lay l p (c ∷ cs) a s =
     (behind s (c.walk l s)) in
     record { piece = rest.piece; made = x.made ++ rest.made }
 
-abbrev pub select_part : ℕ → List ClausePart → Part
+abbrev pub select_part : ℕ → List ClausePart → StatementPart
 select_part l cs = record {
   walk = W.in_order (map (λ c. c.walk l) cs);
   lay = λ a s. wrapped Piece.Block (clauses_lay l (choice l cs s) cs a s);

@@ -15,17 +15,17 @@ use Rattle.golf_check_types.specs.declared.operands.Operand.TheVariants as opera
 use Rattle.golf_check_types.specs.declared.scopes.Scope.{Scope}
 use Rattle.golf_check_types.specs.Scopes.{begun}
 use Rattle.golf_check_types.specs.Written.{write_at}
-use Rattle.golf_check_types.specs.Judging.{judge_at}
+use Rattle.golf_check_types.specs.Judgments.{judge_at}
 use Rattle.golf_check_types.specs.Statements as W
 use Rattle.golf_check_types.specs.Statements.{Walk, behind, is_new, assigned_name, carried, one_new}
 use Rattle.golf_code_layout.specs.Piece.{Piece, all, op}
-use Rattle.golf_code_of.specs.declared.making.Around.{Around}
+use Rattle.golf_code_of.specs.declared.surroundings.Around.{Around}
 use Rattle.golf_code_of.specs.declared.tables.Tables.{Tables}
 use Rattle.golf_code_of.specs.Values.{push, zero_value}
 use Rattle.golf_code_of.specs.Expressions.{Made, name}
-use Rattle.golf_code_of.specs.declared.making.Making.{Making}
+use Rattle.golf_code_of.specs.declared.surroundings.Making.{Making}
 use Rattle.golf_code_of.specs.Calls.{pushes, makings, beginning}
-use Rattle.golf_code_of.specs.Coding.{code_at, piece_at, argument_at}
+use Rattle.golf_code_of.specs.ExpressionCode.{code_at, piece_at, argument_at}
 
 -- the code of a statement, and the functions that are made for it
 pub record Laid : Type 0 where
@@ -36,7 +36,7 @@ abbrev pub Lay : Type 0
 Lay = Around → Scope → Laid
 
 -- a statement: its walk, which says what is known after it, and its code
-pub record Part : Type 0 where
+pub record StatementPart : Type 0 where
   pub walk : Walk
   pub lay : Lay
 
@@ -63,28 +63,28 @@ within n a = record a { breaks = a.breaks + n; continues = a.continues + n }
 
 -- Statements put together.
 
-abbrev pub nothing : Part
+abbrev pub nothing : StatementPart
 nothing = record { walk = λ s. W.nothing; lay = λ a s. no_code }
 
 -- one statement and then another; the names that the first declares are known in the second
 abbrev pub then_lay : Lay → Walk → Lay → Lay
 then_lay x w y a s = let first = x a s in follow first (y (past a first) (behind s (w s)))
 
-abbrev pub then : Part → Part → Part
+abbrev pub then : StatementPart → StatementPart → StatementPart
 then x y = record { walk = W.then x.walk y.walk; lay = then_lay x.lay x.walk y.lay }
 
-abbrev pub lay_all : List Part → Lay
+abbrev pub lay_all : List StatementPart → Lay
 lay_all [] a s = no_code
 lay_all (x ∷ xs) a s = then_lay x.lay x.walk (lay_all xs) a s
 
-abbrev pub in_order : List Part → Part
+abbrev pub in_order : List StatementPart → StatementPart
 in_order xs = record { walk = W.in_order (map (λ x. x.walk) xs); lay = lay_all xs }
 
 -- in a block of its own
-abbrev pub in_block : Part → Part
+abbrev pub in_block : StatementPart → StatementPart
 in_block x = record { walk = W.in_block x.walk; lay = λ a s. x.lay a (begun s) }
 
-abbrev pub block : List Part → Part
+abbrev pub block : List StatementPart → StatementPart
 block body = in_block (in_order body)
 
 -- Assigned names: a new name has the next slot, a known name keeps its place, and a value stored in `_` is dropped.
@@ -139,10 +139,10 @@ simple_piece t l (simple.DefineReceived n m e) s =
 simple_piece t l (simple.AssignReceived n m e) s =
     all (piece_at t l s e ∷ op l Instr.ReceiveOk ∷ stores_name l t s m ∷ stores_name l t s n ∷ [])
 
-abbrev pub simple_part : Tables → Simple → Part
+abbrev pub simple_part : Tables → Simple → StatementPart
 simple_part t x = record { walk = W.simple_walk x; lay = λ a s. laid (simple_piece t x.line x.kind s) }
 
-abbrev pub optional : Tables → Option Simple → Part
+abbrev pub optional : Tables → Option Simple → StatementPart
 optional t None = nothing
 optional t (Some x) = simple_part t x
 
@@ -153,7 +153,7 @@ first_value t l (content.Zero of_type) s = op l (push (zero_value (write_at l s 
 first_value t l (content.Typed of_type e) s = piece_at t l s e
 first_value t l (content.Untyped e) s = piece_at t l s e
 
-abbrev pub var_part : Tables → ℕ → List ℕ → VarContent → Part
+abbrev pub var_part : Tables → ℕ → List ℕ → VarContent → StatementPart
 var_part t l n x = record {
   walk = W.var_content l n x;
   lay = λ a s. laid (all (first_value t l x s ∷ op l (Instr.Store s.next) ∷ []));
@@ -167,7 +167,7 @@ begin_lay t l begin f xs a s = record {
   made = makings l (judge_at l s f).meaning (map (argument_at t l s) xs);
 }
 
-abbrev pub begin_part : Tables → ℕ → (ℕ → ℕ → Instr) → Expr → List Expr → Part
+abbrev pub begin_part : Tables → ℕ → (ℕ → ℕ → Instr) → Expr → List Expr → StatementPart
 begin_part t l begin f xs = record { walk = W.begin_call l f xs; lay = begin_lay t l begin f xs }
 
 -- Return, break, continue.
@@ -176,33 +176,33 @@ abbrev pub returns : Tables → ℕ → Option Expr → Scope → Piece
 returns t l None s = op l Instr.Return
 returns t l (Some e) s = all (piece_at t l s e ∷ op l Instr.ReturnValue ∷ [])
 
-abbrev pub return_part : Tables → ℕ → Option Expr → Part
+abbrev pub return_part : Tables → ℕ → Option Expr → StatementPart
 return_part t l e = record { walk = W.returned l e; lay = λ a s. laid (returns t l e s) }
 
-abbrev pub break_part : ℕ → Part
+abbrev pub break_part : ℕ → StatementPart
 break_part l = record { walk = W.break_walk l; lay = λ a s. laid (Piece.Exit l a.breaks) }
 
-abbrev pub continue_part : ℕ → Part
+abbrev pub continue_part : ℕ → StatementPart
 continue_part l = record { walk = W.continue_walk l; lay = λ a s. laid (Piece.Exit l a.continues) }
 
 -- If.
 
 -- a condition and the code after it; if the condition is false, it goes on at target 0
-abbrev pub behind_test : Tables → ℕ → Expr → Part → Part
+abbrev pub behind_test : Tables → ℕ → Expr → StatementPart → StatementPart
 behind_test t l test x = record {
   walk = W.behind_test l test x.walk;
   lay = λ a s. wrapped (λ p. all (piece_at t l s test ∷ Piece.Unless l 0 ∷ p ∷ [])) (x.lay a s);
 }
 
-abbrev pub then_part : Tables → ℕ → Option Simple → Expr → List Part → Part
+abbrev pub then_part : Tables → ℕ → Option Simple → Expr → List StatementPart → StatementPart
 then_part t l first test body = then (optional t first) (behind_test t l test (block body))
 
 -- [first; test; body] end
-abbrev pub ends_here : Part → Part
+abbrev pub ends_here : StatementPart → StatementPart
 ends_here x = record { walk = x.walk; lay = λ a s. wrapped Piece.Block (x.lay (within 1 a) s) }
 
 -- [[first; test; body; to the end] otherwise] end
-abbrev pub or_else_lay : ℕ → Part → Part → Lay
+abbrev pub or_else_lay : ℕ → StatementPart → StatementPart → Lay
 or_else_lay l x y a s =
     let first = x.lay (within 2 a) s in
     let second = y.lay (within 1 (past a first)) (behind s (x.walk s)) in
@@ -211,11 +211,11 @@ or_else_lay l x y a s =
       made = first.made ++ second.made;
     }
 
-abbrev pub or_else : ℕ → Part → Part → Part
+abbrev pub or_else : ℕ → StatementPart → StatementPart → StatementPart
 or_else l x y = record { walk = W.then x.walk y.walk; lay = or_else_lay l x y }
 
-abbrev pub if_part : Tables → ℕ → Option Simple → Expr → List Part → Part
+abbrev pub if_part : Tables → ℕ → Option Simple → Expr → List StatementPart → StatementPart
 if_part t l first test body = in_block (ends_here (then_part t l first test body))
 
-abbrev pub else_part : Tables → ℕ → Option Simple → Expr → List Part → Part → Part
+abbrev pub else_part : Tables → ℕ → Option Simple → Expr → List StatementPart → StatementPart → StatementPart
 else_part t l first test body otherwise = in_block (or_else l (then_part t l first test body) otherwise)

@@ -4,12 +4,12 @@
 //! that code looks up. Each function here has one law of the definitions as its contract.
 #![tactic(auto)]
 
-mod making;
+mod surroundings;
 mod tables;
 
 ghost use Rattle.golf_code_of.specs.Laws.{JudgmentsAgree, WalksAgree};
 
-pub use making::{Around, Making};
+pub use surroundings::{Around, Making};
 pub use tables::{Tables, TextTable};
 
 /// States that code and checker agree about what an expression is.

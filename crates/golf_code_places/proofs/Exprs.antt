@@ -22,8 +22,8 @@ use Rattle.golf_check_types.specs.Written.{write_at, pointer_to, made_base}
 use Rattle.golf_check_types.specs.Expressions.{named, selected_from}
 use Rattle.golf_code_layout.specs.Piece.{Piece, size, all}
 use Rattle.golf_code_of.specs.declared.tables.Tables.{Tables}
-use Rattle.golf_code_of.specs.Calls.{Argument}
-use Rattle.golf_code_of.specs.Coding.{Coded, CodedPut, coded, argument}
+use Rattle.golf_code_of.specs.Calls.{ArgumentCode}
+use Rattle.golf_code_of.specs.ExpressionCode.{Coded, CodedPut, coded, argument}
 use Rattle.golf_code_of.proofs.ExprCodes.{element_coded, element-coded-is, coded_layer, coded-rolls}
 use Rattle.golf_code_places.proofs.Words.{total, separated-length}
 use Rattle.golf_code_places.proofs.Small.{Small, alone, on-name, Beside, all-small, on-struct-literal, on-slice-literal}
@@ -49,7 +49,7 @@ module _ (t : Tables) where
     beside (x ∷ xs) = ((x.1 l s).piece, beside xs)
 
     pushed-are : (xs : List (KnownExpr P))
-        → map (λ (a : Argument). a.piece) (map (argument l s) (map (coded t) (bare_exprs P xs))) ≡ pieces xs
+        → map (λ (a : ArgumentCode). a.piece) (map (argument l s) (map (coded t) (bare_exprs P xs))) ≡ pieces xs
     pushed-are [] = refl
     pushed-are (x ∷ xs) = ap (λ ps. ((coded t x.0).code l s).piece ∷ ps) (pushed-are xs)
 

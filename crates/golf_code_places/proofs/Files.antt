@@ -14,7 +14,7 @@ use Rattle.golf_syntax_trees.specs.declared.declarations.Func.{Func}
 use Rattle.golf_syntax_trees.specs.declared.declarations.Decl.{Decl}
 use Rattle.golf_syntax_trees.specs.declared.declarations.Decl.TheVariants as d
 use Rattle.golf_syntax_trees.specs.declared.declarations.File.{File}
-use Rattle.golf_syntax_trees.specs.Words.{Word, punctuation, keyword, name, separated, closed, Spells}
+use Rattle.golf_syntax_trees.specs.Words.{Word, punctuation, keyword, name, separated, closed, SpellsWords}
 use Rattle.golf_syntax_trees.specs.Types.{print_type}
 use Rattle.golf_syntax_trees.specs.Expressions.{parens, print_expr}
 use Rattle.golf_syntax_trees.specs.Simple.{print_content, optional}
@@ -30,8 +30,8 @@ use Rattle.golf_check_types.specs.Files.{outside, result_type, file_scope, with_
 use Rattle.golf_code_layout.specs.Piece.{size, all}
 use Rattle.golf_code_layout.proofs.Sizes.{placed-size}
 use Rattle.golf_code_of.specs.declared.tables.Tables.{Tables}
-use Rattle.golf_code_of.specs.declared.making.Making.{Making}
-use Rattle.golf_code_of.specs.Laying.{stmt_part}
+use Rattle.golf_code_of.specs.declared.surroundings.Making.{Making}
+use Rattle.golf_code_of.specs.StatementCode.{stmt_part}
 use Rattle.golf_code_of.specs.Files.{function, body_laid, last_return, function_of, functions_from, loads, made_body}
 use Rattle.golf_code_of.specs.Files.{made_function, initial, initials, entry_body, giving, main_number, main_line}
 use Rattle.golf_code_of.specs.Files.{tables_of, code_in, CodeOf}
@@ -202,7 +202,7 @@ bodies-small file = code-small (tables_of file.declarations)
     (file-words file)
 
 -- as many tokens as words
-spelled-length : (ws : List Word) (ts : List Token) → Spells ws ts [] → length ws ≡ length ts
+spelled-length : (ws : List Word) (ts : List Token) → SpellsWords ws ts [] → length ws ≡ length ts
 spelled-length [] ts h = ap length (sym h)
 spelled-length (w ∷ ws) [] h = absurd h
 spelled-length (w ∷ ws) (t ∷ ts) h = ap suc (spelled-length ws ts h.1)

@@ -23,15 +23,15 @@ use Rattle.golf_check_types.specs.declared.operands.Operand.TheVariants as opera
 use Rattle.golf_check_types.specs.declared.scopes.Scope.{Scope}
 use Rattle.golf_check_types.specs.Types.{type_given, given}
 use Rattle.golf_check_types.specs.Scopes.{begun}
-use Rattle.golf_check_types.specs.Judging.{judge_at}
+use Rattle.golf_check_types.specs.Judgments.{judge_at}
 use Rattle.golf_check_types.specs.Statements.{behind, is_new, assigned_name, carried, one_new}
 use Rattle.golf_code_layout.specs.Piece.{Piece, size, op}
 use Rattle.golf_code_of.specs.declared.tables.Tables.{Tables}
-use Rattle.golf_code_of.specs.declared.making.Making.{Making}
-use Rattle.golf_code_of.specs.declared.making.Around.{Around}
-use Rattle.golf_code_of.specs.Calls.{Argument, receiver_base, with_receiver, makings, beginning}
-use Rattle.golf_code_of.specs.Coding.{argument_at}
-use Rattle.golf_code_of.specs.Statements.{Laid, Part, past, within, then, lay_all, in_order, block, stores_to}
+use Rattle.golf_code_of.specs.declared.surroundings.Making.{Making}
+use Rattle.golf_code_of.specs.declared.surroundings.Around.{Around}
+use Rattle.golf_code_of.specs.Calls.{ArgumentCode, receiver_base, with_receiver, makings, beginning}
+use Rattle.golf_code_of.specs.ExpressionCode.{argument_at}
+use Rattle.golf_code_of.specs.Statements.{Laid, StatementPart, past, within, then, lay_all, in_order, block, stores_to}
 use Rattle.golf_code_of.specs.Statements.{stores_name, stores_new, stores_pair, drops, simple_piece, simple_part}
 use Rattle.golf_code_of.specs.Statements.{optional, first_value, var_part, begin_part, return_part, behind_test}
 use Rattle.golf_code_of.specs.Statements.{ends_here, or_else}
@@ -53,17 +53,17 @@ abbrev pub weight : Laid → ℕ
 weight x = size x.piece + parameters x.made
 
 -- at most eight for each of so many words
-abbrev pub Light : ℕ → Part → Type 0
+abbrev pub Light : ℕ → StatementPart → Type 0
 Light n x = (a : Around) (s : Scope) → weight (x.lay a s) ≤ 8 * n
 
-abbrev pub EachLight : List Part → List (List Word) → Type 0
+abbrev pub EachLight : List StatementPart → List (List Word) → Type 0
 EachLight [] ws = Unit {0}
 EachLight (x ∷ xs) [] = ⊥
 EachLight (x ∷ xs) (w ∷ ws) = Light (length w) x × EachLight xs ws
 
 -- Statements put together.
 
-pub light-then : (x y : Part) (n m k : ℕ) → Light n x → Light m y → n + m ≤ k → Light k (then x y)
+pub light-then : (x y : StatementPart) (n m k : ℕ) → Light n x → Light m y → n + m ≤ k → Light k (then x y)
 light-then x y n m k h i more a s =
     let first = x.lay a s in
     let second = y.lay (past a first) (behind s (x.walk s)) in
@@ -72,7 +72,7 @@ light-then x y n m k h i more a s =
     let g = parameters-append first.made second.made in
     omega (arith, e, f, g, more)
 
-pub light-order : (xs : List Part) (ws : List (List Word)) → EachLight xs ws → Light (total ws) (in_order xs)
+pub light-order : (xs : List StatementPart) (ws : List (List Word)) → EachLight xs ws → Light (total ws) (in_order xs)
 light-order [] ws h a s = omega arith
 light-order (x ∷ xs) [] h a s = absurd h
 light-order (x ∷ xs) (w ∷ ws) h a s =
@@ -83,7 +83,7 @@ light-order (x ∷ xs) (w ∷ ws) h a s =
     let g = parameters-append first.made second.made in
     omega (arith, e, f, g)
 
-pub light-block : (xs : List Part) (ws : List (List Word)) → EachLight xs ws → Light (total ws) (block xs)
+pub light-block : (xs : List StatementPart) (ws : List (List Word)) → EachLight xs ws → Light (total ws) (block xs)
 light-block xs ws h a s = light-order xs ws h a (begun s)
 
 -- Simple statements.
@@ -184,16 +184,16 @@ module _ (t : Tables) (l : ℕ) where
   pub light-return : (k : ℕ) → 1 ≤ k → Light k (return_part t l None)
   light-return k more a s = omega (arith, more)
 
-  beside : (xs : List Expr) (s : Scope) → Beside (map (λ (a : Argument). a.piece) (map (argument_at t l s) xs))
+  beside : (xs : List Expr) (s : Scope) → Beside (map (λ (a : ArgumentCode). a.piece) (map (argument_at t l s) xs))
       (map print_expr xs)
   beside [] s = tt
   beside (x ∷ xs) s = ((expr-small t x l s).piece, beside xs s)
 
-  beginning-light : (begin : ℕ → ℕ → Instr) (n : ℕ) (m : Operand) (xs : List Argument)
+  beginning-light : (begin : ℕ → ℕ → Instr) (n : ℕ) (m : Operand) (xs : List ArgumentCode)
       → size (beginning l begin n m xs) + parameters (makings l m xs) ≤ length xs + 2
   beginning-light begin n (operand.BuiltIn b) xs =
-      few (receiver_base b) (map (λ (x : Argument). type_given (given x.meaning)) xs)
-      (length-map xs (λ (x : Argument). type_given (given x.meaning)))
+      few (receiver_base b) (map (λ (x : ArgumentCode). type_given (given x.meaning)) xs)
+      (length-map xs (λ (x : ArgumentCode). type_given (given x.meaning)))
     where
       few : (r : Option Base) (ts : List (Option GoType)) → length ts ≡ length xs
           → 1 + (length (with_receiver r ts) + 0) ≤ length xs + 2
@@ -205,7 +205,7 @@ module _ (t : Tables) (l : ℕ) where
       → length (print_expr f) + (total (map print_expr xs) + length xs) ≤ k → Light k (begin_part t l begin f xs)
   light-begin begin f xs k more a s =
       let h = (expr-small t f l s).piece in
-      let i = all-small (map (λ (x : Argument). x.piece) (map (argument_at t l s) xs)) (map print_expr xs)
+      let i = all-small (map (λ (x : ArgumentCode). x.piece) (map (argument_at t l s) xs)) (map print_expr xs)
       (beside xs s) in
       let e = length-map xs (argument_at t l s) in
       let j = beginning-light begin a.functions (judge_at l s f).meaning (map (argument_at t l s) xs) in
@@ -225,14 +225,16 @@ light-optional t (Some x) n h a s = let i = light-simple t x a s in omega (arith
 
 -- Branches.
 
-pub light-test : (t : Tables) (l : ℕ) (e : Expr) (x : Part) (n k : ℕ) → Light n x → length (print_expr e) + n ≤ k
+pub light-test : (t : Tables) (l : ℕ) (e : Expr) (x : StatementPart) (n k : ℕ) → Light n x
+    → length (print_expr e) + n ≤ k
     → Light k (behind_test t l e x)
 light-test t l e x n k h more a s = let i = (expr-small t e l s).piece in let j = h a s in omega (arith, i, j, more)
 
-pub light-ends : (x : Part) (n : ℕ) → Light n x → Light n (ends_here x)
+pub light-ends : (x : StatementPart) (n : ℕ) → Light n x → Light n (ends_here x)
 light-ends x n h a s = h (within 1 a) s
 
-pub light-or-else : (l : ℕ) (x y : Part) (n m k : ℕ) → Light n x → Light m y → n + m + 1 ≤ k → Light k (or_else l x y)
+pub light-or-else : (l : ℕ) (x y : StatementPart) (n m k : ℕ) → Light n x → Light m y → n + m + 1 ≤ k
+    → Light k (or_else l x y)
 light-or-else l x y n m k h i more a s =
     let first = x.lay (within 2 a) s in
     let second = y.lay (within 1 (past a first)) (behind s (x.walk s)) in

@@ -13,26 +13,27 @@ use Rattle.golf_check_types.specs.declared.scopes.Scope.{Scope}
 use Rattle.golf_check_types.specs.Names.{is_blank}
 use Rattle.golf_check_types.specs.Types.{is_slice}
 use Rattle.golf_check_types.specs.Expressions.{given_by}
-use Rattle.golf_check_types.specs.Judging.{judge_at}
+use Rattle.golf_check_types.specs.Judgments.{judge_at}
 use Rattle.golf_check_types.specs.Statements as W
 use Rattle.golf_check_types.specs.Statements.{behind, is_outer, range_name, int_type}
 use Rattle.golf_code_layout.specs.Piece.{Piece, size, all, op}
 use Rattle.golf_code_of.specs.declared.tables.Tables.{Tables}
-use Rattle.golf_code_of.specs.Coding.{piece_at}
-use Rattle.golf_code_of.specs.Statements.{Part, past, block}
+use Rattle.golf_code_of.specs.ExpressionCode.{piece_at}
+use Rattle.golf_code_of.specs.Statements.{StatementPart, past, block}
 use Rattle.golf_code_of.specs.Loops.{in_loop, forever, while, optional_test, stepping, slice_names, over_slice}
 use Rattle.golf_code_of.specs.Loops.{channel_name, over_channel, behind_hidden, range_piece, ranging}
 use Rattle.golf_code_places.proofs.Exprs.{expr-small}
 use Rattle.golf_code_places.proofs.Light.{Light}
 
-pub light-loop : (breaks continues : ℕ) (x : Part) (n : ℕ) → Light n x → Light n (in_loop breaks continues x)
+pub light-loop : (breaks continues : ℕ) (x : StatementPart) (n : ℕ) → Light n x → Light n (in_loop breaks continues x)
 light-loop breaks continues x n h a s = h (record { breaks = breaks; continues = continues; functions = a.functions })
     (record s { breaks = true; loops = true })
 
-pub light-forever : (l : ℕ) (x : Part) (n k : ℕ) → Light n x → n + 1 ≤ k → Light k (forever l x)
+pub light-forever : (l : ℕ) (x : StatementPart) (n k : ℕ) → Light n x → n + 1 ≤ k → Light k (forever l x)
 light-forever l x n k h more a s = let i = h a s in omega (arith, i, more)
 
-pub light-while : (t : Tables) (l : ℕ) (e : Expr) (x : Part) (n k : ℕ) → Light n x → length (print_expr e) + n + 1 ≤ k
+pub light-while : (t : Tables) (l : ℕ) (e : Expr) (x : StatementPart) (n k : ℕ) → Light n x
+    → length (print_expr e) + n + 1 ≤ k
     → Light k (while t l e x)
 light-while t l e x n k h more a s = let i = (expr-small t e l s).piece in let j = h a s in omega (arith, i, j, more)
 
@@ -45,7 +46,8 @@ test-light t l None s = omega arith
 test-light t l (Some e) s = let h = (expr-small t e l s).piece in omega (arith, h)
 
 -- the post statement makes no function
-pub light-stepping : (t : Tables) (l : ℕ) (o : Option Expr) (post x : Part) (n m k : ℕ) → Light n post → Light m x
+pub light-stepping : (t : Tables) (l : ℕ) (o : Option Expr) (post x : StatementPart) (n m k : ℕ) → Light n post
+    → Light m x
     → test_words o + n + m + 1 ≤ k → Light k (stepping t l o post x)
 light-stepping t l o post x n m k h i more a s =
     let p = post.lay a s in
@@ -86,7 +88,8 @@ range-light l names v e s body =
     (over_channel l s.next e (channel_name l names (behind_hidden v s)) body) _ (omega (arith, f))
     (omega (arith, g))
 
-pub light-range : (t : Tables) (l : ℕ) (names : RangeNames) (e : Expr) (xs : List Part) (n k : ℕ) → Light n (block xs)
+pub light-range : (t : Tables) (l : ℕ) (names : RangeNames) (e : Expr) (xs : List StatementPart) (n k : ℕ)
+    → Light n (block xs)
     → length (print_expr e) + n + 3 ≤ k → Light k (ranging t l names e xs)
 light-range t l names e xs n k h more a s =
     let v = given_by (judge_at l s e) in

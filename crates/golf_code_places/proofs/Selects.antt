@@ -14,8 +14,8 @@ use Rattle.golf_check_types.specs.Scopes.{begun}
 use Rattle.golf_check_types.specs.Statements.{behind, carried}
 use Rattle.golf_code_layout.specs.Piece.{Piece, size, all}
 use Rattle.golf_code_of.specs.declared.tables.Tables.{Tables}
-use Rattle.golf_code_of.specs.declared.making.Around.{Around}
-use Rattle.golf_code_of.specs.Statements.{Part, past, in_order}
+use Rattle.golf_code_of.specs.declared.surroundings.Around.{Around}
+use Rattle.golf_code_of.specs.Statements.{StatementPart, past, in_order}
 use Rattle.golf_code_of.specs.Selects.{ClausePart, operands_of, takes_in, communication, breaking, case_clause}
 use Rattle.golf_code_of.specs.Selects.{default_clause, choice, in_clause, clauses_lay, select_part}
 use Rattle.golf_code_places.proofs.Words.{clause_total, clauses_total}
@@ -48,7 +48,7 @@ takes-light t l k (comm.Assign n e) s = let h = store-name t k s n in omega (ari
 takes-light t l k (comm.DefineReceived n m e) s = store-pair t k s n m (carried l e s)
 takes-light t l k _ s = omega arith
 
-pub light-case : (t : Tables) (k : ℕ) (c : Communication) (xs : List Part) (n m : ℕ) → Light n (in_order xs)
+pub light-case : (t : Tables) (k : ℕ) (c : Communication) (xs : List StatementPart) (n m : ℕ) → Light n (in_order xs)
     → length (print_comm c) + n + 2 ≤ m → ClauseLight m (case_clause t k c xs)
 light-case t k c xs n m h more l a s at =
     let o = operands-light t c l at in
@@ -59,7 +59,7 @@ light-case t k c xs n m h more l a s at =
     let f = h (past a first) (record inside { breaks = true }) in
     omega (arith, o, e, f, more)
 
-pub light-default : (k : ℕ) (xs : List Part) (n m : ℕ) → Light n (in_order xs) → n + 1 ≤ m
+pub light-default : (k : ℕ) (xs : List StatementPart) (n m : ℕ) → Light n (in_order xs) → n + 1 ≤ m
     → ClauseLight m (default_clause k xs)
 light-default k xs n m h more l a s at = let f = h a (record (begun s) { breaks = true }) in omega (arith, f, more)
 

@@ -23,7 +23,7 @@ use Rattle.golf_code_of.specs.declared.tables.Tables.{Tables}
 use Rattle.golf_code_of.specs.Expressions.{Made, only, variable, name, puts, struct_literal, new_sync, elements}
 use Rattle.golf_code_of.specs.Expressions.{slice_literal, selector, index, unary_operator, binary_piece}
 use Rattle.golf_code_of.specs.Expressions.{binary_operator}
-use Rattle.golf_code_of.specs.Calls.{Argument, operation, calling, pushes, finaliser, finalising, call}
+use Rattle.golf_code_of.specs.Calls.{ArgumentCode, operation, calling, pushes, finaliser, finalising, call}
 use Rattle.golf_code_places.proofs.Words.{total}
 
 -- With room for two instructions more: the code that pushes a value, and all that there is of a place.
@@ -177,7 +177,7 @@ finaliser-small l (operand.Package q) = omega arith
 finaliser-small l (operand.Struct k) = omega arith
 finaliser-small l operand.TypeName = omega arith
 
-finalising-small : (l : ℕ) (xs : List Argument) → size (finalising l xs) ≤ size (pushes xs) + 1
+finalising-small : (l : ℕ) (xs : List ArgumentCode) → size (finalising l xs) ≤ size (pushes xs) + 1
 finalising-small l [] = omega arith
 finalising-small l (x ∷ []) = omega arith
 finalising-small l (x ∷ (y ∷ ys)) = let e = finaliser-small l y.meaning in omega (arith, e)
@@ -186,7 +186,7 @@ either-small : (b : Bool) (p q : Piece) (k : ℕ) → size p ≤ k → size q �
 either-small true p q k h i = h
 either-small false p q k h i = i
 
-pub on-call : (l : ℕ) (m : Operand) (r : Made) (xs : List Argument) (ws : List (List Word)) (n k : ℕ) → Small n r
+pub on-call : (l : ℕ) (m : Operand) (r : Made) (xs : List ArgumentCode) (ws : List (List Word)) (n k : ℕ) → Small n r
     → size (pushes xs) ≤ 8 * total ws → n + total ws + 1 ≤ k → Small k (call l m r.piece xs)
 on-call l m r xs ws n k h args more =
     let c = calling-small l m (length xs) in

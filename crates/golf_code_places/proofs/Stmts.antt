@@ -27,9 +27,9 @@ use Rattle.golf_syntax_trees.specs.Statements.{print_call, ClauseWords, print_bl
 use Rattle.golf_syntax_trees.specs.Statements.{print_stmt, print_clause}
 use Rattle.golf_check_types.specs.Scopes.{begun}
 use Rattle.golf_code_of.specs.declared.tables.Tables.{Tables}
-use Rattle.golf_code_of.specs.Statements.{Part, block, in_order, in_block, optional, behind_test, then}
+use Rattle.golf_code_of.specs.Statements.{StatementPart, block, in_order, in_block, optional, behind_test, then}
 use Rattle.golf_code_of.specs.Loops.{header_part, in_loop, stepping}
-use Rattle.golf_code_of.specs.Laying.{stmt_part, clause_part}
+use Rattle.golf_code_of.specs.StatementCode.{stmt_part, clause_part}
 use Rattle.golf_code_of.proofs.StmtCodes.{part_layer, clause_layer, part-rolls, clause-rolls}
 use Rattle.golf_code_places.proofs.Words.{total, line-length, separated-length, separated-total, clause_total}
 use Rattle.golf_code_places.proofs.Words.{clauses-length}
@@ -81,7 +81,7 @@ module _ (t : Tables) where
   abbrev P : Stmt → Type 0
   P x = Light (length (print_stmt x)) (stmt_part t x)
 
-  abbrev parts : List (KnownStmt P) → List Part
+  abbrev parts : List (KnownStmt P) → List StatementPart
   parts xs = map (stmt_part t) (bare_stmts P xs)
 
   abbrev texts : List (KnownStmt P) → List (List Word)
@@ -133,7 +133,7 @@ module _ (t : Tables) where
       light-range t l names e (parts xs) (total (texts xs)) k (body xs) (omega (arith, w, more)) a (begun s)
 
   -- an `if` up to the end of its body
-  abbrev front : ℕ → Option Simple → Expr → List (KnownStmt P) → Part
+  abbrev front : ℕ → Option Simple → Expr → List (KnownStmt P) → StatementPart
   front l first test xs = then (optional t first) (behind_test t l test (block (parts xs)))
 
   abbrev front-words : Option Simple → Expr → List (KnownStmt P) → ℕ

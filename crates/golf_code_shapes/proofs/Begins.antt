@@ -1,5 +1,5 @@
 -- The code of `go` and `defer` leads on, and the functions that are made for it take what they are given.
--- For: `statements_fit`, src/lib.rt; `MadeFit`, specs/Flowing.antt
+-- For: `statements_fit`, src/lib.rt; `MadeFit`, specs/StatementFlow.antt
 -- By: induction over the list of arguments; cases of the callee
 use Rattle.std.proofs.Common.{◌≡◌, ℕ, ◌+◌, true, List, [], ◌∷◌, ◌++◌, map, length, Option, Some, None, refl, sym, ap}
 use Rattle.std.proofs.Common.{◌∙◌, subst, slice_get, arith}
@@ -24,7 +24,7 @@ use Rattle.golf_check_types.specs.Types.{plain, given, type_given, has_layer, ta
 use Rattle.golf_check_types.specs.Expressions.{Judged, used, named_or_used, given_by}
 use Rattle.golf_check_types.specs.Calls.{argument_faults, same_number, parameter_faults, called_with, call_judged}
 use Rattle.golf_check_types.specs.Calls.{built_in_faults, all_first}
-use Rattle.golf_check_types.specs.Judging.{Judge, judge, judge_at}
+use Rattle.golf_check_types.specs.Judgments.{Judge, judge, judge_at}
 use Rattle.golf_check_types.specs.Statements as W
 use Rattle.golf_check_types.specs.Statements.{done_faults, may_be_begun}
 use Rattle.golf_model_typing.specs.Types.{ValueType, Shape, Signature, FunctionTypes, Types}
@@ -34,14 +34,15 @@ use Rattle.golf_code_shapes.specs.Has.{shape, filled}
 use Rattle.golf_code_shapes.proofs.Pieces.{has-empty, has-op, has-then}
 use Rattle.golf_code_of.specs.declared.tables.Tables.{Tables}
 use Rattle.golf_code_of.specs.Expressions.{Made}
-use Rattle.golf_code_of.specs.Calls.{Argument, pushes, receiver_base, with_receiver, begun_parameters, makings}
+use Rattle.golf_code_of.specs.Calls.{ArgumentCode, pushes, receiver_base, with_receiver, begun_parameters, makings}
 use Rattle.golf_code_of.specs.Calls.{beginning}
-use Rattle.golf_code_of.specs.Coding.{code_at, piece_at, argument_at}
+use Rattle.golf_code_of.specs.ExpressionCode.{code_at, piece_at, argument_at}
 use Rattle.golf_code_of.proofs.Judgments.{agree}
 use Rattle.golf_code_of.specs.Statements.{begin_part}
 use Rattle.golf_code_shapes.specs.Types.{base_type, value_type, known_type, known_types}
-use Rattle.golf_code_shapes.specs.Sound.{ScopeFits, Shown, Gives, Callee, Turns, Pushes, Silent, Receives}
-use Rattle.golf_code_shapes.specs.Flowing.{IsMaking, MadeFit}
+use Rattle.golf_code_shapes.specs.Sound.{ScopeFits, Shown, PushesGiven, Callee, TurnsOperands, Pushes, Silent}
+use Rattle.golf_code_shapes.specs.Sound.{PushesReceiver}
+use Rattle.golf_code_shapes.specs.StatementFlow.{IsMaking, MadeFit}
 use Rattle.golf_code_shapes.proofs.Typings.{none-left, none-right, kept, sent-on, assigned-value}
 use Rattle.golf_code_shapes.proofs.Literals.{Arg, judgeds, arg-gives}
 use Rattle.golf_code_shapes.proofs.CallShapes.{arguments, Passes, Taken, passed, parts, one-passed, file-taken}
@@ -64,7 +65,7 @@ module _ (types : Types) (t : Tables) (ft : FunctionTypes) (l : ℕ) (s : Scope)
   js-are [] = refl
   js-are (x ∷ xs) = ap (λ js. judge x l s ∷ js) (js-are xs)
 
-  argument_of : Expr → Judge → Argument
+  argument_of : Expr → Judge → ArgumentCode
   argument_of e j = record { meaning = (j l s).meaning; piece = piece_at t l s e }
 
   pub arguments-are : (xs : List Expr) → arguments types t ft A s (args xs) ≡ map (argument_at t l s) xs
@@ -78,14 +79,14 @@ module _ (types : Types) (t : Tables) (ft : FunctionTypes) (A : List ℕ) (s : S
   Js xs = judgeds types t ft A s xs
 
   -- a value has the type of its parameter; for nil that of an unknown one
-  typed-value : (g : Given) (p : Piece) → Gives types t ft A s.file g p
+  typed-value : (g : Given) (p : Piece) → PushesGiven types t ft A s.file g p
       → Pushes types ft A p (known_type (type_given g))
   typed-value (given_as.Typed e) p h = h
   typed-value given_as.Nil p h = h ValueType.Mutex tt
   typed-value given_as.Unknown p h = absurd h
 
   abbrev typed_args : List (Arg types t ft A s) → List (Option GoType)
-  typed_args xs = map (λ (x : Argument). type_given (given x.meaning)) (arguments types t ft A s xs)
+  typed_args xs = map (λ (x : ArgumentCode). type_given (given x.meaning)) (arguments types t ft A s xs)
 
   all-typed : (l : ℕ) (xs : List (Arg types t ft A s)) → flat_map (used l) (Js xs) ≡ []
       → Passes types t ft A s (pushes (arguments types t ft A s xs)) (known_types (typed_args xs))
@@ -115,13 +116,13 @@ module _ (types : Types) (t : Tables) (ft : FunctionTypes) (A : List ℕ) (s : S
 
     -- a built-in operation: the function that is made has the types of receiver and arguments
     begins-made : (l next : ℕ) (b : BuiltIn) (receiver : Piece) (xs : List (Arg types t ft A s))
-        → flat_map (used l) (Js xs) ≡ [] → Receives types ft A (receiver_base b) receiver
+        → flat_map (used l) (Js xs) ≡ [] → PushesReceiver types ft A (receiver_base b) receiver
         → MadeFit types next (makings l (operand.BuiltIn b) (arguments types t ft A s xs))
         → Silent types ft A (all (receiver ∷ pushes (arguments types t ft A s xs)
         ∷ op l (begin next (length (begun_parameters b (arguments types t ft A s xs)))) ∷ []))
     begins-made l next b receiver xs u h made = by-receiver (receiver_base b) h made.0
       where
-        by-receiver : (o : Option Base) → Receives types ft A o receiver → (callee : Signature)
+        by-receiver : (o : Option Base) → PushesReceiver types ft A o receiver → (callee : Signature)
             × (slice_get types.functions next ≡ Some callee)
             × (callee.params ≡ known_types (with_receiver o (typed_args xs)))
             → Silent types ft A (all (receiver ∷ pushes (arguments types t ft A s xs)
@@ -153,7 +154,7 @@ module _ (types : Types) (t : Tables) (ft : FunctionTypes) (A : List ℕ) (s : S
         (xs : List (Arg types t ft A s)) → ((ts ops : List ValueType)
         → pushed (below ++ ts) ops ≡ pushed ts (below ++ ops)) → n ≡ length (below ++ known_types c.0.parameters)
         → Passes types t ft A s (pushes (arguments types t ft A s xs)) (known_types c.0.parameters)
-        → Turns types ft A receiver [] below
+        → TurnsOperands types ft A receiver [] below
         → Silent types ft A (all (receiver ∷ pushes (arguments types t ft A s xs) ∷ op l (begin (k + 1) n) ∷ []))
     file-begins l k n below c receiver xs stand count pass hr =
         begins l (k + 1) n receiver (pushes (arguments types t ft A s xs))
@@ -227,13 +228,15 @@ module _ (types : Types) (t : Tables) (ft : FunctionTypes) (A : List ℕ) (s : S
       (omega (arith, eqb-true 0 (length (map given_by (Js (x ∷ xs)))) e))
 
   -- the type of a channel that can be closed
-  typed-channel : (g : Given) (p : Piece) → has_layer takes g ≡ true → Gives types t ft A s.file g p → (e : ValueType)
+  typed-channel : (g : Given) (p : Piece) → has_layer takes g ≡ true → PushesGiven types t ft A s.file g p
+      → (e : ValueType)
       × (known_type (type_given g) ≡ ValueType.Chan e)
   typed-channel (given_as.Typed a) p fit h = let c = sent-on a.layers a.base fit in (value_type c.0, c.2)
   typed-channel given_as.Nil p fit h = cc
   typed-channel given_as.Unknown p fit h = absurd h
 
-  typed-int : (g : Given) (p : Piece) → assignable g (Some (plain base.Int)) ≡ true → Gives types t ft A s.file g p
+  typed-int : (g : Given) (p : Piece) → assignable g (Some (plain base.Int)) ≡ true
+      → PushesGiven types t ft A s.file g p
       → known_type (type_given g) ≡ ValueType.Int
   typed-int (given_as.Typed a) p fit h = assigned-value a (plain base.Int) fit
   typed-int given_as.Nil p fit h = cc

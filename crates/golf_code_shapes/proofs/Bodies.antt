@@ -1,5 +1,5 @@
 -- Bodies that end fit their types.
--- For: `bodies_fit`, src/lib.rt; `Ends`, specs/Has.antt
+-- For: `bodies_fit`, src/lib.rt; `StopsAfter`, specs/Has.antt
 -- By: cases of how a body ends; induction over the list of lines of code
 use Rattle.std.proofs.Common.{◌≡◌, ℕ, zero, suc, ◌+◌, ◌<◌, List, [], ◌∷◌, ◌++◌, Option, Some, refl, ap, ◌∙◌, sym, subst}
 use Rattle.std.proofs.Common.{slice_get, arith, length, length-append}
@@ -11,14 +11,14 @@ use Rattle.golf_model_typing.specs.Types.{Shape, FunctionTypes, Types, with_shap
 use Rattle.golf_model_typing.specs.Shapes.{InstructionFits}
 use Rattle.golf_code_layout.specs.Piece.{Piece, size, placed}
 use Rattle.golf_code_layout.proofs.Sizes.{placed-size}
-use Rattle.golf_code_shapes.specs.Has.{filled, Stand, Fit, Has, Ends}
+use Rattle.golf_code_shapes.specs.Has.{filled, ShapesStand, Fit, Has, StopsAfter}
 use Rattle.golf_code_shapes.specs.LayoutLaws.{BodiesFit}
 use Rattle.golf_code_shapes.proofs.Pieces.{stand-left, stand-right, fit-append, stands-to}
 
 module _ (types : Types) (ft : FunctionTypes) where
   pub ends-op : (i : Instr) (line : ℕ) (from : Shape)
       → ((full : List Shape) (k : ℕ) → InstructionFits types (filled ft full) k i from)
-      → Ends types ft (Piece.Op i line) from
+      → StopsAfter types ft (Piece.Op i line) from
   ends-op i line from r = record {
     shapes = from ∷ [];
     long = refl;
@@ -27,8 +27,8 @@ module _ (types : Types) (ft : FunctionTypes) where
   }
 
   -- a piece, and one that ends
-  pub ends-then : (p q : Piece) (from mid : Shape) → Has types ft p from mid [] → Ends types ft q mid
-      → Ends types ft (Piece.Then p q) from
+  pub ends-then : (p q : Piece) (from mid : Shape) → Has types ft p from mid [] → StopsAfter types ft q mid
+      → StopsAfter types ft (Piece.Then p q) from
   ends-then p q from mid hp hq = record {
     shapes = hp.shapes ++ hq.shapes;
     long = (let e = length-append hp.shapes hq.shapes in let f = hp.long in let g = hq.long in omega (arith, e, f, g));
@@ -42,11 +42,13 @@ module _ (types : Types) (ft : FunctionTypes) where
         (hq.enters full (at + size p) (right full at st)) tt) (hq.fits full (at + size p) (right full at st));
   }
     where
-      right : (full : List Shape) (at : ℕ) → Stand full at (hp.shapes ++ hq.shapes) → Stand full (at + size p) hq.shapes
+      right : (full : List Shape) (at : ℕ) → ShapesStand full at (hp.shapes ++ hq.shapes)
+          → ShapesStand full (at + size p) hq.shapes
       right full at st = let f = hp.long in stand-right full at (at + size p) hp.shapes hq.shapes (omega (arith, f)) st
 
   -- nothing stands after it
-  pub ends-last : (p : Piece) (from : Shape) → Ends types ft p from → Ends types ft (Piece.Then p Piece.Empty) from
+  pub ends-last : (p : Piece) (from : Shape) → StopsAfter types ft p from
+      → StopsAfter types ft (Piece.Then p Piece.Empty) from
   ends-last p from h = record {
     shapes = h.shapes;
     long = (let e = h.long in omega (arith, e));
@@ -55,11 +57,11 @@ module _ (types : Types) (ft : FunctionTypes) where
         (placed p at []) [] (omega (arith, s)) (h.fits full at st) tt;
   }
 
-stand-whole : (xs ys : List Shape) (n : ℕ) → n ≡ length xs → Stand (xs ++ ys) n ys
+stand-whole : (xs ys : List Shape) (n : ℕ) → n ≡ length xs → ShapesStand (xs ++ ys) n ys
 stand-whole xs [] n e = tt
 stand-whole xs (y ∷ ys) n e = (
   at-length xs y ys n e,
-  subst (λ zs. Stand zs (n + 1) ys) (seam xs y ys)
+  subst (λ zs. ShapesStand zs (n + 1) ys) (seam xs y ys)
       (stand-whole (xs ++ y ∷ []) ys (n + 1) (let f = length-append xs (y ∷ []) in omega (arith, e, f))),
 )
   where
@@ -106,7 +108,7 @@ pub bodies-fit : BodiesFit
 bodies-fit types sig p assigned fn h params slots body =
     let ft = with_shapes sig [] in
     let full = h.shapes in
-    let stand : Stand full 0 full = stand-whole [] full 0 refl in
+    let stand : ShapesStand full 0 full = stand-whole [] full 0 refl in
     let begins = h.enters full 0 stand in
     let fits = h.fits full 0 stand in
     let long = h.long in

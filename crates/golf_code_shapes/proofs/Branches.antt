@@ -1,5 +1,5 @@
 -- The code of conditions, `if` and loops without `range` leads on.
--- For: `statements_fit`, src/lib.rt; `WaysFit`, specs/Flowing.antt
+-- For: `statements_fit`, src/lib.rt; `WaysFit`, specs/StatementFlow.antt
 -- By: putting the shapes of the parts together; no induction
 use Rattle.std.proofs.Common.{◌≡◌, ℕ, suc, ◌+◌, true, List, [], ◌∷◌, ◌++◌, length, Option, Some, None, refl, sym, ap}
 use Rattle.std.proofs.Common.{◌∙◌, subst, slice_get, arith, append_assoc}
@@ -10,7 +10,7 @@ use Rattle.golf_check_types.specs.declared.types.Base.TheVariants as base
 use Rattle.golf_check_types.specs.declared.scopes.Scope.{Scope}
 use Rattle.golf_check_types.specs.Expressions.{used, given_by}
 use Rattle.golf_check_types.specs.Scopes.{begun}
-use Rattle.golf_check_types.specs.Judging.{judge}
+use Rattle.golf_check_types.specs.Judgments.{judge}
 use Rattle.golf_check_types.specs.declared.locals.Local.{Local}
 use Rattle.golf_check_types.specs.declared.facts.Fact.{Fact}
 use Rattle.golf_check_types.specs.Faults.{Fault}
@@ -22,13 +22,14 @@ use Rattle.golf_code_shapes.specs.Has.{shape, Has, Reaches}
 use Rattle.golf_code_shapes.proofs.Pieces.{every-self, has-empty, has-then, has-weaker, has-exit, has-unless, has-block}
 use Rattle.golf_code_shapes.proofs.Pieces.{has-again}
 use Rattle.golf_code_of.specs.declared.tables.Tables.{Tables}
-use Rattle.golf_code_of.specs.Coding.{piece_at}
-use Rattle.golf_code_of.specs.declared.making.Around.{Around}
-use Rattle.golf_code_of.specs.Statements.{Part, laid, within, past, then, in_block, behind_test, ends_here, or_else}
+use Rattle.golf_code_of.specs.ExpressionCode.{piece_at}
+use Rattle.golf_code_of.specs.declared.surroundings.Around.{Around}
+use Rattle.golf_code_of.specs.Statements.{StatementPart, laid, within, past, then, in_block, behind_test, ends_here}
+use Rattle.golf_code_of.specs.Statements.{or_else}
 use Rattle.golf_code_of.specs.Statements.{break_part, continue_part}
 use Rattle.golf_code_of.specs.Loops.{in_loop, forever, while, optional_test, stepping}
 use Rattle.golf_code_shapes.specs.Sound.{LocalFits, ScopeFits, Pushes}
-use Rattle.golf_code_shapes.specs.Flowing.{IsMaking, Slotted, MadeFit, WaysFit, Moves, SimpleFits}
+use Rattle.golf_code_shapes.specs.StatementFlow.{IsMaking, Slotted, MadeFit, WaysFit, Moves, SimpleFits}
 use Rattle.golf_code_shapes.proofs.Typings.{none-left, none-right, kept}
 use Rattle.golf_code_shapes.proofs.Names.{based}
 use Rattle.golf_code_shapes.proofs.Flows.{Right, reaches-wider, slotted-left, slotted-right, made-left, made-right}
@@ -36,7 +37,7 @@ use Rattle.golf_code_shapes.proofs.Flows.{quiet, scope-quiet}
 use Rattle.golf_code_shapes.proofs.Simples.{value-of}
 
 -- a simple statement as a part
-abbrev pub simply : Walk → (Scope → Piece) → Part
+abbrev pub simply : Walk → (Scope → Piece) → StatementPart
 simply w p = record { walk = w; lay = λ a s. laid (p s) }
 
 pub further : (A : List ℕ) (exits : List Shape) (x : Shape) (k : ℕ) → Reaches exits [] A k
@@ -74,7 +75,7 @@ module _ (types : Types) (t : Tables) (ft : FunctionTypes) where
   abbrev Fits : List ℕ → Scope → Type 0
   Fits = ScopeFits types t ft
 
-  abbrev Calm : Part → Type 0
+  abbrev Calm : StatementPart → Type 0
   Calm x = (s : Scope) → (x.walk s).declares ≡ []
 
   tests : (l : ℕ) (e : Expr) (s : Scope) (A : List ℕ) → Fits A s → (W.condition l e s).faults ≡ []
@@ -94,7 +95,8 @@ module _ (types : Types) (t : Tables) (ft : FunctionTypes) where
       (has-then types ft q Piece.Empty sh sh sh exits hq (has-empty types ft sh exits)))
 
   -- what a part does that declares nothing, if more slots after it are not asked for
-  calm-has : (x : Part) → Right types t ft x → (a : Around) (s : Scope) (A : List ℕ) (exits : List Shape) → Fits A s
+  calm-has : (x : StatementPart) → Right types t ft x → (a : Around) (s : Scope) (A : List ℕ) (exits : List Shape)
+      → Fits A s
       → WaysFit A exits s a → Slotted ft s.next (x.walk s).slots → MadeFit types a.functions (x.lay a s).made
       → (x.walk s).faults ≡ []
       → Has types ft (x.lay a s).piece (shape [] A) (shape [] A) exits × Every IsMaking (x.lay a s).made
@@ -117,9 +119,10 @@ module _ (types : Types) (t : Tables) (ft : FunctionTypes) where
   }
 
   -- A simple statement, a test, and a body after it.
-  module _ (w : Walk) (p : Scope → Piece) (simple : SimpleFits types t ft w p) (l : ℕ) (test : Expr) (body : Part)
+  module _ (w : Walk) (p : Scope → Piece) (simple : SimpleFits types t ft w p) (l : ℕ) (test : Expr)
+      (body : StatementPart)
       (calm : Calm body) (right : Right types t ft body) where
-    abbrev First : Part
+    abbrev First : StatementPart
     First = then (simply w p) (behind_test t l test body)
 
     abbrev Inner : Walk
@@ -177,7 +180,7 @@ module _ (types : Types) (t : Tables) (ft : FunctionTypes) where
         )
 
     -- `if` with `else`
-    pub right-or-else : (y : Part) → Right types t ft y → Right types t ft (in_block (or_else l First y))
+    pub right-or-else : (y : StatementPart) → Right types t ft y → Right types t ft (in_block (or_else l First y))
     right-or-else y right-y a s A exits ok ways slots made none =
         let r = begun s in
         let k : Fits A r = record { file = ok.file; locals = ok.locals; result = ok.result } in
@@ -214,7 +217,8 @@ module _ (types : Types) (t : Tables) (ft : FunctionTypes) where
   -- loops
 
   -- the body of a loop stands in this scope, and `break` and `continue` leave it by these targets
-  pub record Loops (x : Part) (b c : ℕ) (a : Around) (s : Scope) (A : List ℕ) (exits : List Shape) : Type 0 where
+  pub record Loops (x : StatementPart) (b c : ℕ) (a : Around) (s : Scope) (A : List ℕ)
+      (exits : List Shape) : Type 0 where
     pub fits : Fits A s
     pub breaks : Reaches exits [] A b
     pub continues : Reaches exits [] A c
@@ -223,7 +227,7 @@ module _ (types : Types) (t : Tables) (ft : FunctionTypes) where
     pub none : ((in_loop b c x).walk s).faults ≡ []
 
   -- a loop without a step behind its body
-  bare : {x : Part} {a : Around} {s : Scope} (A : List ℕ) (exits : List Shape) → Fits A s
+  bare : {x : StatementPart} {a : Around} {s : Scope} (A : List ℕ) (exits : List Shape) → Fits A s
       → Slotted ft s.next ((in_loop 1 0 x).walk s).slots → MadeFit types a.functions ((in_loop 1 0 x).lay a s).made
       → ((in_loop 1 0 x).walk s).faults ≡ [] → Loops x 1 0 a s A (shape [] A ∷ shape [] A ∷ exits)
   bare A exits ok slots made none = record {
@@ -235,7 +239,8 @@ module _ (types : Types) (t : Tables) (ft : FunctionTypes) where
     none = none;
   }
 
-  pub looped : (x : Part) → Right types t ft x → (b c : ℕ) (a : Around) (s : Scope) (A : List ℕ) (exits : List Shape)
+  pub looped : (x : StatementPart) → Right types t ft x
+      → (b c : ℕ) (a : Around) (s : Scope) (A : List ℕ) (exits : List Shape)
       → Loops x b c a s A exits
       → Has types ft ((in_loop b c x).lay a s).piece (shape [] A) (shape [] A) exits
       × Every IsMaking ((in_loop b c x).lay a s).made
@@ -245,7 +250,8 @@ module _ (types : Types) (t : Tables) (ft : FunctionTypes) where
       (record { file = is.fits.file; locals = is.fits.locals; result = is.fits.result })
       (record { breaks = λ e. is.breaks; continues = λ e. is.continues }) is.slots is.made is.none
 
-  pub right-forever : (l : ℕ) (x : Part) → Calm x → Right types t ft x → Right types t ft (forever l (in_loop 1 0 x))
+  pub right-forever : (l : ℕ) (x : StatementPart) → Calm x → Right types t ft x
+      → Right types t ft (forever l (in_loop 1 0 x))
   right-forever l x calm h a s A exits ok ways slots made none =
       let sh = shape [] A in
       let E : List Shape = sh ∷ sh ∷ exits in
@@ -259,7 +265,7 @@ module _ (types : Types) (t : Tables) (ft : FunctionTypes) where
         b.1,
       )
 
-  pub right-while : (l : ℕ) (test : Expr) (x : Part) → Calm x → Right types t ft x
+  pub right-while : (l : ℕ) (test : Expr) (x : StatementPart) → Calm x → Right types t ft x
       → Right types t ft (while t l test (in_loop 1 0 x))
   right-while l test x calm h a s A exits ok ways slots made none =
       let sh = shape [] A in
@@ -301,7 +307,7 @@ module _ (types : Types) (t : Tables) (ft : FunctionTypes) where
 
   -- test, body, post statement
   pub right-stepping : (l : ℕ) (test : Option Expr) (w : Walk) (p : Scope → Piece) → SimpleFits types t ft w p
-      → ((s : Scope) → (w s).declares ≡ []) → (x : Part) → Calm x → Right types t ft x
+      → ((s : Scope) → (w s).declares ≡ []) → (x : StatementPart) → Calm x → Right types t ft x
       → Right types t ft (stepping t l test (simply w p) (in_loop 2 0 x))
   right-stepping l test w p simple quiet-post x calm h a s A exits ok ways slots made none =
       let o = W.optional_test l test s in

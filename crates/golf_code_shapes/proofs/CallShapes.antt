@@ -35,9 +35,9 @@ use Rattle.golf_code_shapes.specs.Has.{shape, filled, To, Has}
 use Rattle.golf_code_shapes.proofs.Pieces.{has-empty, has-op, has-then}
 use Rattle.golf_code_of.specs.declared.tables.Tables.{Tables}
 use Rattle.golf_code_of.specs.Expressions.{Made, only}
-use Rattle.golf_code_of.specs.Calls.{Argument, pushes, operation, finaliser, finalising, receiver_base, call}
+use Rattle.golf_code_of.specs.Calls.{ArgumentCode, pushes, operation, finaliser, finalising, receiver_base, call}
 use Rattle.golf_code_shapes.specs.Types.{layers_type, value_type, known_type, known_types}
-use Rattle.golf_code_shapes.specs.Sound.{IsKnown, Callee, Turns, Pushes, Silent, Receives}
+use Rattle.golf_code_shapes.specs.Sound.{IsKnown, Callee, TurnsOperands, Pushes, Silent, PushesReceiver}
 use Rattle.golf_code_shapes.proofs.Typings.{none-left, none-right, kept, same-value}
 use Rattle.golf_code_shapes.proofs.Turning.{turn-op, one-turn}
 use Rattle.golf_code_shapes.proofs.Names.{Shows, GivesBy, based, given-to, of-taking, of-measured}
@@ -51,7 +51,7 @@ module _ (types : Types) (t : Tables) (ft : FunctionTypes) (A : List ℕ) (s : S
   Pu = Pushes types ft A
 
   abbrev Tu : Piece → List ValueType → List ValueType → Type 0
-  Tu = Turns types ft A
+  Tu = TurnsOperands types ft A
 
   abbrev Args : Type 0
   Args = List (Arg types t ft A s)
@@ -59,7 +59,7 @@ module _ (types : Types) (t : Tables) (ft : FunctionTypes) (A : List ℕ) (s : S
   abbrev js : Args → List Judged
   js xs = judgeds types t ft A s xs
 
-  abbrev pub arguments : Args → List Argument
+  abbrev pub arguments : Args → List ArgumentCode
   arguments xs = map (λ x. record { meaning = x.judged.meaning; piece = x.made.piece }) xs
 
   -- arguments, one after the other
@@ -353,7 +353,7 @@ module _ (types : Types) (t : Tables) (ft : FunctionTypes) (A : List ℕ) (s : S
 
   -- what a call of a built-in makes
   on-built-in : (l : ℕ) (b : BuiltIn) (receiver : Piece) (xs : Args) → sets_finaliser (operand.BuiltIn b) ≡ false
-      → (plain_call l s (operand.BuiltIn b) (js xs)).faults ≡ [] → Receives types ft A (receiver_base b) receiver
+      → (plain_call l s (operand.BuiltIn b) (js xs)).faults ≡ [] → PushesReceiver types ft A (receiver_base b) receiver
       → Sh (called s.file (operand.BuiltIn b) (map given_by (js xs)))
       (only (all (receiver ∷ pushes (arguments xs) ∷ operation l b (length (arguments xs)) ∷ [])))
   on-built-in l built_in.Length receiver xs e none h = let f =

@@ -18,7 +18,7 @@ use Rattle.golf_check_types.specs.Faults.{broken}
 use Rattle.golf_check_types.specs.Types.{element, assignable}
 use Rattle.golf_check_types.specs.Scopes.{begun}
 use Rattle.golf_check_types.specs.Expressions.{used, given_by}
-use Rattle.golf_check_types.specs.Judging.{judge}
+use Rattle.golf_check_types.specs.Judgments.{judge}
 use Rattle.golf_check_types.specs.Statements as W
 use Rattle.golf_check_types.specs.Statements.{Walk, Walked, both, behind, carried, received, pair, pair_faults}
 use Rattle.golf_check_types.specs.Statements.{assigned_name, assigned_faults, put_in_faults}
@@ -29,14 +29,14 @@ use Rattle.golf_code_shapes.specs.Has.{shape, Has, Reaches, CasesReach, DefaultR
 use Rattle.golf_code_shapes.proofs.Pieces.{every-self, has-empty, has-op, has-then, has-weaker, has-exit, has-choose}
 use Rattle.golf_code_shapes.proofs.Pieces.{has-block}
 use Rattle.golf_code_of.specs.declared.tables.Tables.{Tables}
-use Rattle.golf_code_of.specs.Coding.{piece_at}
-use Rattle.golf_code_of.specs.declared.making.Around.{Around}
-use Rattle.golf_code_of.specs.Statements.{Part, Lay, laid, past, then_lay, in_order, stores_name, stores_pair}
+use Rattle.golf_code_of.specs.ExpressionCode.{piece_at}
+use Rattle.golf_code_of.specs.declared.surroundings.Around.{Around}
+use Rattle.golf_code_of.specs.Statements.{StatementPart, Lay, laid, past, then_lay, in_order, stores_name, stores_pair}
 use Rattle.golf_code_of.specs.Selects.{ClausePart, case_clause, default_clause, breaking, case_to, cases_from}
 use Rattle.golf_code_of.specs.Selects.{default_or, default_from, choice, in_clause, clauses_lay, select_part}
 use Rattle.golf_code_shapes.specs.Types.{value_type, known_type}
 use Rattle.golf_code_shapes.specs.Sound.{ScopeFits, Pushes}
-use Rattle.golf_code_shapes.specs.Flowing.{IsMaking, Slotted, MadeFit}
+use Rattle.golf_code_shapes.specs.StatementFlow.{IsMaking, Slotted, MadeFit}
 use Rattle.golf_code_shapes.proofs.Typings.{none-left, none-right, kept, carried-on}
 use Rattle.golf_code_shapes.proofs.Names.{of-taking, of-giving, given-to}
 use Rattle.golf_code_shapes.proofs.Branches.{further}
@@ -102,7 +102,7 @@ module _ (types : Types) (t : Tables) (ft : FunctionTypes) where
 
   -- a clause stands if its body can: `break` and `continue` lead on, its slots have their types, what is made fits, and
   -- no rule is broken
-  record Stands (w : Walk) (p : Scope → Piece) (x : Part) (b : Around) (s : Scope) (A : List ℕ)
+  record Stands (w : Walk) (p : Scope → Piece) (x : StatementPart) (b : Around) (s : Scope) (A : List ℕ)
       (exits : List Shape) : Type 0 where
     breaks : Reaches exits [] A b.breaks
     continues : s.loops ≡ true → Reaches exits [] A b.continues
@@ -111,7 +111,7 @@ module _ (types : Types) (t : Tables) (ft : FunctionTypes) where
     none : (W.in_block (W.then w (W.breaking x.walk)) s).faults ≡ []
 
   -- the statements of a clause after its communication
-  body-has : (w : Walk) (p : Scope → Piece) (x : Part) → Right types t ft x
+  body-has : (w : Walk) (p : Scope → Piece) (x : StatementPart) → Right types t ft x
       → (b : Around) (s : Scope) (A : List ℕ) (leaves : List ValueType) (exits : List Shape)
       → TakesIn w p s A leaves exits → Stands w p x b s A exits
       → Has types ft (then_lay (λ a r. laid (p r)) w (breaking x).lay b (begun s)).piece (shape leaves A)
@@ -140,7 +140,8 @@ module _ (types : Types) (t : Tables) (ft : FunctionTypes) where
       )
 
   -- `default`
-  pub right-default : (k : ℕ) (xs : List Part) → Right types t ft (in_order xs) → ClauseFits (default_clause k xs)
+  pub right-default : (k : ℕ) (xs : List StatementPart) → Right types t ft (in_order xs)
+      → ClauseFits (default_clause k xs)
   right-default k xs right = record {
     calm = λ l s. refl;
     gives = λ l s r A ok okr alike slots none. record {
@@ -171,7 +172,7 @@ module _ (types : Types) (t : Tables) (ft : FunctionTypes) where
   fits-begun A s ok = record { file = ok.file; locals = ok.locals; result = ok.result }
 
   -- `case c <- e`
-  right-send : (k : ℕ) (c e : Expr) (xs : List Part) → Right types t ft (in_order xs)
+  right-send : (k : ℕ) (c e : Expr) (xs : List StatementPart) → Right types t ft (in_order xs)
       → ClauseFits (case_clause t k (comm.Send c e) xs)
   right-send k c e xs right = record {
     calm = λ l s. refl;
@@ -219,7 +220,7 @@ module _ (types : Types) (t : Tables) (ft : FunctionTypes) where
   }
 
   -- a receive whose value is taken in by this piece
-  receive-clause : (w : Walk) (p : Scope → Piece) (x : Part) → Right types t ft x
+  receive-clause : (w : Walk) (p : Scope → Piece) (x : StatementPart) → Right types t ft x
       → (s : Scope) (A : List ℕ) (v : GoType) → ((exits : List Shape) → TakesIn w p s A (value_type v ∷ []) exits)
       → Slotted ft s.next (W.in_block (W.then w (W.breaking x.walk)) s).slots
       → (W.in_block (W.then w (W.breaking x.walk)) s).faults ≡ []
@@ -229,7 +230,7 @@ module _ (types : Types) (t : Tables) (ft : FunctionTypes) where
       (record { breaks = rb; continues = rc; slots = slots; made = made; none = none })
 
   -- `case <-c`
-  right-receive : (k : ℕ) (e : Expr) (xs : List Part) → Right types t ft (in_order xs)
+  right-receive : (k : ℕ) (e : Expr) (xs : List StatementPart) → Right types t ft (in_order xs)
       → ClauseFits (case_clause t k (comm.Receive e) xs)
   right-receive k e xs right = record {
     calm = λ l s. refl;
@@ -250,7 +251,7 @@ module _ (types : Types) (t : Tables) (ft : FunctionTypes) where
   }
 
   -- `case n := <-c`
-  right-define : (k : ℕ) (n : List ℕ) (e : Expr) (xs : List Part) → Right types t ft (in_order xs)
+  right-define : (k : ℕ) (n : List ℕ) (e : Expr) (xs : List StatementPart) → Right types t ft (in_order xs)
       → ClauseFits (case_clause t k (comm.Define n e) xs)
   right-define k n e xs right = record {
     calm = λ l s. refl;
@@ -275,7 +276,7 @@ module _ (types : Types) (t : Tables) (ft : FunctionTypes) where
   }
 
   -- `case n = <-c`
-  right-assign : (k : ℕ) (n : List ℕ) (e : Expr) (xs : List Part) → Right types t ft (in_order xs)
+  right-assign : (k : ℕ) (n : List ℕ) (e : Expr) (xs : List StatementPart) → Right types t ft (in_order xs)
       → ClauseFits (case_clause t k (comm.Assign n e) xs)
   right-assign k n e xs right = record {
     calm = λ l s. refl;
@@ -304,7 +305,7 @@ module _ (types : Types) (t : Tables) (ft : FunctionTypes) where
   }
 
   -- `case n, m := <-c`
-  right-pair : (k : ℕ) (n m : List ℕ) (e : Expr) (xs : List Part) → Right types t ft (in_order xs)
+  right-pair : (k : ℕ) (n m : List ℕ) (e : Expr) (xs : List StatementPart) → Right types t ft (in_order xs)
       → ClauseFits (case_clause t k (comm.DefineReceived n m e) xs)
   right-pair k n m e xs right = record {
     calm = λ l s. refl;
@@ -347,7 +348,7 @@ module _ (types : Types) (t : Tables) (ft : FunctionTypes) where
                 (record { breaks = rb; continues = rc; slots = slots; made = made; none = none });
           }
 
-  pub right-case : (k : ℕ) (c : Communication) (xs : List Part) → Right types t ft (in_order xs)
+  pub right-case : (k : ℕ) (c : Communication) (xs : List StatementPart) → Right types t ft (in_order xs)
       → ClauseFits (case_clause t k c xs)
   right-case k (comm.Send c e) xs h = right-send k c e xs h
   right-case k (comm.Receive e) xs h = right-receive k e xs h

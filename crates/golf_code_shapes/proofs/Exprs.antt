@@ -17,14 +17,14 @@ use Rattle.golf_check_types.specs.Written.{write, pointer_to}
 use Rattle.golf_check_types.specs.Expressions.{without_package, used, named_or_used, value_from, pointer_value}
 use Rattle.golf_check_types.specs.Expressions.{struct_literal, slice_literal, selected_from}
 use Rattle.golf_check_types.specs.Calls.{called_with}
-use Rattle.golf_check_types.specs.Judging.{Judge, Put, judge}
+use Rattle.golf_check_types.specs.Judgments.{Judge, Put, judge}
 use Rattle.golf_model_typing.specs.Types.{ValueType, FunctionTypes, Types}
 use Rattle.golf_code_of.specs.Table.{text_number}
 use Rattle.golf_code_of.specs.declared.tables.Tables.{Tables}
 use Rattle.golf_code_of.specs.Expressions.{Made}
 use Rattle.golf_code_of.specs.Expressions as C
-use Rattle.golf_code_of.specs.Calls.{Argument, call}
-use Rattle.golf_code_of.specs.Coding.{Coded, CodedPut, coded, argument}
+use Rattle.golf_code_of.specs.Calls.{ArgumentCode, call}
+use Rattle.golf_code_of.specs.ExpressionCode.{Coded, CodedPut, coded, argument}
 use Rattle.golf_code_of.proofs.Judgments.{agree}
 use Rattle.golf_code_of.proofs.JudgeEquations.{element_judge, element-judge-is, judge_layer, judge-rolls}
 use Rattle.golf_code_of.proofs.ExprCodes.{element_coded, element-coded-is, coded_layer, coded-rolls}
@@ -79,7 +79,7 @@ module _ (types : Types) (t : Tables) (ft : FunctionTypes) where
     pieces-are [] = refl
     pieces-are (x ∷ xs) = ap (λ ps. ((coded t x.0).code l s).piece ∷ ps) (pieces-are xs)
 
-    argument_of : Expr → Judge → Argument
+    argument_of : Expr → Judge → ArgumentCode
     argument_of e j = record { meaning = (j l s).meaning; piece = ((coded t e).code l s).piece }
 
     arguments-are : (xs : List (KnownExpr P))

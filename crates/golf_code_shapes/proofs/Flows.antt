@@ -1,5 +1,5 @@
 -- Statements put together: what is known after them.
--- For: `statements_fit`, src/lib.rt; `StatementFits`, specs/Flowing.antt
+-- For: `statements_fit`, src/lib.rt; `StatementFits`, specs/StatementFlow.antt
 -- By: induction over the lists of slots, of made functions and of statements
 use Rattle.std.proofs.Common.{◌≡◌, inl, inr, ℕ, ◌+◌, List, [], ◌∷◌, ◌++◌, length, map, Option, Some, refl, sym, ap, ◌∙◌}
 use Rattle.std.proofs.Common.{subst, slice_get, arith, append_assoc, append-nil}
@@ -18,11 +18,13 @@ use Rattle.golf_code_layout.specs.Piece.{Piece, all, op}
 use Rattle.golf_code_shapes.specs.Has.{shape, Has, Reaches}
 use Rattle.golf_code_shapes.proofs.Pieces.{every-self, has-empty, has-op, has-then, has-weaker}
 use Rattle.golf_code_of.specs.declared.tables.Tables.{Tables}
-use Rattle.golf_code_of.specs.declared.making.Making.{Making}
-use Rattle.golf_code_of.specs.Statements.{Lay, Part, laid, nothing, then, then_lay, lay_all, in_order, in_block, past}
+use Rattle.golf_code_of.specs.declared.surroundings.Making.{Making}
+use Rattle.golf_code_of.specs.Statements.{Lay, StatementPart, laid, nothing, then, then_lay, lay_all, in_order}
+use Rattle.golf_code_of.specs.Statements.{in_block, past}
 use Rattle.golf_code_shapes.specs.Types.{known_type, value_type}
 use Rattle.golf_code_shapes.specs.Sound.{LocalFits, ScopeFits, Pushes, Silent}
-use Rattle.golf_code_shapes.specs.Flowing.{IsMaking, Slotted, MadeFit, Leads, Moves, SimpleFits, StatementFits}
+use Rattle.golf_code_shapes.specs.StatementFlow.{IsMaking, Slotted, MadeFit, LeadsOnward, Moves, SimpleFits}
+use Rattle.golf_code_shapes.specs.StatementFlow.{StatementFits}
 use Rattle.golf_code_shapes.proofs.Typings.{none-left, none-right}
 
 pub then-in : (A B C : List ℕ) → Every (λ i. In i B) A → Every (λ i. In i C) B → Every (λ i. In i C) A
@@ -36,7 +38,7 @@ module _ (types : Types) (t : Tables) (ft : FunctionTypes) where
   abbrev Fits : List ℕ → Scope → Type 0
   Fits = ScopeFits types t ft
 
-  abbrev pub Right : Part → Type 0
+  abbrev pub Right : StatementPart → Type 0
   Right x = StatementFits types t ft x.walk x.lay
 
   local-wider : (A B : List ℕ) → Every (λ i. In i B) A → (d : Local) → LocalFits types t ft A d
@@ -87,7 +89,7 @@ module _ (types : Types) (t : Tables) (ft : FunctionTypes) where
   }
 
   pub quiet : (A : List ℕ) (exits : List Shape) (s : Scope) (w : Walked) (p : Piece) → w.declares ≡ [] → Fits A s
-      → Has types ft p (shape [] A) (shape [] A) exits → Leads types t ft A exits (behind s w) p
+      → Has types ft p (shape [] A) (shape [] A) exits → LeadsOnward types t ft A exits (behind s w) p
   quiet A exits s w p e ok h = (A, every-self A, scope-quiet A s w e ok, h)
 
   pub right-nothing : Right nothing
@@ -96,8 +98,8 @@ module _ (types : Types) (t : Tables) (ft : FunctionTypes) where
 
   -- one after the other, if both are known
   pub leads-both : (A : List ℕ) (exits : List Shape) (s : Scope) (v w : Walked) (p q : Piece)
-      (h : Leads types t ft A exits (behind s v) p) → Leads types t ft h.0 exits (behind (behind s v) w) q
-      → Leads types t ft A exits (behind s (both v w)) (Piece.Then p q)
+      (h : LeadsOnward types t ft A exits (behind s v) p) → LeadsOnward types t ft h.0 exits (behind (behind s v) w) q
+      → LeadsOnward types t ft A exits (behind s (both v w)) (Piece.Then p q)
   leads-both A exits s v w p q h k = (
     k.0,
     then-in A h.0 k.0 h.1 k.1,
@@ -131,7 +133,7 @@ module _ (types : Types) (t : Tables) (ft : FunctionTypes) where
         Every-append IsMaking first.made second.made l.1 k.1,
       )
 
-  pub right-then : (x y : Part) → Right x → Right y → Right (then x y)
+  pub right-then : (x y : StatementPart) → Right x → Right y → Right (then x y)
   right-then x y hx hy = right-then-lay x.walk y.walk x.lay y.lay hx hy
 
   -- what is declared inside is forgotten
@@ -146,17 +148,18 @@ module _ (types : Types) (t : Tables) (ft : FunctionTypes) where
         r.1,
       )
 
-  pub right-block : (x : Part) → Right x → Right (in_block x)
+  pub right-block : (x : StatementPart) → Right x → Right (in_block x)
   right-block x h = right-block-lay x.walk x.lay h
 
   -- lists of statements that are right one by one
-  abbrev pub EachRight : List Part → Type 0
+  abbrev pub EachRight : List StatementPart → Type 0
   EachRight [] = Unit {0}
   EachRight (x ∷ xs) = Right x × EachRight xs
 
-  pub right-order : (xs : List Part) → EachRight xs → Right (in_order xs)
+  pub right-order : (xs : List StatementPart) → EachRight xs → Right (in_order xs)
   right-order [] h = right-nothing
-  right-order (x ∷ xs) h = right-then-lay x.walk (W.in_order (map (λ (y : Part). y.walk) xs)) x.lay (lay_all xs) h.0
+  right-order (x ∷ xs) h = right-then-lay x.walk (W.in_order (map (λ (y : StatementPart). y.walk) xs)) x.lay
+      (lay_all xs) h.0
       (right-order xs h.1)
 
   -- a simple statement is a statement

@@ -45,7 +45,7 @@ use Rattle.golf_check_types.specs.Expressions.{put_facts, struct_literal, slice_
 use Rattle.golf_check_types.specs.Expressions.{struct_member, base_member, type_member, value_member, selected_from}
 use Rattle.golf_check_types.specs.Expressions.{selector, unary_judged, binary_judged, index_judged}
 use Rattle.golf_check_types.specs.Calls.{steady_faults, called_with, call_judged}
-use Rattle.golf_check_types.specs.Judging.{Judge, Put, judge}
+use Rattle.golf_check_types.specs.Judgments.{Judge, Put, judge}
 use Rattle.golf_check_types.specs.Files.{outside}
 use Rattle.golf_code_shapes.specs.FileLaws.{initial_scope}
 use Rattle.golf_code_shapes.proofs.Typings.{none-left, none-right, kept}

@@ -24,19 +24,19 @@ use Rattle.golf_check_types.specs.Files.{all_typed_names}
 use Rattle.golf_model_typing.specs.Types.{ValueType, Shape, FunctionTypes, Types, with_shapes}
 use Rattle.golf_model_typing.specs.Shapes.{InstructionFits, slot_types, pushed}
 use Rattle.golf_code_layout.specs.Piece.{Piece, all, op}
-use Rattle.golf_code_shapes.specs.Has.{shape, filled, To, Has, Ends}
+use Rattle.golf_code_shapes.specs.Has.{shape, filled, To, Has, StopsAfter}
 use Rattle.golf_code_shapes.proofs.Pieces.{has-empty, has-op, has-then}
 use Rattle.golf_code_shapes.proofs.Bodies.{ends-op, ends-then, ends-last, bodies-fit}
 use Rattle.golf_code_of.specs.declared.tables.Tables.{Tables}
 use Rattle.golf_code_of.specs.Values.{zero_value}
 use Rattle.golf_code_of.specs.Calls.{operation}
-use Rattle.golf_code_of.specs.Statements.{Part}
-use Rattle.golf_code_of.specs.Laying.{stmt_part}
+use Rattle.golf_code_of.specs.Statements.{StatementPart}
+use Rattle.golf_code_of.specs.StatementCode.{stmt_part}
 use Rattle.golf_code_of.specs.Files.{body_part, body_laid, last_return, function_of, loads, made_body, made_function}
 use Rattle.golf_code_of.proofs.Walks.{statement}
 use Rattle.golf_code_shapes.specs.Types.{value_type, known_type, known_types}
 use Rattle.golf_code_shapes.specs.Sound.{IsKnown, LocalFits, ScopeFits}
-use Rattle.golf_code_shapes.specs.Flowing.{Slotted, BeginsWith}
+use Rattle.golf_code_shapes.specs.StatementFlow.{Slotted, TakesOperands}
 use Rattle.golf_code_shapes.specs.FunctionLaws.{result_scope, function_signature, made_signature, FunctionsFit}
 use Rattle.golf_code_shapes.specs.FunctionLaws.{MadeFunctionsFit}
 use Rattle.golf_code_shapes.proofs.Typings.{none-left, none-right}
@@ -130,7 +130,7 @@ module _ (types : Types) (t : Tables) (ft : FunctionTypes) where
 
   -- the return at the end
   last-ends : (l : ℕ) (o : Option GoType) (A : List ℕ) (s : Scope) → 0 < types.texts
-      → ft.result ≡ option_map value_type o → Ends types ft (last_return l o) (shape [] A)
+      → ft.result ≡ option_map value_type o → StopsAfter types ft (last_return l o) (shape [] A)
   last-ends l None A s few is = ends-op types ft Instr.Return l (shape [] A) (λ full k. is)
   last-ends l (Some e) A s few is =
       ends-then types ft _ _ (shape [] A) (shape (value_type e ∷ []) A)
@@ -144,9 +144,9 @@ module _ (types : Types) (t : Tables) (ft : FunctionTypes) where
   each-right (x ∷ xs) g = let b = and_parts (stmt_form x).good
       (stmts_good (map stmt_form xs)) g in (right-stmt types t ft x b.0, each-right xs b.1)
 
-  walks-are : (xs : List Stmt) → map (λ (p : Part). p.walk) (map (stmt_part t) xs) ≡ map walk xs
+  walks-are : (xs : List Stmt) → map (λ (p : StatementPart). p.walk) (map (stmt_part t) xs) ≡ map walk xs
   walks-are [] = refl
-  walks-are (x ∷ xs) = ap (λ w. w ∷ map (λ (p : Part). p.walk) (map (stmt_part t) xs)) (statement t x)
+  walks-are (x ∷ xs) = ap (λ w. w ∷ map (λ (p : StatementPart). p.walk) (map (stmt_part t) xs)) (statement t x)
       ∙ ap (λ ws. walk x ∷ ws) (walks-are xs)
 
 parameters-long : (l : ℕ) (ps : List (List ℕ × Option GoType)) (s : Scope)
@@ -261,7 +261,7 @@ module _ (types : Types) (ft : FunctionTypes) (A : List ℕ) where
       (has-op types ft i l (shape (pushed us []) A) (shape [] A) [] r)
 
   -- the operation takes what its function is given
-  operation-has : (l n : ℕ) (b : BuiltIn) (ts : List ValueType) → BeginsWith b ts
+  operation-has : (l n : ℕ) (b : BuiltIn) (ts : List ValueType) → TakesOperands b ts
       → Has types ft (operation l b n) (shape (pushed ts []) A) (shape [] A) []
   operation-has l n built_in.Close ts h = takes l Instr.Close _ h.1 (λ full k g. (h.0, ([], refl, g)))
   operation-has l n built_in.Add ts h = takes l Instr.GroupAdd _ h (λ full k g. ([], refl, g))

@@ -23,7 +23,7 @@ use Rattle.golf_check_types.specs.Types.{plain, type_given, is_nil}
 use Rattle.golf_check_types.specs.Scopes.{meaning_in}
 use Rattle.golf_check_types.specs.Written.{write}
 use Rattle.golf_check_types.specs.Expressions.{used, given_by}
-use Rattle.golf_check_types.specs.Judging.{judge}
+use Rattle.golf_check_types.specs.Judgments.{judge}
 use Rattle.golf_check_types.specs.Files.{Above, next_above, none_above, function_faults, name_faults, names_faults}
 use Rattle.golf_check_types.specs.Files.{method_is, struct_number, content_faults, field_fault, type_faults}
 use Rattle.golf_check_types.specs.Files.{main_faults, import_faults, content_type, global_types, bare_file, with_types}
@@ -31,7 +31,7 @@ use Rattle.golf_check_types.specs.Files.{with_imports, no_imports, outside, form
 use Rattle.golf_check_types.specs.Files.{initial_walk, decl_walked, walk_faults, Broken}
 use Rattle.golf_model_typing.specs.Types.{FunctionTypes, with_shapes}
 use Rattle.golf_model_typing.proofs.Gets.{slice_set-same}
-use Rattle.golf_code_of.specs.Coding.{piece_at}
+use Rattle.golf_code_of.specs.ExpressionCode.{piece_at}
 use Rattle.golf_code_of.specs.Files.{tables_of}
 use Rattle.golf_code_shapes.specs.Sound.{IsKnown, FileFits, ScopeFits}
 use Rattle.golf_code_shapes.specs.FileLaws.{entry_signature, types_of_code, initial_scope, initial_type}

@@ -27,7 +27,7 @@ use Rattle.golf_check_types.specs.Faults.{broken}
 use Rattle.golf_check_types.specs.Types.{plain, with_layer, given, has_layer, is_channel, is_any, starts_with}
 use Rattle.golf_check_types.specs.Types.{assignable}
 use Rattle.golf_check_types.specs.Scopes.{meaning, member}
-use Rattle.golf_check_types.specs.Written.{Written, Write, write, made_base, of_base, pointer_to}
+use Rattle.golf_check_types.specs.Written.{Written, WriteType, write, made_base, of_base, pointer_to}
 use Rattle.golf_check_types.specs.Expressions.{Judged, used, given_by, made_sync, made_struct, pointer_value}
 use Rattle.golf_check_types.specs.Expressions.{field_type, field_of_member, put_faults, all_put_faults, fields_differ}
 use Rattle.golf_check_types.specs.Expressions.{struct_literal, slice_literal, made, made_sized, place_of, field_place}
@@ -40,7 +40,7 @@ use Rattle.golf_code_of.specs.Expressions as C
 use Rattle.golf_code_of.specs.Expressions.{Made, put, puts, elements, new_sync, new_struct}
 use Rattle.golf_code_of.proofs.TypeWrites.{write_layer, write-rolls}
 use Rattle.golf_code_shapes.specs.Types.{layers_type, value_type}
-use Rattle.golf_code_shapes.specs.Sound.{IsKnown, type_of_field, FileFits, ScopeFits, MemberFits, Turns, Pushes}
+use Rattle.golf_code_shapes.specs.Sound.{IsKnown, type_of_field, FileFits, ScopeFits, MemberFits, TurnsOperands, Pushes}
 use Rattle.golf_code_shapes.proofs.Typings.{none-left, none-right, kept}
 use Rattle.golf_code_shapes.proofs.Turning.{turn-op, turn-none, turn-then, turn-last, one-turn, over}
 use Rattle.golf_code_shapes.proofs.Chosen.{IsMade, is-made}
@@ -75,7 +75,7 @@ module _ where
   known-at F.EmptyStruct l s none = of-base-known l (Some base.Unit) none
 
   known-rolled : (y : TypeLayer P) → P (roll-TypeExpr (bare_type P y))
-  known-rolled y l s = subst (λ (w : Write). (w l s).faults ≡ [] → IsKnown (w l s).type)
+  known-rolled y l s = subst (λ (w : WriteType). (w l s).faults ≡ [] → IsKnown (w l s).type)
       (sym (write-rolls (bare_type P y))) (known-at y l s)
 
   pub written-known : (x : TypeExpr) → P x
@@ -89,7 +89,7 @@ module _ (types : Types) (t : Tables) (ft : FunctionTypes) (A : List ℕ) (s : S
   Pu = Pushes types ft A
 
   abbrev Tu : Piece → List ValueType → List ValueType → Type 0
-  Tu = Turns types ft A
+  Tu = TurnsOperands types ft A
 
   -- zero values
 

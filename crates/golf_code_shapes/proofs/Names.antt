@@ -1,5 +1,5 @@
 -- The code of names has shapes, and so has what an expression gives as a value.
--- For: `expressions_fit`, src/lib.rt; `NameFits` and `Gives`, specs/Sound.antt
+-- For: `expressions_fit`, src/lib.rt; `NameFits` and `PushesGiven`, specs/Sound.antt
 -- By: induction over the list of local names; cases of what a name means
 use Rattle.std.proofs.Common.{◌≡◌, ◌⊎◌, inr, ℕ, ◌+◌, Bool, true, false, cond, List, [], ◌∷◌, Option, Some, None, refl}
 use Rattle.std.proofs.Common.{sym, subst, slice_get}
@@ -35,8 +35,9 @@ use Rattle.golf_code_of.specs.Values.{push, constant}
 use Rattle.golf_code_of.specs.Expressions.{Made, in_place, variable, name}
 use Rattle.golf_code_of.specs.Calls.{receiver_base}
 use Rattle.golf_code_shapes.specs.Types.{base_type, value_type}
-use Rattle.golf_code_shapes.specs.Sound.{NameFits, LocalFits, ScopeFits, Callee, Turns, Pushes, PlaceOf, Receives}
-use Rattle.golf_code_shapes.specs.Sound.{Shown, Gives}
+use Rattle.golf_code_shapes.specs.Sound.{NameFits, LocalFits, ScopeFits, Callee, TurnsOperands, Pushes, PlaceOf}
+use Rattle.golf_code_shapes.specs.Sound.{PushesReceiver}
+use Rattle.golf_code_shapes.specs.Sound.{Shown, PushesGiven}
 use Rattle.golf_code_shapes.proofs.Typings.{none-right, assigned-value}
 use Rattle.golf_code_shapes.proofs.Typings.{measured}
 use Rattle.golf_code_shapes.proofs.Turning.{turn-op, turn-none, one-turn}
@@ -48,7 +49,7 @@ module _ (types : Types) (t : Tables) (ft : FunctionTypes) (A : List ℕ) (s : S
   Shows = Shown types t ft A s.file
 
   abbrev pub GivesBy : Given → Piece → Type 0
-  GivesBy = Gives types t ft A s.file
+  GivesBy = PushesGiven types t ft A s.file
 
   abbrev pub Push : Piece → ValueType → Type 0
   Push = Pushes types ft A
@@ -192,18 +193,18 @@ module _ (types : Types) (t : Tables) (ft : FunctionTypes) (A : List ℕ) (s : S
 
   -- a slot that is assigned is assigned anew
   slot-store : (l i : ℕ) (e : ValueType) → slice_get (slot_types ft) i ≡ Some e
-      → Turns types ft A (op l (Instr.Store i)) (e ∷ []) []
+      → TurnsOperands types ft A (op l (Instr.Store i)) (e ∷ []) []
   slot-store l i e typed = turn-op types ft A (Instr.Store i) l (e ∷ []) []
       (λ full k ops g. (e, ops, typed, refl, (g.0, g.1, g.2, wider i g.0.assigned g.3)))
 
   global-store : (l g : ℕ) (e : ValueType) → slice_get types.globals g ≡ Some e
-      → Turns types ft A (op l (Instr.StoreGlobal g)) (e ∷ []) []
+      → TurnsOperands types ft A (op l (Instr.StoreGlobal g)) (e ∷ []) []
   global-store l g e typed = turn-op types ft A (Instr.StoreGlobal g) l (e ∷ []) []
       (λ full k ops m. (e, typed, (ops, refl, m)))
 
   -- a place that one instruction loads and one stores
-  at-once : (e : ValueType) (load store : Piece) → Turns types ft A load [] (e ∷ [])
-      → Turns types ft A store (e ∷ []) [] → PlaceOf types ft A (in_place Piece.Empty Piece.Empty load store) e
+  at-once : (e : ValueType) (load store : Piece) → TurnsOperands types ft A load [] (e ∷ [])
+      → TurnsOperands types ft A store (e ∷ []) [] → PlaceOf types ft A (in_place Piece.Empty Piece.Empty load store) e
   at-once e load store loads stores = (
     one-turn types ft A Piece.Empty _ [] [] (e ∷ []) (turn-none types ft A []) loads,
     record {
@@ -229,13 +230,14 @@ module _ (types : Types) (t : Tables) (ft : FunctionTypes) (A : List ℕ) (s : S
 
   -- a name that is assigned takes a value of its type
   pub name-stores : (l : ℕ) (m : Operand) (v : GoType) → Named m → is_place m ≡ true
-      → assignable (given_as.Typed v) (type_of m) ≡ true → Turns types ft A (name l t m).store (value_type v ∷ []) []
+      → assignable (given_as.Typed v) (type_of m) ≡ true
+      → TurnsOperands types ft A (name l t m).store (value_type v ∷ []) []
   name-stores l (operand.Variable (place.Slot i) (Some e)) v h place fit =
-      subst (λ z. Turns types ft A (op l (Instr.Store i)) (z ∷ []) []) (sym (assigned-value v e fit))
+      subst (λ z. TurnsOperands types ft A (op l (Instr.Store i)) (z ∷ []) []) (sym (assigned-value v e fit))
       (slot-store l i (value_type e) h.1)
   name-stores l (operand.Variable (place.Slot i) None) v h place fit = absurd h
   name-stores l (operand.Variable (place.Global k) (Some e)) v h place fit =
-      subst (λ z. Turns types ft A (op l (Instr.StoreGlobal k)) (z ∷ []) []) (sym (assigned-value v e fit))
+      subst (λ z. TurnsOperands types ft A (op l (Instr.StoreGlobal k)) (z ∷ []) []) (sym (assigned-value v e fit))
       (global-store l k (value_type e) h)
   name-stores l (operand.Variable (place.Global k) None) v h place fit = absurd h
   name-stores l (operand.Field i e) v h place fit = absurd h
@@ -244,7 +246,7 @@ module _ (types : Types) (t : Tables) (ft : FunctionTypes) (A : List ℕ) (s : S
   name-stores l _ v h place fit = cc
 
   -- what is put into `_` is dropped
-  pub blank-stores : (l : ℕ) (e : ValueType) → Turns types ft A (name l t operand.Blank).store (e ∷ []) []
+  pub blank-stores : (l : ℕ) (e : ValueType) → TurnsOperands types ft A (name l t operand.Blank).store (e ∷ []) []
   blank-stores l e = turn-op types ft A Instr.Drop l (e ∷ []) [] (λ full k ops g. (e, (ops, refl, g)))
 
   pub shown-name : (l : ℕ) (m : Operand) → Named m → Shows m (name l t m)
@@ -259,7 +261,8 @@ module _ (types : Types) (t : Tables) (ft : FunctionTypes) (A : List ℕ) (s : S
   shown-name l (operand.Struct k) h = tt
   shown-name l operand.TypeName h = tt
   shown-name l (operand.Package p) h = turn-none types ft A []
-  shown-name l (operand.BuiltIn b) h = subst (λ o. Receives types ft A o Piece.Empty) (sym h) (turn-none types ft A [])
+  shown-name l (operand.BuiltIn b) h = subst (λ o. PushesReceiver types ft A o Piece.Empty) (sym h)
+      (turn-none types ft A [])
   shown-name l _ h = absurd h
 
   shown-known : (l : ℕ) (g : Option ℕ) (o : Option Operand) → ((m : Operand) → o ≡ Some m → Named m)

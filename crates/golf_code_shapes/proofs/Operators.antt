@@ -26,7 +26,7 @@ use Rattle.golf_code_shapes.proofs.Pieces.{has-op}
 use Rattle.golf_code_of.specs.declared.tables.Tables.{Tables}
 use Rattle.golf_code_of.specs.Expressions.{Made, unary_operator, binary_operator, binary_piece, index}
 use Rattle.golf_code_shapes.specs.Types.{base_type, value_type}
-use Rattle.golf_code_shapes.specs.Sound.{Turns, Pushes}
+use Rattle.golf_code_shapes.specs.Sound.{TurnsOperands, Pushes}
 use Rattle.golf_code_shapes.proofs.Typings.{none-left, none-right, kept}
 use Rattle.golf_code_shapes.proofs.Turning.{turn-op, one-turn, pair, two-turn, not-behind, either-turn}
 use Rattle.golf_code_shapes.proofs.Givens as by
@@ -167,10 +167,10 @@ module _ (types : Types) (t : Tables) (ft : FunctionTypes) (A : List ℕ) (s : S
     },
   )
     where
-      parts : Turns types ft A (all (a ∷ i ∷ [])) [] (ValueType.Int ∷ ValueType.Slice (value_type h.0) ∷ [])
+      parts : TurnsOperands types ft A (all (a ∷ i ∷ [])) [] (ValueType.Int ∷ ValueType.Slice (value_type h.0) ∷ [])
       parts = pair types ft A a i (ValueType.Slice (value_type h.0)) ValueType.Int h.2 hi
 
-      read : Turns types ft A (op l Instr.Index) (ValueType.Int ∷ ValueType.Slice (value_type h.0) ∷ [])
+      read : TurnsOperands types ft A (op l Instr.Index) (ValueType.Int ∷ ValueType.Slice (value_type h.0) ∷ [])
           (value_type h.0 ∷ [])
       read = turn-op types ft A Instr.Index l (ValueType.Int ∷ ValueType.Slice (value_type h.0) ∷ [])
           (value_type h.0 ∷ []) (λ full k ops m. (value_type h.0, (ops, refl, m)))

@@ -10,19 +10,23 @@ use Rattle.golf_data.specs.declared.code.Instr.{Instr}
 use Rattle.golf_data.specs.declared.code.CodeLine.{CodeLine}
 use Rattle.golf_data.specs.declared.code.SelectCase.{SelectCase}
 use Rattle.golf_model_typing.specs.Types.{ValueType, Shape, FunctionTypes, Types}
-use Rattle.golf_model_typing.specs.Shapes.{GoesOn, InstructionFits, CasesFit, DefaultFits, case_takes, case_leaves}
+use Rattle.golf_model_typing.specs.Shapes.{LeadsToShape, InstructionFits, CasesFit, DefaultFits, case_takes}
+use Rattle.golf_model_typing.specs.Shapes.{case_leaves}
 use Rattle.golf_code_layout.specs.Piece.{Piece, size, target, case_at, placed}
 use Rattle.golf_code_layout.proofs.Sizes.{placed-size}
-use Rattle.golf_code_shapes.specs.Has.{shape, filled, Stand, Fit, To, Exits, Has, Reaches, CasesReach, DefaultReaches}
+use Rattle.golf_code_shapes.specs.Has.{shape, filled, ShapesStand, Fit, To, Exits, Has, Reaches, CasesReach}
+use Rattle.golf_code_shapes.specs.Has.{DefaultReaches}
 use Rattle.golf_code_shapes.specs.LayoutLaws.{PiecesHaveShapes}
 
-pub stand-left : (full : List Shape) (at : ℕ) (xs ys : List Shape) → Stand full at (xs ++ ys) → Stand full at xs
+pub stand-left : (full : List Shape) (at : ℕ) (xs ys : List Shape) → ShapesStand full at (xs ++ ys)
+    → ShapesStand full at xs
 stand-left full at [] ys h = tt
 stand-left full at (x ∷ xs) ys h = (h.0, stand-left full (at + 1) xs ys h.1)
 
-pub stand-right : (full : List Shape) (at n : ℕ) (xs ys : List Shape) → n ≡ at + length xs → Stand full at (xs ++ ys)
-    → Stand full n ys
-stand-right full at n [] ys e h = subst (λ k. Stand full k ys) (let f = e in omega (arith, f)) h
+pub stand-right : (full : List Shape) (at n : ℕ) (xs ys : List Shape) → n ≡ at + length xs
+    → ShapesStand full at (xs ++ ys)
+    → ShapesStand full n ys
+stand-right full at n [] ys e h = subst (λ k. ShapesStand full k ys) (let f = e in omega (arith, f)) h
 stand-right full at n (x ∷ xs) ys e h = stand-right full (at + 1) n xs ys (omega (arith, e)) h.1
 
 pub fit-append : (types : Types) (ft : FunctionTypes) (at n : ℕ) (xs ys : List CodeLine) → n ≡ at + length xs
@@ -31,7 +35,7 @@ fit-append types ft at n [] ys e h k = subst (λ m. Fit types ft m ys) (omega (a
 fit-append types ft at n (x ∷ xs) ys e h k = (h.0, fit-append types ft (at + 1) n xs ys (omega (arith, e)) h.1 k)
 
 pub to-wider : (ft : FunctionTypes) (ts : List ValueType) (A B : List ℕ) (k : ℕ) → Every (λ i. In i B) A
-    → GoesOn ft ts A k → GoesOn ft ts B k
+    → LeadsToShape ft ts A k → LeadsToShape ft ts B k
 to-wider ft ts A B k h l = (
   l.0,
   l.1,
@@ -52,7 +56,7 @@ exit-at ft (x ∷ xs) (t ∷ ts) (suc k) sh e h = exit-at ft xs ts k sh e h.1
 
 -- it may be gone on at with more slots assigned
 reached : (ft : FunctionTypes) (exits : List Shape) (us : List ℕ) (ts : List ValueType) (assigned : List ℕ) (k : ℕ)
-    → Reaches exits ts assigned k → Exits ft exits us → GoesOn ft ts assigned (target us k)
+    → Reaches exits ts assigned k → Exits ft exits us → LeadsToShape ft ts assigned (target us k)
 reached ft exits us ts assigned k r e = to-wider ft ts r.0 assigned (target us k) r.2
     (exit-at ft exits us k (shape ts r.0) r.1 e)
 
@@ -112,17 +116,18 @@ module _ (types : Types) (ft : FunctionTypes) where
         (hq.fits full (at + size p) ts (right full at st) (end full at l) e);
   }
     where
-      left : (full : List Shape) (at : ℕ) → Stand full at (hp.shapes ++ hq.shapes) → Stand full at hp.shapes
+      left : (full : List Shape) (at : ℕ) → ShapesStand full at (hp.shapes ++ hq.shapes) → ShapesStand full at hp.shapes
       left full at st = stand-left full at hp.shapes hq.shapes st
 
-      right : (full : List Shape) (at : ℕ) → Stand full at (hp.shapes ++ hq.shapes) → Stand full (at + size p) hq.shapes
+      right : (full : List Shape) (at : ℕ) → ShapesStand full at (hp.shapes ++ hq.shapes)
+          → ShapesStand full (at + size p) hq.shapes
       right full at st = let f = hp.long in stand-right full at (at + size p) hp.shapes hq.shapes (omega (arith, f)) st
 
       end : (full : List Shape) (at : ℕ) → To (filled ft full) to (at + (size p + size q))
           → To (filled ft full) to (at + size p + size q)
       end full at l = subst (To (filled ft full) to) (omega arith) l
 
-      behind : (full : List Shape) (at : ℕ) → Stand full at (hp.shapes ++ hq.shapes)
+      behind : (full : List Shape) (at : ℕ) → ShapesStand full at (hp.shapes ++ hq.shapes)
           → To (filled ft full) to (at + (size p + size q)) → To (filled ft full) mid (at + size p)
       behind full at st l = hq.enters full (at + size p) (right full at st) (end full at l)
 

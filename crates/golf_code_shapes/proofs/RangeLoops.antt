@@ -7,16 +7,16 @@ use Rattle.golf_syntax_trees.specs.declared.expressions.Expr.{Expr}
 use Rattle.golf_syntax_trees.specs.declared.statements.RangeNames.{RangeNames}
 use Rattle.golf_check_types.specs.Scopes.{begun}
 use Rattle.golf_check_types.specs.Expressions.{used, given_by}
-use Rattle.golf_check_types.specs.Judging.{judge}
+use Rattle.golf_check_types.specs.Judgments.{judge}
 use Rattle.golf_check_types.specs.Statements as W
 use Rattle.golf_check_types.specs.Statements.{behind, range_faults}
 use Rattle.golf_model_typing.specs.Types.{FunctionTypes, Types}
 use Rattle.golf_code_of.specs.declared.tables.Tables.{Tables}
-use Rattle.golf_code_of.specs.Coding.{piece_at}
-use Rattle.golf_code_of.specs.Statements.{Part, block, in_block}
+use Rattle.golf_code_of.specs.ExpressionCode.{piece_at}
+use Rattle.golf_code_of.specs.Statements.{StatementPart, block, in_block}
 use Rattle.golf_code_of.specs.Loops.{in_loop, ranging}
 use Rattle.golf_code_shapes.specs.Sound.{ScopeFits}
-use Rattle.golf_code_shapes.specs.Flowing.{IsMaking}
+use Rattle.golf_code_shapes.specs.StatementFlow.{IsMaking}
 use Rattle.golf_code_shapes.proofs.Typings.{none-left, none-right}
 use Rattle.golf_code_shapes.proofs.Flows.{Right, quiet, slotted-left, slotted-right}
 use Rattle.golf_code_shapes.proofs.Simples.{value-of}
@@ -25,7 +25,7 @@ use Rattle.golf_code_shapes.proofs.Ranges.{RangeFits, over-given}
 
 module _ (types : Types) (t : Tables) (ft : FunctionTypes) where
   -- what the names declare is known inside alone
-  pub right-range : (l : ℕ) (names : RangeNames) (e : Expr) (xs : List Part) → Right types t ft (block xs)
+  pub right-range : (l : ℕ) (names : RangeNames) (e : Expr) (xs : List StatementPart) → Right types t ft (block xs)
       → Right types t ft (in_block (ranging t l names e xs))
   right-range l names e xs right a s A exits ok ways slots made none =
       let s0 = begun s in

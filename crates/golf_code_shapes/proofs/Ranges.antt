@@ -30,8 +30,8 @@ use Rattle.golf_code_shapes.proofs.Pieces.{has-block, has-again}
 use Rattle.golf_code_of.specs.declared.tables.Tables.{Tables}
 use Rattle.golf_code_of.specs.Loops.{slice_names, over_slice, channel_name, over_channel, behind_hidden, range_piece}
 use Rattle.golf_code_shapes.specs.Types.{layers_type, value_type}
-use Rattle.golf_code_shapes.specs.Sound.{LocalFits, ScopeFits, Gives, Pushes}
-use Rattle.golf_code_shapes.specs.Flowing.{Slotted}
+use Rattle.golf_code_shapes.specs.Sound.{LocalFits, ScopeFits, PushesGiven, Pushes}
+use Rattle.golf_code_shapes.specs.StatementFlow.{Slotted}
 use Rattle.golf_code_shapes.proofs.Typings.{none-left, none-right, kept}
 use Rattle.golf_code_shapes.proofs.Flows.{then-in, locals-wider, scope-more, slotted-left, slotted-right}
 
@@ -490,7 +490,7 @@ module _ (types : Types) (t : Tables) (ft : FunctionTypes) where
   -- a `range` over what is given
   pub over-given : {M : Type 0} {names : RangeNames} {s : Scope} {body : Piece} {A : List ℕ} (l : ℕ) (g : Given)
       (p : Piece) (exits : List Shape) → RangeFits M names g s body A → range_faults l names g ≡ []
-      → Gives types t ft A s.file g p
+      → PushesGiven types t ft A s.file g p
       → H (range_piece l names g p s body) [] A [] A exits × M
   over-given {M} {names} {s} {body} {A} l (given_as.Typed a) p exits fit none h =
       over-typed l a.layers a.base p exits fit none h

@@ -34,8 +34,8 @@ use Rattle.golf_code_of.specs.declared.tables.Tables.{Tables}
 use Rattle.golf_code_of.specs.Expressions.{name}
 use Rattle.golf_code_of.specs.Statements.{stores_to, stores_name, stores_new, stores_pair}
 use Rattle.golf_code_shapes.specs.Types.{value_type}
-use Rattle.golf_code_shapes.specs.Sound.{LocalFits, ScopeFits, Turns}
-use Rattle.golf_code_shapes.specs.Flowing.{Slotted}
+use Rattle.golf_code_shapes.specs.Sound.{LocalFits, ScopeFits, TurnsOperands}
+use Rattle.golf_code_shapes.specs.StatementFlow.{Slotted}
 use Rattle.golf_code_shapes.proofs.Typings.{none-left, none-right, kept}
 use Rattle.golf_code_shapes.proofs.Names.{Named, name-means, name-stores, blank-stores, looked-up}
 use Rattle.golf_code_shapes.proofs.Flows.{then-in, locals-wider, slotted-left, slotted-right, scope-wider, scope-more}
@@ -85,18 +85,18 @@ module _ (types : Types) (t : Tables) (ft : FunctionTypes) where
   stores-known : (l : ℕ) (s : Scope) (A : List ℕ) (p : Option Operand) (v : GoType)
       → ((m : Operand) → p ≡ Some m → (m ≡ operand.Blank) ⊎ Named types t ft A s m) → is_some p ≡ true
       → put_in_faults l p (Some v) ≡ [] → takes_value p ≡ true
-      → Turns types ft A (stores_to l t p) (value_type v ∷ []) []
+      → TurnsOperands types ft A (stores_to l t p) (value_type v ∷ []) []
   unfolding put_in_faults
   stores-known l s A None v h there none takes = cc
   stores-known l s A (Some m) v h there none takes =
-      elim (h m refl) as (λ z. Turns types ft A (name l t m).store (value_type v ∷ []) []) [
-        | inl e ↦ subst (λ z. Turns types ft A (name l t z).store (value_type v ∷ []) []) (sym e)
+      elim (h m refl) as (λ z. TurnsOperands types ft A (name l t m).store (value_type v ∷ []) []) [
+        | inl e ↦ subst (λ z. TurnsOperands types ft A (name l t z).store (value_type v ∷ []) []) (sym e)
             (blank-stores types t ft A s l (value_type v))
         | inr n ↦ named m n none takes
       ]
     where
       named : (m : Operand) → Named types t ft A s m → put_in_faults l (Some m) (Some v) ≡ []
-          → takes_value (Some m) ≡ true → Turns types ft A (name l t m).store (value_type v ∷ []) []
+          → takes_value (Some m) ≡ true → TurnsOperands types ft A (name l t m).store (value_type v ∷ []) []
       named operand.Blank n none takes = absurd n
       named operand.Unknown n none takes = absurd n
       named m n none takes = name-stores types t ft A s l m v n takes
@@ -116,7 +116,7 @@ module _ (types : Types) (t : Tables) (ft : FunctionTypes) where
   pub stores-assigned : (l : ℕ) (s : Scope) (A : List ℕ) (n : List ℕ) (v : GoType) → Fits A s
       → is_some (assigned_name s n) ≡ true → put_in_faults l (assigned_name s n) (Some v) ≡ []
       → takes_value (assigned_name s n) ≡ true
-      → Turns types ft A (stores_name l t s n) (value_type v ∷ []) []
+      → TurnsOperands types ft A (stores_name l t s n) (value_type v ∷ []) []
   stores-assigned l s A n v ok there none takes =
       stores-known l s A (assigned_name s n) v (means-assigned s A n ok) there none takes
 
@@ -127,7 +127,7 @@ module _ (types : Types) (t : Tables) (ft : FunctionTypes) where
       → ((d : Local) → o ≡ Some d → LocalFits types t ft A d) → is_at_depth o s.depth ≡ true
       → kept_local l s.depth o (Some v) ≡ [] → (rest : Option Operand)
       → (w : Operand) × (or_else (option_map local_operand o) rest ≡ Some w)
-      × Turns types ft A (name l t w).store (value_type v ∷ []) []
+      × TurnsOperands types ft A (name l t w).store (value_type v ∷ []) []
   here-means l s A n v None h at none rest = cc
   here-means l s A n v (Some d) h at none rest =
       let f = h d refl in
@@ -136,7 +136,8 @@ module _ (types : Types) (t : Tables) (ft : FunctionTypes) where
       let fit = test (d.depth == s.depth) at none in (
         local_operand d,
         refl,
-        subst (λ o. Turns types ft A (name l t (operand.Variable (place.Slot d.slot) o)).store (value_type v ∷ []) [])
+        subst (λ o. TurnsOperands types ft A (name l t (operand.Variable (place.Slot d.slot) o)).store
+            (value_type v ∷ []) [])
             (sym f.1)
             (name-stores types t ft A s l (operand.Variable (place.Slot d.slot) (Some f.0)) v (f.2, f.3) refl
             (subst (λ o. assignable (given_as.Typed v) o ≡ true) f.1 fit)),
@@ -149,21 +150,21 @@ module _ (types : Types) (t : Tables) (ft : FunctionTypes) where
       by-depth d false e q = cc
 
   stores-here : (l : ℕ) (s : Scope) (A : List ℕ) (n : List ℕ) (v : GoType) → Fits A s → is_here s n ≡ true
-      → kept_faults l s n (Some v) ≡ [] → Turns types ft A (stores_to l t (meaning s n)) (value_type v ∷ []) []
+      → kept_faults l s n (Some v) ≡ [] → TurnsOperands types ft A (stores_to l t (meaning s n)) (value_type v ∷ []) []
   unfolding is_here kept_faults meaning
   stores-here l s A n v ok at none =
       let h = here-means l s A n v (look s.locals n)
       (λ d e. looked-up types t ft A s s.locals n ok.locals d e) at none _ in
-      subst (λ o. Turns types ft A (stores_to l t o) (value_type v ∷ []) []) (sym h.1) h.2
+      subst (λ o. TurnsOperands types ft A (stores_to l t o) (value_type v ∷ []) []) (sym h.1) h.2
 
   -- a name that is not new is `_` or in this block
   stores-old : (l : ℕ) (s : Scope) (A : List ℕ) (n : List ℕ) (v : GoType) → Fits A s → is_new s n ≡ false
-      → kept_faults l s n (Some v) ≡ [] → Turns types ft A (stores_name l t s n) (value_type v ∷ []) []
+      → kept_faults l s n (Some v) ≡ [] → TurnsOperands types ft A (stores_name l t s n) (value_type v ∷ []) []
   unfolding assigned_name
   stores-old l s A n v ok old none = by-blank (is_blank n) (is_here s n) refl old
     where
       by-blank : (b h : Bool) → is_here s n ≡ h → (not b && not h) ≡ false
-          → Turns types ft A (stores_to l t (cond b (Some operand.Blank) (meaning s n))) (value_type v ∷ []) []
+          → TurnsOperands types ft A (stores_to l t (cond b (Some operand.Blank) (meaning s n))) (value_type v ∷ []) []
       by-blank true h e q = blank-stores types t ft A s l (value_type v)
       by-blank false true e q = stores-here l s A n v ok e none
       by-blank false false e q = cc
@@ -183,7 +184,7 @@ module _ (types : Types) (t : Tables) (ft : FunctionTypes) where
       (λ full k m. (v, ops, typed, refl, m))
 
   pub one-taken : (l : ℕ) (s at : Scope) (n : List ℕ) (v : GoType) (A : List ℕ)
-      → (is_new s n ≡ false → Turns types ft A (stores_name l t s n) (value_type v ∷ []) [])
+      → (is_new s n ≡ false → TurnsOperands types ft A (stores_name l t s n) (value_type v ∷ []) [])
       → Slotted ft at.next (one_new (is_new s n) n (Some v) at).slots → Taken l s at n v A
   one-taken l s at n v A old slots = by-new (is_new s n) refl slots
     where

@@ -29,7 +29,7 @@ use Rattle.golf_code_of.specs.declared.tables.Tables.{Tables}
 use Rattle.golf_code_of.specs.Expressions.{Made, selector}
 use Rattle.golf_code_of.specs.Calls.{receiver_base}
 use Rattle.golf_code_shapes.specs.Types.{base_type, value_type}
-use Rattle.golf_code_shapes.specs.Sound.{MemberFits, FileFits, Pushes, Silent, PlaceOf, Receives}
+use Rattle.golf_code_shapes.specs.Sound.{MemberFits, FileFits, Pushes, Silent, PlaceOf, PushesReceiver}
 use Rattle.golf_code_shapes.proofs.Typings.{none-left, none-right}
 use Rattle.golf_code_shapes.proofs.Turning.{turn-op, one-turn}
 use Rattle.golf_code_shapes.proofs.Chosen.{of-mutex, of-group, of-readers, of-condition, from-package}
@@ -78,7 +78,7 @@ module _ (types : Types) (t : Tables) (ft : FunctionTypes) (A : List ℕ) (s : S
       → ((m : BuiltIn) → o ≡ Some m → receiver_base m ≡ Some b) → (called_name l o).faults ≡ [] → Pu p (base_type b)
       → Sh (called_name l o).meaning (selector l (called_name l o).meaning p)
   named-method l p b None fits none h = cc
-  named-method l p b (Some m) fits none h = subst (λ o. Receives types ft A o p) (sym (fits m refl)) h
+  named-method l p b (Some m) fits none h = subst (λ o. PushesReceiver types ft A o p) (sym (fits m refl)) h
 
   -- a method of a condition, or its mutex
   condition-name : (l : ℕ) (p : Piece) (test : Bool) (j : Judged)
@@ -117,7 +117,7 @@ module _ (types : Types) (t : Tables) (ft : FunctionTypes) (A : List ℕ) (s : S
       → (called_name l o).faults ≡ [] → Silent types ft A p
       → Sh (called_name l o).meaning (selector l (called_name l o).meaning p)
   of-package l p None fits none h = cc
-  of-package l p (Some m) fits none h = subst (λ o. Receives types ft A o p) (sym (fits m refl)) h
+  of-package l p (Some m) fits none h = subst (λ o. PushesReceiver types ft A o p) (sym (fits m refl)) h
 
   -- a type of a package, or what is called
   package-name : (l : ℕ) (p : Piece) (test : Bool) (j : Judged)

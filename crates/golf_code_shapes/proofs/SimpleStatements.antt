@@ -1,5 +1,5 @@
 -- The code of each kind of simple statement moves on.
--- For: `statements_fit`, src/lib.rt; `SimpleFits`, specs/Flowing.antt
+-- For: `statements_fit`, src/lib.rt; `SimpleFits`, specs/StatementFlow.antt
 -- By: cases of the kind of statement; no induction
 use Rattle.std.proofs.Common.{◌≡◌, ℕ, ◌&&◌, List, [], ◌∷◌, Option, Some, None, refl, sym, subst}
 use Rattle.std.proofs.lemmas.Bool.{and_parts}
@@ -16,7 +16,7 @@ use Rattle.golf_check_types.specs.declared.scopes.Scope.{Scope}
 use Rattle.golf_check_types.specs.Faults.{broken}
 use Rattle.golf_check_types.specs.Types.{plain}
 use Rattle.golf_check_types.specs.Expressions.{used, given_by}
-use Rattle.golf_check_types.specs.Judging.{judge}
+use Rattle.golf_check_types.specs.Judgments.{judge}
 use Rattle.golf_check_types.specs.Statements as W
 use Rattle.golf_check_types.specs.Statements.{both, behind, carried, pair_faults, pair, bool_type, assigned_name}
 use Rattle.golf_check_types.specs.Statements.{put_in_faults, takes_value, assigned_pair_faults, received}
@@ -25,12 +25,12 @@ use Rattle.golf_code_layout.specs.Piece.{Piece, all, op}
 use Rattle.golf_code_shapes.specs.Has.{shape}
 use Rattle.golf_code_shapes.proofs.Pieces.{has-empty, has-then}
 use Rattle.golf_code_of.specs.declared.tables.Tables.{Tables}
-use Rattle.golf_code_of.specs.Coding.{piece_at}
+use Rattle.golf_code_of.specs.ExpressionCode.{piece_at}
 use Rattle.golf_code_of.specs.Statements as C
 use Rattle.golf_code_of.specs.Statements.{stores_name, stores_pair}
 use Rattle.golf_code_shapes.specs.Types.{value_type}
-use Rattle.golf_code_shapes.specs.Sound.{ScopeFits, Pushes, Silent, Turns}
-use Rattle.golf_code_shapes.specs.Flowing.{Moves, SimpleFits, Slotted}
+use Rattle.golf_code_shapes.specs.Sound.{ScopeFits, Pushes, Silent, TurnsOperands}
+use Rattle.golf_code_shapes.specs.StatementFlow.{Moves, SimpleFits, Slotted}
 use Rattle.golf_code_shapes.proofs.Typings.{none-left, none-right, kept}
 use Rattle.golf_code_shapes.proofs.Turning.{turn-op, turn-then}
 use Rattle.golf_code_shapes.proofs.Names.{of-giving}
@@ -54,7 +54,7 @@ module _ (types : Types) (t : Tables) (ft : FunctionTypes) where
   -- the value and `ok`
   receives-both : (l : ℕ) (e : Expr) (s : Scope) (A : List ℕ) (v : GoType)
       → Pushes types ft A (piece_at t l s e) (ValueType.Chan (value_type v))
-      → Turns types ft A (op l Instr.ReceiveOk) (ValueType.Chan (value_type v) ∷ [])
+      → TurnsOperands types ft A (op l Instr.ReceiveOk) (ValueType.Chan (value_type v) ∷ [])
       (ValueType.Bool ∷ value_type v ∷ [])
   receives-both l e s A v h = turn-op types ft A Instr.ReceiveOk l (ValueType.Chan (value_type v) ∷ [])
       (ValueType.Bool ∷ value_type v ∷ []) (λ full k ops g. (value_type v, (ops, refl, g)))

@@ -1,5 +1,5 @@
 -- The code of simple statements, variables, `go`, `defer` and `return` leads on.
--- For: `statements_fit`, src/lib.rt; `SimpleFits`, specs/Flowing.antt
+-- For: `statements_fit`, src/lib.rt; `SimpleFits`, specs/StatementFlow.antt
 -- By: cases of the parts of the statement; no induction
 use Rattle.std.proofs.Common.{◌≡◌, ℕ, ◌<◌, Bool, true, not, ◌&&◌, List, [], ◌∷◌, ◌++◌, Option, Some, None, refl, sym}
 use Rattle.std.proofs.Common.{◌∙◌, subst, arith, pos}
@@ -25,7 +25,7 @@ use Rattle.golf_check_types.specs.Faults.{broken}
 use Rattle.golf_check_types.specs.Types.{given, type_of, type_given, is_nil, has_base, assignable}
 use Rattle.golf_check_types.specs.Written.{write}
 use Rattle.golf_check_types.specs.Expressions.{used, named_or_used, given_by, value_faults}
-use Rattle.golf_check_types.specs.Judging.{judge}
+use Rattle.golf_check_types.specs.Judgments.{judge}
 use Rattle.golf_check_types.specs.Statements as W
 use Rattle.golf_check_types.specs.Statements.{Walk, action_faults, is_place, left_faults, assign_faults, result_faults}
 use Rattle.golf_model_typing.specs.Types.{ValueType, Shape, FunctionTypes, Types}
@@ -35,12 +35,12 @@ use Rattle.golf_code_shapes.proofs.Pieces.{has-empty, has-op, has-then}
 use Rattle.golf_code_of.specs.declared.tables.Tables.{Tables}
 use Rattle.golf_code_of.specs.Values.{push, zero_value}
 use Rattle.golf_code_of.specs.Expressions.{Made}
-use Rattle.golf_code_of.specs.Coding.{code_at, piece_at}
+use Rattle.golf_code_of.specs.ExpressionCode.{code_at, piece_at}
 use Rattle.golf_code_of.specs.Statements as C
 use Rattle.golf_code_of.specs.Statements.{drops, updates, assigns, update_instr}
 use Rattle.golf_code_shapes.specs.Types.{value_type}
-use Rattle.golf_code_shapes.specs.Sound.{ScopeFits, Shown, Gives, Turns, Pushes, Silent, Places}
-use Rattle.golf_code_shapes.specs.Flowing.{SimpleFits}
+use Rattle.golf_code_shapes.specs.Sound.{ScopeFits, Shown, PushesGiven, TurnsOperands, Pushes, Silent, Places}
+use Rattle.golf_code_shapes.specs.StatementFlow.{SimpleFits}
 use Rattle.golf_code_shapes.proofs.Typings.{none-left, none-right, kept, carried-on, same-value}
 use Rattle.golf_code_shapes.proofs.Turning.{turn-op, turn-none, turn-then, turn-last, one-turn, over}
 use Rattle.golf_code_shapes.proofs.Names.{of-used, based, given-to, of-taking, some-type, push-fits}
@@ -64,7 +64,7 @@ module _ (types : Types) (t : Tables) (ft : FunctionTypes) where
 
   -- the value of an expression that is used
   pub value-of : (l : ℕ) (e : Expr) (s : Scope) (A : List ℕ) → Fits A s → used l (judge e l s) ≡ []
-      → Gives types t ft A s.file (given_by (judge e l s)) (piece_at t l s e)
+      → PushesGiven types t ft A s.file (given_by (judge e l s)) (piece_at t l s e)
   value-of l e s A ok u = of-used types t ft A s l (judge e l s) (Code l s e) u
       (shown l e s A ok (none-left (judge e l s).faults _ u))
 
@@ -131,12 +131,12 @@ module _ (types : Types) (t : Tables) (ft : FunctionTypes) where
       (turn-last types ft A x.store (e ∷ h.told) [] h.store))
 
   drops-in : (A : List ℕ) (x : Made) (e : ValueType) (p : Piece) → Silent types ft A x.parts
-      → Turns types ft A x.store (e ∷ []) [] → Pushes types ft A p e → Silent types ft A (assigns x p)
+      → TurnsOperands types ft A x.store (e ∷ []) [] → Pushes types ft A p e → Silent types ft A (assigns x p)
   drops-in A x e p h st k = turn-then types ft A x.parts _ [] [] [] h
       (turn-then types ft A p _ [] (e ∷ []) [] k (turn-last types ft A x.store (e ∷ []) [] st))
 
   updates-in : (l : ℕ) (A : List ℕ) (x : Made) (p : Piece) (i : Instr)
-      → Turns types ft A (op l i) (ValueType.Int ∷ ValueType.Int ∷ []) (ValueType.Int ∷ [])
+      → TurnsOperands types ft A (op l i) (ValueType.Int ∷ ValueType.Int ∷ []) (ValueType.Int ∷ [])
       → Places types ft A x ValueType.Int → Pushes types ft A p ValueType.Int → Silent types ft A (updates l x p i)
   updates-in l A x p i hi h k ops exits =
       let told = h.told ++ ops in
@@ -155,7 +155,7 @@ module _ (types : Types) (t : Tables) (ft : FunctionTypes) where
   -- `=`
 
   stored : (A : List ℕ) (l : ℕ) (s : Scope) (m : Operand) (x : Made) (g : Given) (p : Piece) → assign_faults l m g ≡ []
-      → left_faults l m ≡ [] → Shown types t ft A s.file m x → Gives types t ft A s.file g p
+      → left_faults l m ≡ [] → Shown types t ft A s.file m x → PushesGiven types t ft A s.file g p
       → Silent types ft A (assigns x p)
   stored A l s operand.Blank x g p none left h k = let e =
       some-type types t ft A s g p k in drops-in A x e.0 p h.0 (h.1 e.0) e.1
@@ -207,7 +207,7 @@ module _ (types : Types) (t : Tables) (ft : FunctionTypes) where
   place-of-int A l s _ x int place h = cc
 
   arithmetic : (l : ℕ) (A : List ℕ) (o : UpdateOperator)
-      → Turns types ft A (op l (update_instr o)) (ValueType.Int ∷ ValueType.Int ∷ []) (ValueType.Int ∷ [])
+      → TurnsOperands types ft A (op l (update_instr o)) (ValueType.Int ∷ ValueType.Int ∷ []) (ValueType.Int ∷ [])
   arithmetic l A update.Add = turn-op types ft A Instr.Add l (ValueType.Int ∷ ValueType.Int ∷ []) (ValueType.Int ∷ [])
       (λ full k ops g. (ops, refl, g))
   arithmetic l A update.Subtract = turn-op types ft A Instr.Sub l (ValueType.Int ∷ ValueType.Int ∷ [])
@@ -263,7 +263,8 @@ module _ (types : Types) (t : Tables) (ft : FunctionTypes) where
   -- `:=` and variables
 
   -- what a new variable is given
-  pub typed : (A : List ℕ) (s : Scope) (g : Given) (p : Piece) → not (is_nil g) ≡ true → Gives types t ft A s.file g p
+  pub typed : (A : List ℕ) (s : Scope) (g : Given) (p : Piece) → not (is_nil g) ≡ true
+      → PushesGiven types t ft A s.file g p
       → (e : GoType) × (type_given g ≡ Some e) × Pushes types ft A p (value_type e)
   typed A s (given_as.Typed e) p holds h = (e, refl, h)
   typed A s given_as.Nil p holds h = cc
@@ -335,7 +336,7 @@ module _ (types : Types) (t : Tables) (ft : FunctionTypes) where
   no-result (Some e) h = cc
 
   returns-value : (l : ℕ) (A : List ℕ) (s : Scope) (exits : List Shape) (o : Option GoType) (g : Given) (p : Piece)
-      → ft.result ≡ option_map value_type o → result_faults l o g ≡ [] → Gives types t ft A s.file g p
+      → ft.result ≡ option_map value_type o → result_faults l o g ≡ [] → PushesGiven types t ft A s.file g p
       → Has types ft (all (p ∷ op l Instr.ReturnValue ∷ [])) (shape [] A) (shape [] A) exits
   returns-value l A s exits None g p e none h = cc
   returns-value l A s exits (Some r) g p e none h =

@@ -26,13 +26,13 @@ use Rattle.golf_check_types.specs.Statements as W
 use Rattle.golf_model_typing.specs.Types.{FunctionTypes, Types}
 use Rattle.golf_code_of.specs.declared.tables.Tables.{Tables}
 use Rattle.golf_code_of.specs.Statements as C
-use Rattle.golf_code_of.specs.Statements.{Part, block, in_order, in_block, optional}
+use Rattle.golf_code_of.specs.Statements.{StatementPart, block, in_order, in_block, optional}
 use Rattle.golf_code_of.specs.Loops.{for_part, header_part, in_loop}
 use Rattle.golf_code_of.specs.Loops as L
-use Rattle.golf_code_of.specs.Laying.{stmt_part, clause_part}
+use Rattle.golf_code_of.specs.StatementCode.{stmt_part, clause_part}
 use Rattle.golf_code_of.proofs.StmtCodes.{part_layer, clause_layer, part-rolls, clause-rolls}
 use Rattle.golf_code_of.proofs.Walks.{statement}
-use Rattle.golf_code_shapes.specs.Flowing.{StatementFits}
+use Rattle.golf_code_shapes.specs.StatementFlow.{StatementFits}
 use Rattle.golf_code_shapes.specs.Laws.{StatementsFit}
 use Rattle.golf_code_shapes.proofs.Flows.{Right, EachRight, right-order, right-block, right-then, right-simple}
 use Rattle.golf_code_shapes.proofs.Simples.{right-var, right-return}
@@ -56,7 +56,7 @@ quiet-post (Some x) s h = quiet-kind x.line x.kind s
     (and_parts (header_simple x) (not (simple_form x.kind).defines) h).1
 
 module _ (types : Types) (t : Tables) (ft : FunctionTypes) where
-  abbrev R : Part → Type 0
+  abbrev R : StatementPart → Type 0
   R = Right types t ft
 
   abbrev Q : Clause → Type 0
@@ -65,7 +65,7 @@ module _ (types : Types) (t : Tables) (ft : FunctionTypes) where
   abbrev P : Stmt → Type 0
   P x = (stmt_form x).good ≡ true → R (stmt_part t x)
 
-  abbrev parts : List (KnownStmt P) → List Part
+  abbrev parts : List (KnownStmt P) → List StatementPart
   parts xs = map (stmt_part t) (bare_stmts P xs)
 
   abbrev forms : List (KnownStmt P) → List StmtForm

@@ -1,5 +1,5 @@
 -- Code that turns operands of some types into others, put together.
--- For: `Turns`, specs/Sound.antt
+-- For: `TurnsOperands`, specs/Sound.antt
 -- By: putting the shapes of the parts together; no induction
 use Rattle.std.proofs.Common.{ℕ, ◌+◌, List, [], ◌∷◌, ◌++◌, refl}
 use Rattle.golf_data.specs.declared.code.Instr.{Instr}
@@ -9,11 +9,11 @@ use Rattle.golf_code_layout.specs.Piece.{Piece, all, op}
 use Rattle.golf_code_shapes.specs.Has.{shape, filled, To}
 use Rattle.golf_code_shapes.proofs.Pieces.{every-self, has-empty, has-op, has-then, has-exit, has-unless, has-block}
 use Rattle.golf_code_of.specs.Expressions.{either}
-use Rattle.golf_code_shapes.specs.Sound.{Turns}
+use Rattle.golf_code_shapes.specs.Sound.{TurnsOperands}
 
 module _ (types : Types) (ft : FunctionTypes) (A : List ℕ) where
   abbrev T : Piece → List ValueType → List ValueType → Type 0
-  T = Turns types ft A
+  T = TurnsOperands types ft A
 
   pub turn-op : (i : Instr) (l : ℕ) (takes leaves : List ValueType)
       → ((full : List Shape) (k : ℕ) (ops : List ValueType) → To (filled ft full) (shape (leaves ++ ops) A) (k + 1)

@@ -26,7 +26,7 @@ use Rattle.golf_check_types.specs.declared.scopes.FileScope.{FileScope}
 use Rattle.golf_check_types.specs.declared.scopes.Scope.{Scope}
 use Rattle.golf_check_types.specs.Types.{assignable}
 use Rattle.golf_check_types.specs.Expressions.{used, given_by}
-use Rattle.golf_check_types.specs.Judging.{judge}
+use Rattle.golf_check_types.specs.Judgments.{judge}
 use Rattle.golf_check_types.specs.Files.{outside, globals_above, initial_walk, decl_walked, walk_faults, formed_content}
 use Rattle.golf_check_types.specs.Files.{with_forms, with_types, bare_file, function_types, import_faults, names_faults}
 use Rattle.golf_check_types.specs.Files.{none_above, type_faults, main_faults, with_imports, no_imports, Broken}
@@ -34,7 +34,7 @@ use Rattle.golf_model_typing.specs.Types.{ValueType, Shape, Signature, FunctionT
 use Rattle.golf_model_typing.specs.Types.{ValuesFit}
 use Rattle.golf_live.specs.Live.{live}
 use Rattle.golf_model_typing.proofs.NeededSlots.{masked-fit}
-use Rattle.golf_model_typing.specs.Shapes.{FunctionFits, MasksCover, HasShapes, pushed, GoesOn}
+use Rattle.golf_model_typing.specs.Shapes.{FunctionFits, MasksCover, HasShapes, pushed, LeadsToShape}
 use Rattle.golf_code_layout.specs.Piece.{Piece, all, op}
 use Rattle.golf_code_shapes.specs.Has.{shape, filled, Has}
 use Rattle.golf_code_shapes.proofs.Pieces.{has-empty, has-op, has-then}
@@ -43,13 +43,13 @@ use Rattle.golf_code_of.specs.Table.{Texts, with_text, table_of, number_from, te
 use Rattle.golf_code_of.specs.Texts.{decl_texts, texts_of}
 use Rattle.golf_code_of.specs.declared.tables.Tables.{Tables}
 use Rattle.golf_code_of.specs.Values.{zero_value}
-use Rattle.golf_code_of.specs.declared.making.Making.{Making}
-use Rattle.golf_code_of.specs.Coding.{piece_at}
+use Rattle.golf_code_of.specs.declared.surroundings.Making.{Making}
+use Rattle.golf_code_of.specs.ExpressionCode.{piece_at}
 use Rattle.golf_code_of.specs.Files.{function, function_of, body_laid, functions_from, made_function, initial, initials}
 use Rattle.golf_code_of.specs.Files.{entry_body, main_number, main_line, tables_of, giving, code_in, CodeOf}
 use Rattle.golf_code_shapes.specs.Types.{value_type, known_types}
 use Rattle.golf_code_shapes.specs.Sound.{FileFits, ScopeFits, Pushes}
-use Rattle.golf_code_shapes.specs.Flowing.{IsMaking, MadeFit}
+use Rattle.golf_code_shapes.specs.StatementFlow.{IsMaking, MadeFit}
 use Rattle.golf_code_shapes.specs.FunctionLaws.{function_signature, made_signature, FunctionIsFit}
 use Rattle.golf_code_shapes.specs.FileLaws.{entry_signature, own_signatures, types_of_code, scope_of, initial_scope}
 use Rattle.golf_code_shapes.specs.FileLaws.{GlobalIsKnown, DeclarationIsKnown, DeclarationsAreKnown, NamesFit, FilesFit}
@@ -339,7 +339,7 @@ module _ (types : Types) (t : Tables) (f : FileScope) (file : FileFits types t f
         there,
         sym (ap length params),
         sym (ap (λ ps. pushed ps []) params),
-        subst (λ r. GoesOn (filled first_types full) (option_to_list r ++ []) [] (k + 1)) (sym result) g,
+        subst (λ r. LeadsToShape (filled first_types full) (option_to_list r ++ []) [] (k + 1)) (sym result) g,
       )) in
       let ends = ends-then types first_types (initials t f 0 xs) _ e e (initials-has 0 xs [] h)
       (ends-then types first_types (op l (Instr.Call m 0)) _ e e calls

@@ -16,7 +16,7 @@ use Rattle.golf_check_types.specs.declared.scopes.Scope.{Scope}
 use Rattle.golf_check_types.specs.Types.{type_given}
 use Rattle.golf_check_types.specs.Written.{write_at}
 use Rattle.golf_check_types.specs.Expressions.{given_by}
-use Rattle.golf_check_types.specs.Judging.{judge_at}
+use Rattle.golf_check_types.specs.Judgments.{judge_at}
 use Rattle.golf_check_types.specs.declared.operands.Operand.{Operand}
 use Rattle.golf_check_types.specs.declared.scopes.Member.{Member}
 use Rattle.golf_check_types.specs.Scopes.{file_operand, member}
@@ -25,7 +25,7 @@ use Rattle.golf_check_types.specs.Files.{all_typed_names, Typed}
 use Rattle.golf_model_typing.specs.Types.{Shape, Signature, Types}
 use Rattle.golf_model_typing.specs.Shapes.{HasShapes}
 use Rattle.golf_code_of.specs.declared.tables.Tables.{Tables}
-use Rattle.golf_code_of.specs.declared.making.Making.{Making}
+use Rattle.golf_code_of.specs.declared.surroundings.Making.{Making}
 use Rattle.golf_code_of.specs.Files.{functions_from, main_number, tables_of, giving, CodeOf}
 use Rattle.golf_code_shapes.specs.Types.{known_types}
 use Rattle.golf_code_shapes.specs.Sound.{IsKnown, NameFits, MemberFits}

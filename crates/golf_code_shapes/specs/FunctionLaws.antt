@@ -15,11 +15,11 @@ use Rattle.golf_check_types.specs.Files.{all_typed_names, func_walk, body_scope}
 use Rattle.golf_model_typing.specs.Types.{Shape, Signature, Types, with_shapes}
 use Rattle.golf_model_typing.specs.Shapes.{FunctionFits}
 use Rattle.golf_code_of.specs.declared.tables.Tables.{Tables}
-use Rattle.golf_code_of.specs.declared.making.Making.{Making}
+use Rattle.golf_code_of.specs.declared.surroundings.Making.{Making}
 use Rattle.golf_code_of.specs.Files.{body_part, body_laid, function_of, made_function}
 use Rattle.golf_code_shapes.specs.Types.{value_type, known_types}
 use Rattle.golf_code_shapes.specs.Sound.{IsKnown, FileFits}
-use Rattle.golf_code_shapes.specs.Flowing.{IsMaking, MadeFit}
+use Rattle.golf_code_shapes.specs.StatementFlow.{IsMaking, MadeFit}
 
 -- the scope outside a function, with its result
 abbrev pub result_scope : Scope → Func → Scope

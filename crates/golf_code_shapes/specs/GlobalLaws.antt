@@ -8,7 +8,7 @@ use Rattle.golf_check_types.specs.declared.types.GoType.{GoType}
 use Rattle.golf_check_types.specs.declared.scopes.Imports.{Imports}
 use Rattle.golf_check_types.specs.declared.scopes.FileScope.{FileScope}
 use Rattle.golf_check_types.specs.Scopes.{type_at}
-use Rattle.golf_check_types.specs.Judging.{judge}
+use Rattle.golf_check_types.specs.Judgments.{judge}
 use Rattle.golf_check_types.specs.Files.{outside, file_scope, walk_faults, Typed}
 use Rattle.golf_code_of.specs.Files.{tables_of}
 use Rattle.golf_code_shapes.specs.FileLaws.{initial_scope, scope_of, DeclarationsAreKnown, NamesFit}

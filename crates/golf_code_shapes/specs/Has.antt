@@ -4,7 +4,7 @@ use Rattle.golf_theory.specs.Membership.{In, Every}
 use Rattle.golf_data.specs.declared.code.CodeLine.{CodeLine}
 use Rattle.golf_data.specs.declared.code.SelectCase.{SelectCase}
 use Rattle.golf_model_typing.specs.Types.{ValueType, Shape, FunctionTypes, Types}
-use Rattle.golf_model_typing.specs.Shapes.{GoesOn, InstructionFits, case_takes, case_leaves}
+use Rattle.golf_model_typing.specs.Shapes.{LeadsToShape, InstructionFits, case_takes, case_leaves}
 use Rattle.golf_code_layout.specs.Piece.{Piece, size, placed}
 
 abbrev pub shape : List ValueType → List ℕ → Shape
@@ -15,9 +15,9 @@ abbrev pub filled : FunctionTypes → List Shape → FunctionTypes
 filled ft full = record ft { shapes = full }
 
 -- these shapes are at this place
-abbrev pub Stand : List Shape → ℕ → List Shape → Type 0
-Stand full at [] = Unit {0}
-Stand full at (x ∷ xs) = (slice_get full at ≡ Some x) × Stand full (at + 1) xs
+abbrev pub ShapesStand : List Shape → ℕ → List Shape → Type 0
+ShapesStand full at [] = Unit {0}
+ShapesStand full at (x ∷ xs) = (slice_get full at ≡ Some x) × ShapesStand full (at + 1) xs
 
 -- these lines fit at this place
 abbrev pub Fit : Types → FunctionTypes → ℕ → List CodeLine → Type 0
@@ -27,7 +27,7 @@ Fit types ft at (l ∷ ls) = ((sh : Shape) × (slice_get ft.shapes at ≡ Some s
 
 -- the code can go on at this place with this shape
 abbrev pub To : FunctionTypes → Shape → ℕ → Type 0
-To ft sh k = GoesOn ft sh.operands sh.assigned k
+To ft sh k = LeadsToShape ft sh.operands sh.assigned k
 
 -- the targets have these shapes
 abbrev pub Exits : FunctionTypes → List Shape → List ℕ → Type 0
@@ -39,17 +39,18 @@ Exits ft (sh ∷ shs) (t ∷ ts) = To ft sh t × Exits ft shs ts
 pub record Has (types : Types) (ft : FunctionTypes) (p : Piece) (from to : Shape) (exits : List Shape) : Type 0 where
   pub shapes : List Shape
   pub long : length shapes ≡ size p
-  pub enters : (full : List Shape) (at : ℕ) → Stand full at shapes → To (filled ft full) to (at + size p)
+  pub enters : (full : List Shape) (at : ℕ) → ShapesStand full at shapes → To (filled ft full) to (at + size p)
       → To (filled ft full) from at
-  pub fits : (full : List Shape) (at : ℕ) (ts : List ℕ) → Stand full at shapes → To (filled ft full) to (at + size p)
+  pub fits : (full : List Shape) (at : ℕ) (ts : List ℕ) → ShapesStand full at shapes
+      → To (filled ft full) to (at + size p)
       → Exits (filled ft full) exits ts → Fit types (filled ft full) at (placed p at ts)
 
 -- A piece begins with this shape, and does not go on after itself.
-pub record Ends (types : Types) (ft : FunctionTypes) (p : Piece) (from : Shape) : Type 0 where
+pub record StopsAfter (types : Types) (ft : FunctionTypes) (p : Piece) (from : Shape) : Type 0 where
   pub shapes : List Shape
   pub long : length shapes ≡ size p
-  pub enters : (full : List Shape) (at : ℕ) → Stand full at shapes → To (filled ft full) from at
-  pub fits : (full : List Shape) (at : ℕ) → Stand full at shapes → Fit types (filled ft full) at (placed p at [])
+  pub enters : (full : List Shape) (at : ℕ) → ShapesStand full at shapes → To (filled ft full) from at
+  pub fits : (full : List Shape) (at : ℕ) → ShapesStand full at shapes → Fit types (filled ft full) at (placed p at [])
 
 -- the target of this number takes these operands, and asks only for these slots
 abbrev pub Reaches : List Shape → List ValueType → List ℕ → ℕ → Type 0

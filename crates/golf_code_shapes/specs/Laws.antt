@@ -4,14 +4,14 @@ use Rattle.golf_syntax_trees.specs.declared.expressions.Expr.{Expr}
 use Rattle.golf_syntax_trees.specs.declared.statements.Stmt.{Stmt}
 use Rattle.golf_syntax_trees.specs.Statements.{stmt_form}
 use Rattle.golf_check_types.specs.declared.scopes.Scope.{Scope}
-use Rattle.golf_check_types.specs.Judging.{Judge, judge}
+use Rattle.golf_check_types.specs.Judgments.{Judge, judge}
 use Rattle.golf_check_types.specs.Statements.{walk}
 use Rattle.golf_model_typing.specs.Types.{FunctionTypes, Types}
 use Rattle.golf_code_of.specs.declared.tables.Tables.{Tables}
 use Rattle.golf_code_of.specs.Expressions.{Made}
-use Rattle.golf_code_of.specs.Coding.{coded}
-use Rattle.golf_code_of.specs.Laying.{stmt_part}
-use Rattle.golf_code_shapes.specs.Flowing.{StatementFits}
+use Rattle.golf_code_of.specs.ExpressionCode.{coded}
+use Rattle.golf_code_of.specs.StatementCode.{stmt_part}
+use Rattle.golf_code_shapes.specs.StatementFlow.{StatementFits}
 use Rattle.golf_code_shapes.specs.Sound.{ScopeFits, Shown}
 
 -- the code of an expression that breaks no rule does what its judgment says, if the names of a scope mean what the

@@ -7,7 +7,7 @@ use Rattle.golf_data.specs.declared.code.SelectCase.{SelectCase}
 use Rattle.golf_model_typing.specs.Types.{ValueType, Shape, Signature, FunctionTypes, Types, with_shapes}
 use Rattle.golf_model_typing.specs.Shapes.{InstructionFits, FunctionFits, slot_types}
 use Rattle.golf_code_layout.specs.Piece.{Piece, placed}
-use Rattle.golf_code_shapes.specs.Has.{shape, filled, To, Has, Ends, Reaches, CasesReach, DefaultReaches}
+use Rattle.golf_code_shapes.specs.Has.{shape, filled, To, Has, StopsAfter, Reaches, CasesReach, DefaultReaches}
 
 -- how pieces with shapes are put together
 pub record PutTogether (types : Types) (ft : FunctionTypes) : Type 0 where
@@ -41,6 +41,6 @@ PiecesHaveShapes = (types : Types) (ft : FunctionTypes) → PutTogether types ft
 -- a body fits its types if it begins with only its parameters assigned, and ends
 abbrev pub BodiesFit : Type 0
 BodiesFit = (types : Types) (sig : Signature) (p : Piece) (assigned : List ℕ) (fn : Function)
-    → Ends types (with_shapes sig []) p (shape [] assigned) → Every (λ i. i < length sig.params) assigned
+    → StopsAfter types (with_shapes sig []) p (shape [] assigned) → Every (λ i. i < length sig.params) assigned
     → fn.slots ≡ length (slot_types (with_shapes sig [])) → fn.body ≡ placed p 0 []
     → (shapes : List Shape) × FunctionFits types fn (with_shapes sig shapes)

@@ -1,7 +1,7 @@
 pub mod Types
 pub mod Sound
 pub mod Laws
-pub mod Flowing
+pub mod StatementFlow
 pub mod FunctionLaws
 pub mod FileLaws
 pub mod Has

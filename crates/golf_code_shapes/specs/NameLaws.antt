@@ -30,13 +30,14 @@ pub record WellNamed (i : Imports) (xs : List Decl) : Type 0 where
   pub types : flat_map (type_faults (outside (bare_file i xs))) xs ≡ []
 
 -- what the names and members of a file mean
-pub record Meant (t : Tables) (f : FileScope) (xs : List Decl) : Type 0 where
+pub record NamesMeant (t : Tables) (f : FileScope) (xs : List Decl) : Type 0 where
   pub names : (n : List ℕ) (m : Operand) → file_operand f n ≡ Some m → NameFits (types_of_code t f xs) t f m
   pub members : (k : ℕ) (n : List ℕ) (m : Member) → member f k n ≡ Some m → MemberFits (types_of_code t f xs) t f k m
 
 abbrev pub NamesMean : Type 0
 NamesMean = (i : Imports) (xs : List Decl) (globals : List (Option GoType)) → WellNamed i xs
-    → GlobalsAreKnown globals (length (flat_map contents_of xs)) → Meant (tables_of xs) (named_with i xs globals) xs
+    → GlobalsAreKnown globals (length (flat_map contents_of xs))
+    → NamesMeant (tables_of xs) (named_with i xs globals) xs
 
 -- `main` takes nothing and gives nothing
 abbrev pub MainFits : Type 0

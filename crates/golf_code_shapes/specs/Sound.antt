@@ -75,33 +75,33 @@ module _ (types : Types) (t : Tables) (ft : FunctionTypes) where
 
 module _ (types : Types) (ft : FunctionTypes) (assigned : List ℕ) where
   -- the piece takes these operands, the top one first, and leaves those
-  abbrev pub Turns : Piece → List ValueType → List ValueType → Type 0
-  Turns p takes leaves = (ops : List ValueType) (exits : List Shape)
+  abbrev pub TurnsOperands : Piece → List ValueType → List ValueType → Type 0
+  TurnsOperands p takes leaves = (ops : List ValueType) (exits : List Shape)
       → Has types ft p (shape (takes ++ ops) assigned) (shape (leaves ++ ops) assigned) exits
 
   abbrev pub Pushes : Piece → ValueType → Type 0
-  Pushes p e = Turns p [] (e ∷ [])
+  Pushes p e = TurnsOperands p [] (e ∷ [])
 
   -- the piece leaves the operands as they are
   abbrev pub Silent : Piece → Type 0
-  Silent p = Turns p [] []
+  Silent p = TurnsOperands p [] []
 
   -- a place that holds a value of this type, named by operands of the types in `told`
   pub record Places (x : Made) (e : ValueType) : Type 0 where
     pub told : List ValueType
-    pub parts : Turns x.parts [] told
+    pub parts : TurnsOperands x.parts [] told
     pub twice : (ops : List ValueType) (exits : List Shape)
         → Has types ft x.twice (shape (told ++ ops) assigned) (shape (told ++ (told ++ ops)) assigned) exits
-    pub read : Turns x.read told (e ∷ [])
-    pub store : Turns x.store (e ∷ told) []
+    pub read : TurnsOperands x.read told (e ∷ [])
+    pub store : TurnsOperands x.store (e ∷ told) []
 
   abbrev pub PlaceOf : Made → ValueType → Type 0
   PlaceOf x e = Pushes x.piece e × Places x e
 
   -- the receiver of a method of package sync
-  abbrev pub Receives : Option Base → Piece → Type 0
-  Receives None p = Silent p
-  Receives (Some b) p = Pushes p (base_type b)
+  abbrev pub PushesReceiver : Option Base → Piece → Type 0
+  PushesReceiver None p = Silent p
+  PushesReceiver (Some b) p = Pushes p (base_type b)
 
 module _ (types : Types) (t : Tables) (ft : FunctionTypes) (assigned : List ℕ) (f : FileScope) where
   -- what the code of an expression does, by the expression's judgment
@@ -115,18 +115,18 @@ module _ (types : Types) (t : Tables) (ft : FunctionTypes) (assigned : List ℕ)
   Shown (operand.Element (Some e)) x = PlaceOf types ft assigned x (value_type e)
   Shown operand.Nil x = (e : ValueType) → IsNilable e → Pushes types ft assigned x.piece e
   Shown operand.Blank x = Silent types ft assigned x.parts
-      × ((e : ValueType) → Turns types ft assigned x.store (e ∷ []) [])
+      × ((e : ValueType) → TurnsOperands types ft assigned x.store (e ∷ []) [])
   Shown (operand.Nothing None) x = Silent types ft assigned x.piece
   Shown (operand.Nothing (Some rule)) x = Unit {0}
   Shown (operand.Function k) x = Silent types ft assigned x.piece × Callee types t f k []
   Shown (operand.Method k) x = (j : ℕ) × Pushes types ft assigned x.piece (ValueType.Struct j)
       × Callee types t f k (ValueType.Struct j ∷ [])
-  Shown (operand.BuiltIn b) x = Receives types ft assigned (receiver_base b) x.piece
+  Shown (operand.BuiltIn b) x = PushesReceiver types ft assigned (receiver_base b) x.piece
   Shown (operand.Package p) x = Silent types ft assigned x.piece
   Shown (operand.Struct k) x = Unit {0}
   Shown operand.TypeName x = Unit {0}
   Shown _ x = ⊥
 
   -- the code pushes such a value
-  abbrev pub Gives : Given → Piece → Type 0
-  Gives g p = ByType (Pushes types ft assigned p) g
+  abbrev pub PushesGiven : Given → Piece → Type 0
+  PushesGiven g p = ByType (Pushes types ft assigned p) g

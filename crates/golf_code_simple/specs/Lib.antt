@@ -1,1 +1,1 @@
-pub mod Doing
+pub mod SimpleClauses

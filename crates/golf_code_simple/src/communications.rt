@@ -1,8 +1,8 @@
 //! The code of the communication of a clause of `select`: its operands, and its code once it is chosen.
 
 ghost use Rattle.golf_code_facts.specs.Selects.{operands_by, takes_in};
-ghost use Rattle.golf_code_expressions.specs.Writing.{Extends};
-ghost use Rattle.golf_code_simple.specs.Doing.{Does};
+ghost use Rattle.golf_code_expressions.specs.WriterClauses.{Extends};
+ghost use Rattle.golf_code_simple.specs.SimpleClauses.{WritesSimple};
 
 use crate::names::{store_next, store_two};
 use golf_base::Memory;
@@ -31,13 +31,13 @@ pub fn operands(writer: &mut Writer, line: u32, communication: &Communication) -
     }
 }
 
-/// Passes over the operands of a communication, and adds the code for the received values of a clause on this line.
+/// Skips the operands of a communication, and adds the code for the received values of a clause on this line.
 pub fn communication(
     writer: &mut Writer,
     case_line: u32,
     communication: &Communication,
 ) -> Result<(), Memory>
-    ensures { Does result (takes_in writer.old.draft.tables.now case_line communication.now writer.old.facts) writer.old writer.new }
+    ensures { WritesSimple result (takes_in writer.old.draft.tables.now case_line communication.now writer.old.facts) writer.old writer.new }
 {
     writer.facts.skip();
     match communication {

@@ -8,7 +8,7 @@ ghost use Rattle.golf_code_facts.specs.Facts.{past_one};
 ghost use Rattle.golf_code_facts.specs.Statements.{past_two};
 ghost use Rattle.golf_code_facts.specs.Loops.{past_names, index_name as index_name_of, element_name as element_name_of};
 ghost use Rattle.golf_code_facts.specs.Loops.{slice_names as slice_names_of, channel_name as channel_name_of};
-ghost use Rattle.golf_code_expressions.specs.Writing.{Writes};
+ghost use Rattle.golf_code_expressions.specs.WriterClauses.{Writes};
 
 use crate::names::store_next;
 use golf_base::Memory;
@@ -30,7 +30,7 @@ fn index_name(
     ensures { Writes result (index_name_of writer.old.draft.tables.now line slice name.now writer.old.facts) (past_one writer.old.facts) writer.old writer.new }
 {
     if is_blank(name) {
-        writer.facts.pass();
+        writer.facts.skip_one();
         return Ok(());
     }
     op(&mut writer.draft.emitted, line, Instr::Load(index))?;
@@ -49,7 +49,7 @@ fn element_name(
     ensures { Writes result (element_name_of writer.old.draft.tables.now line slice name.now writer.old.facts) (past_one writer.old.facts) writer.old writer.new }
 {
     if is_blank(name) {
-        writer.facts.pass();
+        writer.facts.skip_one();
         return Ok(());
     }
     op(&mut writer.draft.emitted, line, Instr::Load(slice))?;
@@ -98,8 +98,8 @@ pub fn slice_names(
 fn two_received(writer: &mut Writer, line: u32, first: &[u8], second: &[u8]) -> Result<(), Memory>
     ensures { Writes result (channel_name_of writer.old.draft.tables.now line (RangeNames.Two first.now second.now) writer.old.facts) (past_two writer.old.facts) writer.old writer.new }
 {
-    writer.facts.pass();
-    writer.facts.pass();
+    writer.facts.skip_one();
+    writer.facts.skip_one();
     op(&mut writer.draft.emitted, line, Instr::Drop)
 }
 

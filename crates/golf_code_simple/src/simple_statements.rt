@@ -4,7 +4,7 @@ ghost use Rattle.std.specs.Prelude.{◌≡◌};
 ghost use Rattle.golf_code_of.specs.Statements.{drops as drops_of, update_instr as update_instr_of};
 ghost use Rattle.golf_code_layout.specs.Emission.{Adds};
 ghost use Rattle.golf_code_facts.specs.Statements.{steps_by, simple_by, optional_by};
-ghost use Rattle.golf_code_simple.specs.Doing.{Does};
+ghost use Rattle.golf_code_simple.specs.SimpleClauses.{WritesSimple};
 
 use crate::names::{define, store_two};
 use golf_base::{List, Memory};
@@ -25,7 +25,7 @@ fn drops(emitted: &mut List<Emitted>, line: u32, operand: &Operand) -> Result<()
 }
 
 fn action(writer: &mut Writer, line: u32, e: &Expr) -> Result<(), Memory>
-    ensures { Does result (simple_by writer.old.draft.tables.now line (SimpleKind.Expression e.now) writer.old.facts) writer.old writer.new }
+    ensures { WritesSimple result (simple_by writer.old.draft.tables.now line (SimpleKind.Expression e.now) writer.old.facts) writer.old writer.new }
 {
     let operand = writer.facts.operand();
     expression(writer, line, e)?;
@@ -33,7 +33,7 @@ fn action(writer: &mut Writer, line: u32, e: &Expr) -> Result<(), Memory>
 }
 
 fn send(writer: &mut Writer, line: u32, channel: &Expr, e: &Expr) -> Result<(), Memory>
-    ensures { Does result (simple_by writer.old.draft.tables.now line (SimpleKind.Send channel.now e.now) writer.old.facts) writer.old writer.new }
+    ensures { WritesSimple result (simple_by writer.old.draft.tables.now line (SimpleKind.Send channel.now e.now) writer.old.facts) writer.old writer.new }
 {
     expression(writer, line, channel)?;
     expression(writer, line, e)?;
@@ -41,7 +41,7 @@ fn send(writer: &mut Writer, line: u32, channel: &Expr, e: &Expr) -> Result<(), 
 }
 
 fn step(writer: &mut Writer, line: u32, left: &Expr, instr: Instr) -> Result<(), Memory>
-    ensures { Does result (steps_by writer.old.draft.tables.now line left.now instr writer.old.facts) writer.old writer.new }
+    ensures { WritesSimple result (steps_by writer.old.draft.tables.now line left.now instr writer.old.facts) writer.old writer.new }
 {
     let found = left_side(writer, line, left)?;
     twice(&mut writer.draft.emitted, line, found)?;
@@ -52,7 +52,7 @@ fn step(writer: &mut Writer, line: u32, left: &Expr, instr: Instr) -> Result<(),
 }
 
 fn assignment(writer: &mut Writer, line: u32, left: &Expr, e: &Expr) -> Result<(), Memory>
-    ensures { Does result (simple_by writer.old.draft.tables.now line (SimpleKind.Assign left.now e.now) writer.old.facts) writer.old writer.new }
+    ensures { WritesSimple result (simple_by writer.old.draft.tables.now line (SimpleKind.Assign left.now e.now) writer.old.facts) writer.old writer.new }
 {
     let found = left_side(writer, line, left)?;
     expression(writer, line, e)?;
@@ -78,7 +78,7 @@ fn update(
     operator: UpdateOperator,
     e: &Expr,
 ) -> Result<(), Memory>
-    ensures { Does result (simple_by writer.old.draft.tables.now line (SimpleKind.Update left.now operator e.now) writer.old.facts) writer.old writer.new }
+    ensures { WritesSimple result (simple_by writer.old.draft.tables.now line (SimpleKind.Update left.now operator e.now) writer.old.facts) writer.old writer.new }
 {
     let found = left_side(writer, line, left)?;
     twice(&mut writer.draft.emitted, line, found)?;
@@ -95,7 +95,7 @@ fn define_received(
     second: &[u8],
     e: &Expr,
 ) -> Result<(), Memory>
-    ensures { Does result (simple_by writer.old.draft.tables.now line (SimpleKind.DefineReceived first.now second.now e.now) writer.old.facts) writer.old writer.new }
+    ensures { WritesSimple result (simple_by writer.old.draft.tables.now line (SimpleKind.DefineReceived first.now second.now e.now) writer.old.facts) writer.old writer.new }
 {
     expression(writer, line, e)?;
     op(&mut writer.draft.emitted, line, Instr::ReceiveOk)?;
@@ -109,7 +109,7 @@ fn assign_received(
     second: &[u8],
     e: &Expr,
 ) -> Result<(), Memory>
-    ensures { Does result (simple_by writer.old.draft.tables.now line (SimpleKind.AssignReceived first.now second.now e.now) writer.old.facts) writer.old writer.new }
+    ensures { WritesSimple result (simple_by writer.old.draft.tables.now line (SimpleKind.AssignReceived first.now second.now e.now) writer.old.facts) writer.old writer.new }
 {
     expression(writer, line, e)?;
     op(&mut writer.draft.emitted, line, Instr::ReceiveOk)?;
@@ -118,7 +118,7 @@ fn assign_received(
 
 /// Adds the code of a simple statement.
 pub fn simple(writer: &mut Writer, simple: &Simple) -> Result<(), Memory>
-    ensures { Does result (simple_by writer.old.draft.tables.now simple.now.line simple.now.kind writer.old.facts) writer.old writer.new }
+    ensures { WritesSimple result (simple_by writer.old.draft.tables.now simple.now.line simple.now.kind writer.old.facts) writer.old writer.new }
 {
     let line = simple.line;
     match simple.kind.get() {
@@ -142,7 +142,7 @@ pub fn simple(writer: &mut Writer, simple: &Simple) -> Result<(), Memory>
 
 /// Adds the code of a simple statement, if there is one.
 pub fn optional(writer: &mut Writer, one: &Option<OwnedSimple>) -> Result<(), Memory>
-    ensures { Does result (optional_by writer.old.draft.tables.now one.now writer.old.facts) writer.old writer.new }
+    ensures { WritesSimple result (optional_by writer.old.draft.tables.now one.now writer.old.facts) writer.old writer.new }
 {
     match one {
         None => Ok(()),

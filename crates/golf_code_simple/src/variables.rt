@@ -4,7 +4,7 @@ ghost use Rattle.std.specs.Prelude.{◌≡◌};
 ghost use Rattle.golf_check_types.specs.Types.{type_of};
 ghost use Rattle.golf_code_of.specs.Values.{push as push_of, zero_value as zero_value_of};
 ghost use Rattle.golf_code_facts.specs.Statements.{var_by, return_by};
-ghost use Rattle.golf_code_simple.specs.Doing.{Does};
+ghost use Rattle.golf_code_simple.specs.SimpleClauses.{WritesSimple};
 
 use crate::names::{define, store_next};
 use golf_base::Memory;
@@ -41,7 +41,7 @@ fn zero_of(operand: &Operand) -> Instr
 
 // Adds the code of `var n T`.
 fn zero(writer: &mut Writer, line: u32, of_type: &TypeExpr) -> Result<(), Memory>
-    ensures { Does result (var_by writer.old.draft.tables.now line (VarContent.Zero of_type.now) writer.old.facts) writer.old writer.new }
+    ensures { WritesSimple result (var_by writer.old.draft.tables.now line (VarContent.Zero of_type.now) writer.old.facts) writer.old writer.new }
 {
     let operand = writer.facts.operand();
     op(&mut writer.draft.emitted, line, zero_of(operand))?;
@@ -50,7 +50,7 @@ fn zero(writer: &mut Writer, line: u32, of_type: &TypeExpr) -> Result<(), Memory
 
 /// Adds the code of a variable.
 pub fn variable(writer: &mut Writer, var: &Var) -> Result<(), Memory>
-    ensures { Does result (var_by writer.old.draft.tables.now var.now.line var.now.content writer.old.facts) writer.old writer.new }
+    ensures { WritesSimple result (var_by writer.old.draft.tables.now var.now.line var.now.content writer.old.facts) writer.old writer.new }
 {
     let line = var.line;
     match var.content.get() {
@@ -62,7 +62,7 @@ pub fn variable(writer: &mut Writer, var: &Var) -> Result<(), Memory>
 
 /// Adds the code of a return.
 pub fn returned(writer: &mut Writer, line: u32, e: &Option<OwnedExpr>) -> Result<(), Memory>
-    ensures { Does result (return_by writer.old.draft.tables.now line e.now writer.old.facts) writer.old writer.new }
+    ensures { WritesSimple result (return_by writer.old.draft.tables.now line e.now writer.old.facts) writer.old writer.new }
 {
     match e {
         None => op(&mut writer.draft.emitted, line, Instr::Return),

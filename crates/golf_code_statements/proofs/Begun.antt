@@ -8,11 +8,11 @@ use Rattle.golf_check_types.specs.declared.facts.Fact.{Fact}
 use Rattle.golf_check_types.specs.declared.operands.Operand.TheVariants as operand
 use Rattle.golf_code_layout.specs.Piece.{all, op}
 use Rattle.golf_code_of.specs.declared.tables.Tables.{Tables}
-use Rattle.golf_code_of.specs.Calls.{Argument, pushes}
+use Rattle.golf_code_of.specs.Calls.{ArgumentCode, pushes}
 use Rattle.golf_code_facts.specs.Facts.{skip, skip_all}
 use Rattle.golf_code_facts.specs.Expressions.{taking, arguments}
 use Rattle.golf_code_expressions.specs.declared.writer.Writer.{Writer}
-use Rattle.golf_code_expressions.specs.Writing.{with_piece}
+use Rattle.golf_code_expressions.specs.WriterClauses.{with_piece}
 use Rattle.golf_code_statements.specs.Begun.{begun}
 use Rattle.golf_code_statements.specs.Lays.{after}
 use Rattle.golf_code_statements.proofs.Seams.{written, quiet}
@@ -24,7 +24,7 @@ as_many t l [] fs = refl
 as_many t l (x ∷ xs) fs = ap (λ n. suc n) (as_many t l xs (skip fs))
 
 module _ (w : Writer) (l : ℕ) (begin : ℕ → ℕ → Instr) (xs : List Expr) where
-  abbrev ys : List Argument
+  abbrev ys : List ArgumentCode
   ys = arguments l (map (taking w.draft.tables.now) xs) w.facts
 
   -- a function of the file, with so many operands more than arguments

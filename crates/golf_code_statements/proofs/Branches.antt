@@ -14,7 +14,7 @@ use Rattle.golf_code_layout.specs.declared.emitted.Emitted.TheVariants as emit
 use Rattle.golf_code_of.specs.declared.tables.Tables.{Tables}
 use Rattle.golf_code_facts.specs.Statements.{LayBy, or_else, then_lay, else_lay}
 use Rattle.golf_code_facts.specs.Selects.{ClauseBy}
-use Rattle.golf_code_facts.specs.Laying.{stmt_by, clause_by_step, stmt_by_step}
+use Rattle.golf_code_facts.specs.StatementCode.{stmt_by, clause_by_step, stmt_by_step}
 use Rattle.golf_code_expressions.specs.declared.writer.Writer.{Writer}
 use Rattle.golf_code_statements.specs.declared.targets.Targets.{Targets}
 use Rattle.golf_code_statements.specs.Lays.{around, after}

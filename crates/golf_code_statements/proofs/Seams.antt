@@ -7,14 +7,14 @@ use Rattle.std.specs.Prelude.{Result, Ok, Err}
 use Rattle.golf_base.specs.declared.Memory.{Memory}
 use Rattle.golf_check_types.specs.declared.facts.Fact.{Fact}
 use Rattle.golf_code_layout.specs.Piece.{Piece}
-use Rattle.golf_code_of.specs.declared.making.Making.{Making}
+use Rattle.golf_code_of.specs.declared.surroundings.Making.{Making}
 use Rattle.golf_code_of.specs.Statements.{laid}
 use Rattle.golf_code_layout.specs.declared.emitted.Emitted.{Emitted}
 use Rattle.golf_code_layout.specs.Emission.{onto}
 use Rattle.golf_code_facts.specs.Statements.{LaidBy, by}
 use Rattle.golf_code_expressions.specs.declared.writer.Draft.{Draft}
 use Rattle.golf_code_expressions.specs.declared.writer.Writer.{Writer}
-use Rattle.golf_code_expressions.specs.Writing.{with_piece, Writes}
+use Rattle.golf_code_expressions.specs.WriterClauses.{with_piece, Writes}
 use Rattle.golf_code_statements.specs.Lays.{after, Lays}
 
 -- with these parts, these functions that are made, and so many before the next one

@@ -1,7 +1,7 @@
 -- The clause of the calls that write statements. Without memory it says nothing.
 use Rattle.std.specs.Prelude.{◌≡◌, ◌+◌, ◌++◌, length, Result, Ok, Err}
 use Rattle.golf_base.specs.declared.Memory.{Memory}
-use Rattle.golf_code_of.specs.declared.making.Around.{Around}
+use Rattle.golf_code_of.specs.declared.surroundings.Around.{Around}
 use Rattle.golf_code_of.specs.Statements.{Laid}
 use Rattle.golf_code_layout.specs.Emission.{onto}
 use Rattle.golf_code_facts.specs.Statements.{LaidBy}

@@ -10,7 +10,7 @@ ghost use Rattle.golf_code_of.specs.Calls.{pushes, receiver_base as receiver_bas
 ghost use Rattle.golf_code_facts.specs.Facts.{skip_all};
 ghost use Rattle.golf_code_facts.specs.Expressions.{taking, arguments as arguments_of};
 ghost use Rattle.golf_code_facts.specs.Statements.{begin_lay};
-ghost use Rattle.golf_code_expressions.specs.Writing.{Writes};
+ghost use Rattle.golf_code_expressions.specs.WriterClauses.{Writes};
 ghost use Rattle.golf_code_statements.specs.Begins.{begin_of};
 ghost use Rattle.golf_code_statements.specs.Begun.{begun};
 ghost use Rattle.golf_code_statements.specs.Lays.{around, Lays};
@@ -53,7 +53,13 @@ fn receiver_base(built_in: BuiltIn) -> Option<Base>
             Some(Base::ReadWriteMutex)
         }
         BuiltIn::WaitCondition | BuiltIn::Signal | BuiltIn::Broadcast => Some(Base::Condition),
-        _ => None,
+        BuiltIn::Length
+        | BuiltIn::Close
+        | BuiltIn::Panic
+        | BuiltIn::Print
+        | BuiltIn::Collect
+        | BuiltIn::SetFinalizer
+        | BuiltIn::NewCondition => None,
     }
 }
 

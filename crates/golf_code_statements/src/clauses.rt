@@ -8,8 +8,8 @@ ghost use Rattle.golf_code_layout.specs.Piece.{all};
 ghost use Rattle.golf_code_of.specs.Selects.{kind_of, case_to, default_or};
 ghost use Rattle.golf_code_facts.specs.Facts.{skip};
 ghost use Rattle.golf_code_facts.specs.Selects.{operands_all, cases_from, default_from, choice as choice_of};
-ghost use Rattle.golf_code_facts.specs.Laying.{clause_by};
-ghost use Rattle.golf_code_expressions.specs.Writing.{Extends, Writes};
+ghost use Rattle.golf_code_facts.specs.StatementCode.{clause_by};
+ghost use Rattle.golf_code_expressions.specs.WriterClauses.{Extends, Writes};
 ghost use Rattle.golf_code_statements.specs.Clauses.{first_of, opened};
 ghost use Rattle.golf_code_statements.specs.Branches.{shut};
 ghost use Rattle.golf_code_of.specs.declared.tables.Tables.{Tables};
@@ -40,7 +40,7 @@ fn kind(communication: &Communication) -> CaseKind
 }
 
 /// Returns the line of a clause.
-#[tactic(auto, unfolding(golf_code_facts::specs::Laying::clause_by))]
+#[tactic(auto, unfolding(golf_code_facts::specs::StatementCode::clause_by))]
 pub fn clause_line(clause: &Clause) -> u32
     ensures { (t : Tables) → result ≡ (clause_by t clause.now).line }
 {
@@ -51,20 +51,20 @@ pub fn clause_line(clause: &Clause) -> u32
 }
 
 // Adds the code that pushes the operands of a clause.
-#[tactic(auto, unfolding(golf_code_facts::specs::Laying::clause_by))]
+#[tactic(auto, unfolding(golf_code_facts::specs::StatementCode::clause_by))]
 fn clause_operands(writer: &mut Writer, line: u32, clause: &Clause) -> Result<(), Memory>
     ensures { Extends result ((clause_by writer.old.draft.tables.now clause.now).operands line writer.old.facts) writer.old writer.new }
 {
     match clause {
         Clause::Case(_, first, _) => {
-            writer.facts.pass();
+            writer.facts.skip_one();
             operands(writer, line, first.get())
         }
         Clause::Default(_, _) => Ok(()),
     }
 }
 
-// Does the same, and passes over the facts of the clause.
+// Does the same, and skips the facts of the clause.
 fn push_operands(writer: &mut Writer, line: u32, clause: &Clause) -> Result<(), Memory>
     ensures { Writes result ((clause_by writer.old.draft.tables.now clause.now).operands line writer.old.facts) (skip writer.old.facts) writer.old writer.new }
 {
@@ -85,7 +85,7 @@ fn all_operands(writer: &mut Writer, line: u32, clauses: &[Clause]) -> Result<()
 }
 
 // Adds a clause of this number to the choice.
-#[tactic(auto, unfolding(golf_code_facts::specs::Laying::clause_by))]
+#[tactic(auto, unfolding(golf_code_facts::specs::StatementCode::clause_by))]
 fn add_clause(choice: &mut Choice, clause: &Clause, number: u32) -> Result<(), Memory>
     ensures cases { (t : Tables) → OnOk result (choice.new.cases ≡ choice.old.cases ++ case_to number (clause_by t clause.now).kind) }
     ensures otherwise { (t : Tables) → OnOk result (choice.new.otherwise ≡ first_of choice.old.otherwise (default_or number (clause_by t clause.now).kind None)) }
@@ -123,7 +123,7 @@ fn choice_from(alloc: Global, clauses: &[Clause]) -> Result<Choice, Memory>
     Ok(choice)
 }
 
-/// Adds the code of the operands of all clauses in source order, and the choice. It passes over no
+/// Adds the code of the operands of all clauses in source order, and the choice. It skips no
 /// fact.
 pub fn choose(writer: &mut Writer, line: u32, clauses: &[Clause]) -> Result<(), Memory>
     ensures { Writes result (choice_of line (map (clause_by writer.old.draft.tables.now) clauses.now) writer.old.facts) writer.old.facts writer.old writer.new }

@@ -12,8 +12,8 @@ ghost use Rattle.golf_code_layout.specs.declared.emitted.Emitted.TheVariants as 
 ghost use Rattle.golf_code_facts.specs.Facts.{skip};
 ghost use Rattle.golf_code_facts.specs.Expressions.{taking};
 ghost use Rattle.golf_code_facts.specs.Loops.{optional_test as optional_test_of};
-ghost use Rattle.golf_code_expressions.specs.Writing.{Writes};
-ghost use Rattle.golf_code_simple.specs.Doing.{Does};
+ghost use Rattle.golf_code_expressions.specs.WriterClauses.{Writes};
+ghost use Rattle.golf_code_simple.specs.SimpleClauses.{WritesSimple};
 
 use golf_base::{List, Memory};
 use golf_check_types::{GoType, Layer, Operand};
@@ -49,7 +49,7 @@ pub fn condition(writer: &mut Writer, line: u32, test: &Expr, target: u32) -> Re
 
 /// Adds the code of the condition of a loop, if there is one.
 pub fn optional_test(writer: &mut Writer, line: u32, test: &Option<OwnedExpr>) -> Result<(), Memory>
-    ensures { Does result (optional_test_of writer.old.draft.tables.now line test.now writer.old.facts) writer.old writer.new }
+    ensures { WritesSimple result (optional_test_of writer.old.draft.tables.now line test.now writer.old.facts) writer.old writer.new }
 {
     match test {
         None => Ok(()),

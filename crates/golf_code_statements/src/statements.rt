@@ -8,7 +8,7 @@ ghost use Rattle.golf_code_facts.specs.Statements.{in_order, after_test, then_la
 ghost use Rattle.golf_code_facts.specs.Loops.{in_loop, forever as forever_of, while as while_of};
 ghost use Rattle.golf_code_facts.specs.Loops.{stepping as stepping_of, steps as steps_of, ranging, for_lay};
 ghost use Rattle.golf_code_facts.specs.Selects.{case_clause, default_clause, select_lay};
-ghost use Rattle.golf_code_facts.specs.Laying.{stmt_by, clause_by};
+ghost use Rattle.golf_code_facts.specs.StatementCode.{stmt_by, clause_by};
 ghost use Rattle.golf_code_statements.specs.Ranges.{ranged_slice, ranged_channel};
 ghost use Rattle.golf_code_statements.specs.Clauses.{with_clauses};
 ghost use Rattle.golf_code_statements.specs.Branches.{branched};
@@ -190,7 +190,7 @@ fn stepping(
     begin_round(&mut writer.draft.emitted)?;
     optional_test(writer, line, test)?;
     let mut of_post = writer.facts.copy();
-    of_post.pass();
+    of_post.skip_one();
     writer.facts.skip();
     begin_block(&mut writer.draft.emitted)?;
     loop_body(writer, 2, 0, body)?;
@@ -227,7 +227,7 @@ fn over_slice(
     ensures { Lays result (ranged_slice writer.old.draft.tables.now line names.now (map (stmt_by writer.old.draft.tables.now) body.now) (apart writer.old) writer.old.facts) writer.old writer.new }
 {
     let slice = writer.facts.hidden();
-    writer.facts.pass();
+    writer.facts.skip_one();
     let length = slot_after(slice, 1)?;
     let index = slot_after(slice, 2)?;
     store_slice(&mut writer.draft.emitted, line, slice, length, index)?;
@@ -252,7 +252,7 @@ fn over_channel(
     ensures { Lays result (ranged_channel writer.old.draft.tables.now line names.now (map (stmt_by writer.old.draft.tables.now) body.now) (apart writer.old) writer.old.facts) writer.old writer.new }
 {
     let channel = writer.facts.hidden();
-    writer.facts.pass();
+    writer.facts.skip_one();
     op(&mut writer.draft.emitted, line, Instr::Store(channel))?;
     begin_block(&mut writer.draft.emitted)?;
     begin_round(&mut writer.draft.emitted)?;
@@ -313,7 +313,7 @@ fn case_at(
 ) -> Result<(), Memory>
     ensures { Lays result ((case_clause writer.old.draft.tables.now case_line first.now (map (stmt_by writer.old.draft.tables.now) body.now)).lay (around writer.old targets) writer.old.facts) writer.old writer.new }
 {
-    writer.facts.pass();
+    writer.facts.skip_one();
     communication(writer, case_line, first)?;
     all(writer, targets, body)
 }
@@ -327,12 +327,12 @@ fn default_at(
 ) -> Result<(), Memory>
     ensures { Lays result ((default_clause case_line (map (stmt_by writer.old.draft.tables.now) body.now)).lay (around writer.old targets) writer.old.facts) writer.old writer.new }
 {
-    writer.facts.pass();
+    writer.facts.skip_one();
     all(writer, targets, body)
 }
 
 #[cycle(laying)]
-#[tactic(auto, unfolding(golf_code_facts::specs::Laying::clause_by, golf_code_facts::specs::Laying::stmt_by))]
+#[tactic(auto, unfolding(golf_code_facts::specs::StatementCode::clause_by, golf_code_facts::specs::StatementCode::stmt_by))]
 fn clause_at(writer: &mut Writer, targets: Targets, clause: &Clause) -> Result<(), Memory>
     ensures { Lays result ((clause_by writer.old.draft.tables.now clause.now).lay (around writer.old targets) writer.old.facts) writer.old writer.new }
 {
@@ -381,7 +381,7 @@ fn select_at(
 
 /// Adds the code of a statement and the functions to be made for it, by the facts that come next.
 #[cycle(laying)]
-#[tactic(auto, unfolding(golf_code_facts::specs::Laying::clause_by, golf_code_facts::specs::Laying::stmt_by))]
+#[tactic(auto, unfolding(golf_code_facts::specs::StatementCode::clause_by, golf_code_facts::specs::StatementCode::stmt_by))]
 pub fn statement(writer: &mut Writer, targets: Targets, stmt: &Stmt) -> Result<(), Memory>
     ensures { Lays result (stmt_by writer.old.draft.tables.now stmt.now (around writer.old targets) writer.old.facts) writer.old writer.new }
 {

@@ -1,4 +1,4 @@
--- The passes over what was emitted give the function of the piece.
+-- The walks over what was emitted give the function of the piece.
 -- For: `function`, src/functions.rt; `IsFunction`, specs/Functions.antt
 -- By: induction over the tree of a piece, and over the list of what was emitted
 use Rattle.std.proofs.Common.{◌≡◌, ℕ, ◌+◌, Bool, true, false, List, [], ◌∷◌, ◌++◌, length, refl, ap, ◌∙◌, sym}
@@ -17,8 +17,8 @@ use Rattle.golf_code_layout.specs.Emission.{onto, flat}
 use Rattle.golf_code_targets.specs.declared.targets.Targets.{Targets}
 use Rattle.golf_code_targets.specs.declared.bodies.Body.{Body}
 use Rattle.golf_code_targets.specs.declared.heights.Heights.{Heights}
-use Rattle.golf_code_targets.specs.Passes.{target_step, target_steps, targets_of, line_step, line_steps, lines_of}
-use Rattle.golf_code_targets.specs.Passes.{no_lines}
+use Rattle.golf_code_targets.specs.Walks.{target_step, target_steps, targets_of, line_step, line_steps, lines_of}
+use Rattle.golf_code_targets.specs.Walks.{no_lines}
 use Rattle.golf_code_targets.specs.Heights.{height_step, height_steps, most_of}
 use Rattle.golf_code_targets.specs.Functions.{IsFunction}
 use Rattle.golf_code_targets.proofs.Looks.{max_both}
@@ -52,7 +52,7 @@ flat_block p = ap (λ xs. xs ++ emit.End ∷ []) (onto_flat (emit.Block ∷ []) 
 flat_again : (p : Piece) → flat (Piece.Again p) ≡ emit.Again ∷ (flat p ++ emit.End ∷ [])
 flat_again p = ap (λ xs. xs ++ emit.End ∷ []) (onto_flat (emit.Again ∷ []) p)
 
--- Passes over lists that were put together.
+-- Walks over lists that were put together.
 
 targets_both : (xs ys : List Emitted) (s : Targets) → target_steps (xs ++ ys) s ≡ target_steps ys (target_steps xs s)
 targets_both [] ys s = refl

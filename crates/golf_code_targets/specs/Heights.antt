@@ -1,13 +1,14 @@
--- The most operands at any place, by one pass over the parts.
+-- The most operands at any place, by one walk over the parts.
 use Rattle.std.specs.Prelude.{ℕ, ◌-◌, Bool, true, false, max, List, [], ◌∷◌, Option, Some, None}
 use Rattle.std.specs.Option.{option_map}
 use Rattle.golf_data.specs.declared.code.SelectCase.{SelectCase}
 use Rattle.golf_data.specs.Effects.{case_left, cases_taken}
-use Rattle.golf_code_layout.specs.Depth.{Flow, height, met, reached, innermost, outer, behind, above, chosen, defaulted}
+use Rattle.golf_code_layout.specs.Depth.{OperandDepth, height, met, reached, innermost, outer, behind, above, chosen}
+use Rattle.golf_code_layout.specs.Depth.{defaulted}
 use Rattle.golf_code_layout.specs.declared.emitted.Emitted.{Emitted}
 use Rattle.golf_code_layout.specs.declared.emitted.Emitted.TheVariants as emit
 use Rattle.golf_code_targets.specs.declared.heights.Heights.{Heights}
-use Rattle.golf_code_targets.specs.Passes.{rest}
+use Rattle.golf_code_targets.specs.Walks.{rest}
 
 -- this number of operands is at the present place
 abbrev pub stands : Option ℕ → Heights → Heights
@@ -17,7 +18,7 @@ stands after s = record s { most = max s.most (height after); here = after }
 abbrev pub leads : ℕ → Option ℕ → Heights → Heights
 leads k h s = record s { targets = reached s.targets k h }
 
-abbrev pub takes_in : Heights → Flow → Heights
+abbrev pub takes_in : Heights → OperandDepth → Heights
 takes_in s f = record s { most = max s.most f.most; here = f.behind; targets = f.targets }
 
 -- the operands after the end of a block; jumps to its end count if that is its target
@@ -39,7 +40,7 @@ abbrev pub default_chosen : Option ℕ → Option ℕ → Heights → Heights
 default_chosen below None s = record s { here = None }
 default_chosen below (Some k) s = record s { here = None; targets = reached s.targets k below }
 
-abbrev pub choice_flow : List SelectCase → Option ℕ → Heights → Flow
+abbrev pub choice_flow : List SelectCase → Option ℕ → Heights → OperandDepth
 choice_flow cases otherwise s = let below =
     option_map (λ n. n - cases_taken cases) s.here in defaulted below otherwise (chosen below cases s.targets)
 

@@ -1,3 +1,3 @@
-pub mod Passes
+pub mod Walks
 pub mod Heights
 pub mod Functions

@@ -1,13 +1,13 @@
-//! The second pass: the lines of a body, with the targets put in.
+//! The second walk: the lines of a body, with the targets put in.
 //!
-//! The first pass has the target of each block. This pass meets the blocks in the same order, and
+//! The first walk has the target of each block. This walk meets the blocks in the same order, and
 //! keeps the targets of the blocks around.
 
 ghost use Rattle.std.specs.Prelude.{◌≡◌, map, IfOk, OnOk};
 ghost use Rattle.std.specs.Option.{option_map};
 ghost use Rattle.golf_code_layout.specs.Piece.{target as target_of, case_at};
-ghost use Rattle.golf_code_targets.specs.Passes.{rest, with_line, entered, line_step, line_steps};
-ghost use Rattle.golf_code_targets.specs.Passes.{no_lines as no_lines_of};
+ghost use Rattle.golf_code_targets.specs.Walks.{rest, with_line, entered, line_step, line_steps};
+ghost use Rattle.golf_code_targets.specs.Walks.{no_lines as no_lines_of};
 
 use crate::copies::copy_instr;
 use crate::nesting::Nesting;
@@ -16,7 +16,7 @@ use golf_code_layout::Emitted;
 use golf_data::{CodeLine, Instr, SelectCase};
 use std::alloc::Global;
 
-/// The state of the second pass: the lines of a body so far.
+/// The state of the second walk: the lines of a body so far.
 #[derive(Drop)]
 pub struct Body {
     /// The targets of the blocks around the next part.

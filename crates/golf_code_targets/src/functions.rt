@@ -1,9 +1,9 @@
-//! From parts to functions: all passes, and the masks of live slots.
+//! From parts to functions: all walks, and the masks of live slots.
 //!
-//! The parts stay as they are, so that the three passes can go over them.
+//! The parts stay as they are, so that the three walks can go over them.
 
 ghost use Rattle.std.specs.Prelude.{◌≡◌, IfOk};
-ghost use Rattle.golf_code_targets.specs.Passes.{lines_of as lines_of_of};
+ghost use Rattle.golf_code_targets.specs.Walks.{lines_of as lines_of_of};
 ghost use Rattle.golf_code_targets.specs.Functions.{IsFunction};
 
 use crate::bodies::lines_of;

@@ -1,4 +1,4 @@
-//! The third pass: the most operands that a frame has at any place.
+//! The third walk: the most operands that a frame has at any place.
 //!
 //! The operands at a place are known from the jumps to it and from the instruction before it. They
 //! are `None` if the place is not reached.
@@ -8,7 +8,7 @@ ghost use Rattle.std.specs.Option.{option_map};
 ghost use Rattle.golf_data.specs.Effects.{cases_taken as cases_taken_of};
 ghost use Rattle.golf_code_layout.specs.Depth.{height as height_of, met as met_of, reached, behind as behind_of};
 ghost use Rattle.golf_code_layout.specs.Depth.{through as through_of, above as above_of, innermost, outer};
-ghost use Rattle.golf_code_targets.specs.Passes.{rest};
+ghost use Rattle.golf_code_targets.specs.Walks.{rest};
 ghost use Rattle.golf_code_targets.specs.Heights.{stands, leads, takes_in, choice_flow, case_chosen, cases_chosen};
 ghost use Rattle.golf_code_targets.specs.Heights.{default_chosen, end_height, height_step, no_heights as no_heights_of};
 ghost use Rattle.golf_code_targets.specs.Heights.{most_of as most_of_of};
@@ -19,7 +19,7 @@ use golf_code_layout::Emitted;
 use golf_data::{Instr, SelectCase, case_left, case_taken, effect_of};
 use std::alloc::Global;
 
-/// The state of the third pass: the numbers of operands at places so far.
+/// The state of the third walk: the numbers of operands at places so far.
 #[derive(Drop)]
 pub struct Heights {
     /// The most operands so far.

@@ -1,7 +1,7 @@
-//! From structured code as a flat list to functions. Two passes put the targets in; a third pass computes the most
+//! From structured code as a flat list to functions. Two walks put the targets in; a third walk computes the most
 //! operands.
 //!
-//! The definitions are in `specs/`: each pass, part by part. Together the passes give the function of the piece.
+//! The definitions are in `specs/`: each walk, part by part. Together the walks give the function of the piece.
 #![tactic(auto)]
 
 mod bodies;

@@ -1,18 +1,18 @@
-//! The first pass: the target of each block.
+//! The first walk: the target of each block.
 //!
 //! A block whose target is its beginning has it at once. A block whose target is its end gets it
 //! when it ends.
 
 ghost use Rattle.std.specs.Prelude.{◌≡◌, ◌+◌, ◌∷◌, ◌++◌, [], Some, None, length, slice_set, OnOk, IfOk};
-ghost use Rattle.golf_code_targets.specs.Passes.{rest, ended, target_step, no_targets as no_targets_of};
-ghost use Rattle.golf_code_targets.specs.Passes.{targets_of as targets_of_of};
+ghost use Rattle.golf_code_targets.specs.Walks.{rest, ended, target_step, no_targets as no_targets_of};
+ghost use Rattle.golf_code_targets.specs.Walks.{targets_of as targets_of_of};
 
 use crate::nesting::Nesting;
 use golf_base::{List, Memory};
 use golf_code_layout::Emitted;
 use std::alloc::Global;
 
-/// The state of the first pass: the targets of blocks so far.
+/// The state of the first walk: the targets of blocks so far.
 #[derive(Drop)]
 pub struct Targets {
     /// The place of the next instruction.
@@ -34,8 +34,8 @@ fn no_targets(alloc: Global) -> Targets
     }
 }
 
-// Passes over an instruction.
-fn pass(targets: &mut Targets) -> Result<(), Memory>
+// Skips an instruction.
+fn skip(targets: &mut Targets) -> Result<(), Memory>
     ensures { OnOk result (targets.new ≡ record targets.old { at = targets.old.at + 1 }) }
 {
     targets.at = targets.at.checked_add(1).ok_or(Memory)?;
@@ -85,10 +85,10 @@ fn step(targets: &mut Targets, part: &Emitted) -> Result<(), Memory>
     ensures { OnOk result (targets.new ≡ target_step part.now targets.old) }
 {
     match part {
-        Emitted::Op(_, _) => pass(targets),
-        Emitted::Exit(_, _) => pass(targets),
-        Emitted::Unless(_, _) => pass(targets),
-        Emitted::Choose(_, _, _) => pass(targets),
+        Emitted::Op(_, _) => skip(targets),
+        Emitted::Exit(_, _) => skip(targets),
+        Emitted::Unless(_, _) => skip(targets),
+        Emitted::Choose(_, _, _) => skip(targets),
         Emitted::Block => begin_block(targets),
         Emitted::Again => begin_again(targets),
         Emitted::End => {

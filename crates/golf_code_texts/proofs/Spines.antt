@@ -9,12 +9,12 @@ use Rattle.golf_syntax_trees.specs.declared.expressions.Element.{Element}
 use Rattle.golf_syntax_trees.specs.declared.expressions.Expr.TheOpen.{Expr-F}
 use Rattle.golf_syntax_trees.specs.declared.expressions.Expr.TheOpen as F
 use Rattle.golf_syntax_trees.specs.declared.expressions.Expr.TheFolds.{fold_out-Expr, fold-Element, map-Expr}
-use Rattle.golf_syntax_trees.specs.Spines.{left_of, left_step, shown, IsSpine, Within, risen}
+use Rattle.golf_syntax_trees.specs.Spines.{left_of, left_step, shown, IsSpine, AreNoLarger, risen}
 use Rattle.golf_syntax_trees.proofs.Spines.{along, up, no_deeper}
 use Rattle.golf_code_of.specs.Table.{Texts}
 use Rattle.golf_code_of.specs.Texts.{expr_texts, expr_texts_step, element_texts_step}
-use Rattle.golf_code_texts.specs.Adding.{with_texts}
-use Rattle.golf_code_texts.specs.Spines.{rest_texts, rest_texts_step, raised, Rising}
+use Rattle.golf_code_texts.specs.AddedTexts.{with_texts}
+use Rattle.golf_code_texts.specs.Spines.{rest_texts, rest_texts_step, raised, RisingTexts}
 use Rattle.golf_code_texts.proofs.Walks.{with_more, joined_map}
 
 abbrev texts_layer : Expr-F Expr Element → Texts
@@ -49,7 +49,8 @@ splits e left p = fold_out-Expr Texts Texts expr_texts_step element_texts_step e
 module _ (e : Expr) (old : Texts) where
   -- the texts of the innermost one are added
   pub starts : (ws : List (Bor Expr)) (inner : Expr) (new : Texts) → IsSpine left_of e (shown ws) inner
-      → Within size-Expr (size-Expr e) (shown ws) → new ≡ with_texts old (expr_texts inner) → Rising e old ws new
+      → AreNoLarger size-Expr (size-Expr e) (shown ws) → new ≡ with_texts old (expr_texts inner)
+      → RisingTexts e old ws new
   starts ws inner new spine within adds = record {
     whole = ap (risen raised (shown ws)) adds
         ∙ along left_of (λ z. with_texts old (expr_texts z)) raised
@@ -59,16 +60,17 @@ module _ (e : Expr) (old : Texts) where
   }
 
   -- nothing waits any more
-  pub ends : (ws : List (Bor Expr)) (new : Texts) → Rising e old ws new → ws ≡ [] → new ≡ with_texts old (expr_texts e)
+  pub ends : (ws : List (Bor Expr)) (new : Texts) → RisingTexts e old ws new → ws ≡ []
+      → new ≡ with_texts old (expr_texts e)
   ends ws new r none = sym (ap (λ vs. risen raised (shown vs) new) none) ∙ r.whole
 
-  module _ (ws vs : List (Bor Expr)) (b : Bor Expr) (new : Texts) (r : Rising e old ws new)
+  module _ (ws vs : List (Bor Expr)) (b : Bor Expr) (new : Texts) (r : RisingTexts e old ws new)
       (last : ws ≡ vs ++ b ∷ []) where
     pub rest_smaller : size-Expr b.now ≤ size-Expr e
     rest_smaller = (no_deeper ws vs b last size-Expr (size-Expr e) r.within).1
 
     -- the texts after the left operand of the next one outwards are added
-    pub rises : (newer : Texts) → newer ≡ with_texts new (rest_texts b.now) → Rising e old vs newer
+    pub rises : (newer : Texts) → newer ≡ with_texts new (rest_texts b.now) → RisingTexts e old vs newer
     rises newer adds = record {
       whole = ap (risen raised (shown vs)) adds ∙ (sym (up ws vs b last raised new) ∙ r.whole);
       within = (no_deeper ws vs b last size-Expr (size-Expr e) r.within).0;

@@ -1,5 +1,6 @@
 -- Texts are added one part after the other, and what the texts of each construct are.
--- For: `expr_texts` and `stmt_texts`, golf_code_of/specs/Texts.antt; `with_texts`, golf_code_texts/specs/Adding.antt.
+-- For: `expr_texts` and `stmt_texts`, golf_code_of/specs/Texts.antt; `with_texts`,
+-- golf_code_texts/specs/AddedTexts.antt.
 -- By: computing, for each construct; induction over the list of parts.
 use Rattle.std.proofs.Common.{◌≡◌, ℕ, suc, ◌+◌, ◌<◌, ◌≤◌, List, [], ◌∷◌, ◌++◌, length, get_or, map, drop, drop-cons}
 use Rattle.std.proofs.Common.{refl, ap, sym, ◌∙◌, arith}
@@ -32,7 +33,7 @@ use Rattle.golf_code_of.proofs.TextEquations.{stmt_texts-Var, stmt_texts-Simple,
 use Rattle.golf_code_of.proofs.TextEquations.{stmt_texts-Return, stmt_texts-Break, stmt_texts-Continue}
 use Rattle.golf_code_of.proofs.TextEquations.{stmt_texts-Block, stmt_texts-If, stmt_texts-IfElse, stmt_texts-For}
 use Rattle.golf_code_of.proofs.TextEquations.{stmt_texts-Select, clause_texts-Case, clause_texts-Default}
-use Rattle.golf_code_texts.specs.Adding.{with_texts}
+use Rattle.golf_code_texts.specs.AddedTexts.{with_texts}
 
 pub with_none : (t : Texts) → with_texts t [] ≡ t
 unfolding with_texts

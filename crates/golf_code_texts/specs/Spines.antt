@@ -4,10 +4,10 @@ use Rattle.std.specs.Borrow.{Bor}
 use Rattle.golf_syntax_trees.specs.declared.expressions.Expr.{Expr, out-Expr, size-Expr}
 use Rattle.golf_syntax_trees.specs.declared.expressions.Element.{Element}
 use Rattle.golf_syntax_trees.specs.declared.expressions.Expr.TheOpen.{Expr-F, Index, Call, Binary}
-use Rattle.golf_syntax_trees.specs.Spines.{shown, Within, risen}
+use Rattle.golf_syntax_trees.specs.Spines.{shown, AreNoLarger, risen}
 use Rattle.golf_code_of.specs.Table.{Texts}
 use Rattle.golf_code_of.specs.Texts.{expr_texts}
-use Rattle.golf_code_texts.specs.Adding.{with_texts}
+use Rattle.golf_code_texts.specs.AddedTexts.{with_texts}
 
 abbrev pub rest_texts_step : Expr-F Expr Element → Texts
 rest_texts_step (Index a i) = expr_texts i
@@ -24,8 +24,8 @@ abbrev pub raised : Expr → Texts → Texts
 raised e t = with_texts t (rest_texts e)
 
 -- the texts of these expressions, without those of their left operands, are still to be added to the second table
-abbrev pub Rising : Expr → Texts → List (Bor Expr) → Texts → Type 0
-Rising e old ws new = record {
+abbrev pub RisingTexts : Expr → Texts → List (Bor Expr) → Texts → Type 0
+RisingTexts e old ws new = record {
   whole : risen raised (shown ws) new ≡ with_texts old (expr_texts e);
-  within : Within size-Expr (size-Expr e) (shown ws);
+  within : AreNoLarger size-Expr (size-Expr e) (shown ws);
 }

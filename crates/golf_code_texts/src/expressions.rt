@@ -4,7 +4,7 @@ ghost use Rattle.std.specs.Prelude.{◌≡◌, ◌++◌, None, flat_map, OnOk};
 ghost use Rattle.golf_syntax_trees.specs.Spines.{left_of};
 ghost use Rattle.golf_code_of.specs.Texts.{expr_texts, call_texts};
 ghost use Rattle.golf_code_of.proofs.TextEquations.{element_texts};
-ghost use Rattle.golf_code_texts.specs.Adding.{with_texts};
+ghost use Rattle.golf_code_texts.specs.AddedTexts.{with_texts};
 ghost use Rattle.golf_code_texts.specs.Spines.{rest_texts};
 
 use golf_base::Memory;

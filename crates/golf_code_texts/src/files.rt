@@ -4,7 +4,7 @@
 
 ghost use Rattle.std.specs.Prelude.{◌≡◌, flat_map, IfOk, OnOk};
 ghost use Rattle.golf_code_of.specs.Texts.{decl_texts, texts_of, const_texts};
-ghost use Rattle.golf_code_texts.specs.Adding.{with_texts};
+ghost use Rattle.golf_code_texts.specs.AddedTexts.{with_texts};
 
 use crate::simple::content;
 use crate::statements::stmts;

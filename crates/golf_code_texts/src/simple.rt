@@ -3,7 +3,7 @@
 ghost use Rattle.std.specs.Prelude.{◌≡◌, ◌++◌, OnOk};
 ghost use Rattle.golf_code_of.specs.Texts.{simple_texts, optional_simple_texts, optional_texts, expr_texts};
 ghost use Rattle.golf_code_of.specs.Texts.{content_texts, header_texts, comm_texts};
-ghost use Rattle.golf_code_texts.specs.Adding.{with_texts};
+ghost use Rattle.golf_code_texts.specs.AddedTexts.{with_texts};
 
 use crate::expressions::{both, expr};
 use golf_base::Memory;

@@ -3,7 +3,7 @@
 ghost use Rattle.std.specs.Prelude.{◌≡◌, flat_map, OnOk};
 ghost use Rattle.golf_code_of.specs.Texts.{stmt_texts, optional_simple_texts, expr_texts, header_texts, comm_texts};
 ghost use Rattle.golf_code_of.proofs.TextEquations.{clause_texts};
-ghost use Rattle.golf_code_texts.specs.Adding.{with_texts};
+ghost use Rattle.golf_code_texts.specs.AddedTexts.{with_texts};
 
 use crate::expressions::{call, expr};
 use crate::simple::{communication, content, header, optional_expr, optional_simple, simple};

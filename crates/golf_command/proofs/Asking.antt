@@ -6,7 +6,7 @@ use Rattle.golf_base.specs.declared.Memory.{Memory}
 use Rattle.golf_command_words.specs.declared.line.CommandLine.{CommandLine}
 use Rattle.golf_command_words.specs.Words.{line_of}
 use Rattle.golf_command.specs.Asked.{threads_asked}
-use Rattle.golf_command.specs.Promises.{IsLine}
+use Rattle.golf_command.specs.Promises.{StandFor}
 
 same : (m n : ℕ) → ◌≡◌ {A = Option ℕ} (Some m) (Some n) → m ≡ n
 same m n e = cc
@@ -16,7 +16,7 @@ never n e = cc
 
 -- the words stand for that threads line
 pub asked-line : (words : List (List ℕ)) (r : Result (Option CommandLine) Memory) (n : ℕ) → threads_asked r ≡ Some n
-    → IfOk r (λ line. line ≡ line_of words) → IsLine words (CommandLine.Threads n)
+    → IfOk r (λ line. line ≡ line_of words) → StandFor words (CommandLine.Threads n)
 asked-line words (Ok (Some (CommandLine.Threads m))) n e is = sym is
     ∙ ap (λ k. Some (CommandLine.Threads k)) (same m n e)
 asked-line words (Ok (Some (CommandLine.Run options))) n e is = absurd (never n e)

@@ -1,5 +1,5 @@
 -- What the ends of a call mean, by its words.
--- For: `golf`, `serve`, src/top.rt; `fetch`, src/loading.rt; `Tells`, specs/Means.antt
+-- For: `golf`, `serve`, src/top.rt; `fetch`, src/source_file.rt; `Tells`, specs/Means.antt
 -- By: cases of the line and of how the call ends; no induction
 use Rattle.std.proofs.Common.{◌≡◌, ◌≤◌, ◌<◌, ◌+◌, ℕ, List, [], ◌∷◌, ◌++◌, length, length-append, refl, sym, subst, ap}
 use Rattle.std.proofs.Common.{◌∙◌, ◌⊎◌, inl, inr, append-nil, arith}
@@ -19,7 +19,7 @@ use Rattle.golf_run_texts.specs.Fixed.{most_bytes, usage_text, read_fault_text, 
 use Rattle.golf_run_texts.specs.Writes.{Write}
 use Rattle.golf_run.specs.HasRun.{Sinks, GotWrites, HasFailed, IsSteady}
 use Rattle.golf_command.specs.Ways.{out_for, err_for}
-use Rattle.golf_command.specs.Promises.{IsLine, IsNoLine, Reads, IsFileOf, WordsMean}
+use Rattle.golf_command.specs.Promises.{StandFor, IsNoLine, ReadsFile, IsFileOf, WordsMean}
 use Rattle.golf_command.specs.Promises.RefusedBy.{TooLong}
 use Rattle.golf_command.specs.Promises.WordsMean.{Misused, Refused, Goes}
 use Rattle.golf_command.specs.Means.{View, seen, FileMeans, GoesWhole, Says, IsWholeEnd, LineMeans, UsageMeans}
@@ -59,7 +59,7 @@ no-read-fault line bytes s.Memory a b m e = cc
 -- a file of which the status tells
 pub file-tells : {left left' : Option (List ℕ)} {rf rf' : ℕ} {r : Status} {a b : Sinks} (line : CommandLine)
     (bytes : List ℕ)
-    → IsFileOf line left bytes → rf' ≡ rf → (Reads line → IsWholeEnd r → IsAtEnd left') → FileTells line bytes r a b
+    → IsFileOf line left bytes → rf' ≡ rf → (ReadsFile line → IsWholeEnd r → IsAtEnd left') → FileTells line bytes r a b
     → LineTells line r (seen left rf a) (seen left' rf' b)
 file-tells {rf = rf} {rf' = rf'} {r = r} {a = a} {b = b} line bytes is same end h = record {
   means = inr (record { bytes = bytes; is_file = is; means = h.means; at_end = end });
@@ -88,7 +88,7 @@ some-file (CommandLine.Threads n) left = known left
 some-file CommandLine.Meaning left = known left
 
 -- the file of a line that reads is what was left
-pub read-file : (line : CommandLine) (left : Option (List ℕ)) (bytes : List ℕ) → Reads line
+pub read-file : (line : CommandLine) (left : Option (List ℕ)) (bytes : List ℕ) → ReadsFile line
     → IfSome left (λ told. told ≡ bytes) → IsFileOf line left bytes
 read-file (CommandLine.Run options) left bytes reads told = told
 read-file (CommandLine.Generate n) left bytes reads told = absurd reads
@@ -109,7 +109,8 @@ memory-fails line within left left' rf rf' r a b same h =
     no-run r a b (inr e) ran = subst IsWholeEnd e.0 ran
 
 -- the source failed
-pub unread : {left left' : Option (List ℕ)} {rf rf' : ℕ} {r : Status} {a b : Sinks} (line : CommandLine) → Reads line
+pub unread : {left left' : Option (List ℕ)} {rf rf' : ℕ} {r : Status} {a b : Sinks} (line : CommandLine)
+    → ReadsFile line
     → Rose rf rf' → rf ≤ rf' → Says s.ReadFault read_fault_text r a b
     → LineTells line r (seen left rf a) (seen left' rf' b)
 unread {left} {left'} {rf} {rf'} {r} {a} {b} line reads rose later h = record {
@@ -133,7 +134,8 @@ long-file None left' h = let some = longer most_bytes in (some.0, tt, some.1)
 long-file (Some xs) None h = absurd h.1
 long-file (Some xs) (Some ys) h = (xs, refl, omega (arith, ap length h.1, length-append h.0 ys, h.2))
 
-pub too-long : {left left' : Option (List ℕ)} {rf rf' : ℕ} {r : Status} {a b : Sinks} (line : CommandLine) → Reads line
+pub too-long : {left left' : Option (List ℕ)} {rf rf' : ℕ} {r : Status} {a b : Sinks} (line : CommandLine)
+    → ReadsFile line
     → IsWithin line → ReadsSome left left' most_bytes → rf' ≡ rf → Says s.Refused too_long_text r a b
     → LineTells line r (seen left rf a) (seen left' rf' b)
 too-long {left} {left'} {r = r} {a = a} {b = b} line reads within more same h =
@@ -148,7 +150,7 @@ too-long {left} {left'} {r = r} {a = a} {b = b} line reads within more same h =
 -- ---- all words
 
 -- a line of words is within its limits
-line-is-within : (words : List (List ℕ)) (line : CommandLine) → IsLine words line → IsWithin line
+line-is-within : (words : List (List ℕ)) (line : CommandLine) → StandFor words line → IsWithin line
 line-is-within words line is = subst (λ (o : Option CommandLine). IfSome o IsWithin) is (line-within words)
 
 same-line : (a b : CommandLine) → ◌≡◌ {A = Option CommandLine} (Some a) (Some b) → a ≡ b
@@ -192,7 +194,7 @@ module _ (words : List (List ℕ)) (left left' : Option (List ℕ)) (rf rf' : �
         inr (line-got r text (subst (λ t. WordsMean words left t [] text) (sym e.0) why) e.1)
     said status r text (inr e) why = absurd (loud (Write.ToErr text) left left' rf rf' a b quiet e.1.failed)
 
-    ran : (line : CommandLine) (bytes : List ℕ) (r : Status) → IsLine words line → IsFileOf line left bytes
+    ran : (line : CommandLine) (bytes : List ℕ) (r : Status) → StandFor words line → IsFileOf line left bytes
         → GoesWhole line bytes r a b → Whole r
     ran line bytes r is file h =
         let out = out_for h.way (CodeOf h.file) in
@@ -206,7 +208,7 @@ module _ (words : List (List ℕ)) (left left' : Option (List ℕ)) (rf rf' : �
           got_err = h.err;
         })
 
-    of-file : (line : CommandLine) (bytes : List ℕ) (r : Status) → IsLine words line → IsFileOf line left bytes
+    of-file : (line : CommandLine) (bytes : List ℕ) (r : Status) → StandFor words line → IsFileOf line left bytes
         → FileMeans line bytes r a b → Whole r
     of-file line bytes s.Clean is file m = ran line bytes s.Clean is file m
     of-file line bytes s.Found is file m = ran line bytes s.Found is file m
@@ -219,7 +221,7 @@ module _ (words : List (List ℕ)) (left left' : Option (List ℕ)) (rf rf' : �
     of-file line bytes s.WriteFault is file m = absurd (loud m.1.0 left left' rf rf' a b quiet m.1.2.failed)
     of-file line bytes s.Memory is file m = inl refl
 
-    of-line : (line : CommandLine) (r : Status) → IsLine words line → LineMeans line r before after → Whole r
+    of-line : (line : CommandLine) (r : Status) → StandFor words line → LineMeans line r before after → Whole r
     of-line line r is (inl h) = absurd (quiet.source h.failed)
     of-line line r is (inr h) = of-file line h.bytes r is h.is_file h.means
 
@@ -228,14 +230,15 @@ module _ (words : List (List ℕ)) (left left' : Option (List ℕ)) (rf rf' : �
     of-none r none (inr h) = said s.Memory r no_memory_text h (inl refl)
 
     of-words : (o : Option CommandLine) (r : Status) → line_of words ≡ o
-        → ((line : CommandLine) → IsLine words line → LineMeans line r before after)
+        → ((line : CommandLine) → StandFor words line → LineMeans line r before after)
         → (IsNoLine words → UsageMeans r before after) → Whole r
     of-words (Some line) r is m u = of-line line r is (m line is)
     of-words None r is m u = of-none r is (u is)
 
-  tells : (r : Status) → ((line : CommandLine) → IsLine words line → LineMeans line r before after)
+  tells : (r : Status) → ((line : CommandLine) → StandFor words line → LineMeans line r before after)
       → (IsNoLine words → UsageMeans r before after)
-      → (((line : CommandLine) → IsLine words line → Reads line → ⊥) → IsUntouched before after) → Causes r before after
+      → (((line : CommandLine) → StandFor words line → ReadsFile line → ⊥) → IsUntouched before after)
+      → Causes r before after
       → Tells words r before after
   tells r means usage unread causes = record {
     line = means;
@@ -248,8 +251,8 @@ module _ (words : List (List ℕ)) (left left' : Option (List ℕ)) (rf rf' : �
   untouched : left' ≡ left → rf' ≡ rf → IsUntouched before after
   untouched same counts = record { left = subst (Keeps left) (sym same) (Keeps-refl left); faults = counts }
 
-  tells-line : (line : CommandLine) (r : Status) → IsLine words line → LineTells line r before after
-      → ((Reads line → ⊥) → IsUntouched before after) → Tells words r before after
+  tells-line : (line : CommandLine) (r : Status) → StandFor words line → LineTells line r before after
+      → ((ReadsFile line → ⊥) → IsUntouched before after) → Tells words r before after
   tells-line line r is h unread = tells r
       (λ other same. subst (λ l. LineMeans l r before after) (same-line line other (sym is ∙ same)) h.means)
       (λ none. absurd (not-none line (sym is ∙ none)))
@@ -257,12 +260,13 @@ module _ (words : List (List ℕ)) (left left' : Option (List ℕ)) (rf rf' : �
       h.causes
 
   -- the words are a line that reads
-  pub tells-reading : (line : CommandLine) (r : Status) → Reads line → IsLine words line → LineTells line r before after
+  pub tells-reading : (line : CommandLine) (r : Status) → ReadsFile line → StandFor words line
+      → LineTells line r before after
       → Tells words r before after
   tells-reading line r reads is h = tells-line line r is h (λ none. absurd (none reads))
 
   -- they ask for a generated file
-  pub tells-generate : (n : ℕ) (r : Status) → IsLine words (CommandLine.Generate n)
+  pub tells-generate : (n : ℕ) (r : Status) → StandFor words (CommandLine.Generate n)
       → LineTells (CommandLine.Generate n) r before after → left' ≡ left → rf' ≡ rf → Tells words r before after
   tells-generate n r is h same counts = tells-line (CommandLine.Generate n) r is h (λ _. untouched same counts)
 

@@ -1,5 +1,5 @@
 -- What the reading of a line's file means for a line that reads.
--- For: `fetch`, `load`, src/loading.rt; `run_source`, src/top.rt
+-- For: `fetch`, `load`, src/source_file.rt; `run_source`, src/top.rt
 -- By: cases of how the reading ends; no induction
 use Rattle.std.proofs.Common.{◌≡◌, ◌≤◌, ℕ, List, ◌⊎◌, inl, inr, subst}
 use Rattle.std.specs.Prelude.{Option}
@@ -14,34 +14,34 @@ use Rattle.golf_run_texts.specs.declared.status.Status.TheVariants as s
 use Rattle.golf_run_texts.specs.Fixed.{most_bytes, too_long_text, read_fault_text, no_memory_text}
 use Rattle.golf_run.specs.HasRun.{Sinks, sinks}
 use Rattle.golf_command.specs.Ends.{EndsWith, Refuses}
-use Rattle.golf_command.specs.Promises.{Reads}
+use Rattle.golf_command.specs.Promises.{ReadsFile}
 use Rattle.golf_command.specs.Promises.RefusedBy.{TooLong, Unlexed, Unparsed, Untyped}
 use Rattle.golf_command.specs.Means.{seen, FileTells, LineTells}
-use Rattle.golf_command.specs.Loads.{HasFetched, HasFile, Ends, SourceFailed, FileRefused, MemoryRanOut}
+use Rattle.golf_command.specs.Loads.{HasFetched, HasFile, EndsUnread, SourceFailed, FileRefused, MemoryRanOut}
 use Rattle.golf_command.proofs.Sinking.{says}
 use Rattle.golf_command.proofs.Filing.{refusal-tells}
 use Rattle.golf_command.proofs.Calling.{file-tells, read-file, unread, too-long, long-file, memory-fails}
 
 pub fails-to-read : {left left' : Option (List ℕ)} {rf rf' : ℕ} {err err' : Option (List ℕ)} {ef ef' : ℕ} {r : Status}
     → Rose rf rf' → rf ≤ rf' → EndsWith r s.ReadFault read_fault_text err err' ef ef'
-    → Ends r left left' rf rf' err err' ef ef'
+    → EndsUnread r left left' rf rf' err err' ef ef'
 fails-to-read {err = err} {err' = err'} {ef = ef} {ef' = ef'} {r = r} rose later e line reads within out of =
     unread line reads rose later (says out of err err' ef ef' s.ReadFault r read_fault_text e)
 
 pub is-too-long : {left left' : Option (List ℕ)} {rf rf' : ℕ} {err err' : Option (List ℕ)} {ef ef' : ℕ} {r : Status}
     → ReadsSome left left' most_bytes → rf' ≡ rf → EndsWith r s.Refused too_long_text err err' ef ef'
-    → Ends r left left' rf rf' err err' ef ef'
+    → EndsUnread r left left' rf rf' err err' ef ef'
 is-too-long {err = err} {err' = err'} {ef = ef} {ef' = ef'} {r = r} more same e line reads within out of =
     too-long line reads within more same (says out of err err' ef ef' s.Refused r too_long_text e)
 
 pub lacks-memory : {left left' : Option (List ℕ)} {rf rf' : ℕ} {err err' : Option (List ℕ)} {ef ef' : ℕ} {r : Status}
-    → rf' ≡ rf → EndsWith r s.Memory no_memory_text err err' ef ef' → Ends r left left' rf rf' err err' ef ef'
+    → rf' ≡ rf → EndsWith r s.Memory no_memory_text err err' ef ef' → EndsUnread r left left' rf rf' err err' ef ef'
 lacks-memory {left} {left'} {rf} {rf'} {err} {err'} {ef} {ef'} {r} same e line reads within out of =
     memory-fails line within left left' rf rf' r _ _ same (says out of err err' ef ef' s.Memory r no_memory_text e)
 
 is-refused : {bytes : List ℕ} {left left' : Option (List ℕ)} {rf rf' : ℕ} {err err' : Option (List ℕ)} {ef ef' : ℕ}
     {r : Status} (refusal : Refusal) → HasFetched bytes left left' rf rf' → IsRefusedBy bytes refusal
-    → Refuses r refusal err err' ef ef' → Ends r left left' rf rf' err err' ef ef'
+    → Refuses r refusal err err' ef ef' → EndsUnread r left left' rf rf' err err' ef ef'
 is-refused {bytes} {left} {err = err} {err' = err'} {ef = ef} {ef' = ef'} {r = r} refusal h why e line reads within out
     of =
     file-tells line bytes (read-file line left bytes reads h.told) h.quiet (λ _ _. h.at_end)
@@ -50,14 +50,15 @@ is-refused {bytes} {left} {err = err} {err' = err'} {ef = ef} {ef' = ef'} {r = r
 -- the bytes are refused, and nothing was written before
 pub then-refused : {bytes : List ℕ} {left left' : Option (List ℕ)} {rf rf' : ℕ} {err err1 err' : Option (List ℕ)}
     {ef ef1 ef' : ℕ} {r : Status} (refusal : Refusal) → HasFetched bytes left left' rf rf' → err1 ≡ err → ef1 ≡ ef
-    → IsRefusedBy bytes refusal → Refuses r refusal err1 err' ef1 ef' → Ends r left left' rf rf' err err' ef ef'
+    → IsRefusedBy bytes refusal → Refuses r refusal err1 err' ef1 ef' → EndsUnread r left left' rf rf' err err' ef ef'
 then-refused {err' = err'} {ef' = ef'} {r = r} refusal h same quiet why e =
     is-refused refusal h why (subst (λ (y : Option (List ℕ) × ℕ). Refuses r refusal y.0 err' y.1 ef')
     (λ i. (same i, quiet i)) e)
 
 -- there is a file, and what follows tells of it
 pub loaded-tells : {file : File} {left left' : Option (List ℕ)} {rf rf' : ℕ} {out err err1 : Option (List ℕ)}
-    {of ef ef1 : ℕ} {b : Sinks} {r : Status} (line : CommandLine) → Reads line → (l : HasFile file left left' rf rf')
+    {of ef ef1 : ℕ} {b : Sinks} {r : Status} (line : CommandLine) → ReadsFile line
+    → (l : HasFile file left left' rf rf')
     → err1 ≡ err → ef1 ≡ ef
     → FileTells line l.bytes r (sinks out of err1 ef1) b
     → LineTells line r (seen left rf (sinks out of err ef)) (seen left' rf' b)

@@ -21,7 +21,7 @@ use Rattle.golf_run_texts.specs.Output.{status_by, status_of, last_of, reports_o
 use Rattle.golf_run_texts.specs.Writes.{Write}
 use Rattle.golf_model.proofs.Agreeing.{dead-sound, dead-complete}
 use Rattle.golf_model_futures.proofs.MainLaws as Law
-use Rattle.golf_meaning_typing.proofs.WholeFiles.{files-sound}
+use Rattle.golf_meaning_runs.proofs.WholeFiles.{files-sound}
 use Rattle.golf_meaning_runs.proofs.Agreeing.{programs-agree}
 use Rattle.golf_meaning_runs.proofs.Runs.{runs-mean-sources}
 use Rattle.golf_code_never_stuck.specs.Reached.{IsProgram}
@@ -34,7 +34,7 @@ use Rattle.golf_run.specs.HasRun.{Sinks, sinks, GotWrites, IsSteady}
 use Rattle.golf_command.specs.Ends.{EndsWith, Refuses}
 use Rattle.golf_command.specs.Ways.{Way, IsWayOf, options_of, status_by_options, status_for, out_for, err_for}
 use Rattle.golf_command.specs.Ways.{writes_for}
-use Rattle.golf_command.specs.Promises.{Reads, Accepts, AreTrue, MovesAlways, MeansItsSource, RefusedBy}
+use Rattle.golf_command.specs.Promises.{ReadsFile, Accepts, AreTrue, MovesAlways, MeansItsSource, RefusedBy}
 use Rattle.golf_command.specs.Promises.RefusedBy.{Unlexed, Unparsed, Untyped}
 use Rattle.golf_command.specs.Means.{Breaks, IsSoundBy, IsSound, Begins, AreFirst, MayFollow, MayStand, GoesWhole, Says}
 use Rattle.golf_command.specs.Means.{FileTells}
@@ -111,7 +111,8 @@ module _ (line : CommandLine) (bytes : List ℕ) (within : IsWithin line) where
     broken done cut r why is breaks = subst (λ t. FileTells line bytes t old new) (sym is)
         (record { means = (done, (cut, why, breaks)); causes = some-rose cut old new breaks.failed })
 
-    pub refused-tells : Reads line → (text : List ℕ) (r : Status) → RefusedBy bytes text → Says s.Refused text r old new
+    pub refused-tells : ReadsFile line → (text : List ℕ) (r : Status) → RefusedBy bytes text
+        → Says s.Refused text r old new
         → FileTells line bytes r old new
     refused-tells reads text r why (inl e) =
         subst (λ t. FileTells line bytes t old new) (sym e.0)
@@ -126,7 +127,7 @@ module _ (line : CommandLine) (bytes : List ℕ) (within : IsWithin line) where
         (Cause no_memory_text none-first OutOfMemory) e.0 e.1
 
   -- the file of a line that reads is refused
-  module _ (reads : Reads line) (short : length bytes ≤ most_bytes) (out : Option (List ℕ)) (of : ℕ)
+  module _ (reads : ReadsFile line) (short : length bytes ≤ most_bytes) (out : Option (List ℕ)) (of : ℕ)
       (err err' : Option (List ℕ)) (ef ef' : ℕ) where
     abbrev Told : Status → Type 0
     Told r = FileTells line bytes r (sinks out of err ef) (sinks out of err' ef')

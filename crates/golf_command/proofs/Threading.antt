@@ -4,9 +4,9 @@
 use Rattle.std.proofs.Common.{◌≡◌, ℕ, false, List, [], ◌∷◌, ◌++◌, length, refl, sym, ap, append-nil, ◌∙◌}
 use Rattle.golf_data.specs.declared.code.Code.{Code}
 use Rattle.golf_model.specs.State.{State, start, ending}
-use Rattle.golf_model.specs.Collecting.{sets_finalisers}
-use Rattle.golf_model.specs.Reporting.{book_of}
-use Rattle.golf_model.specs.Running.{run, stops}
+use Rattle.golf_model.specs.Collections.{sets_finalisers}
+use Rattle.golf_model.specs.Reports.{book_of}
+use Rattle.golf_model.specs.Runs.{run, stops}
 use Rattle.golf_run_schedules.specs.Events.{turns_among}
 use Rattle.golf_data.specs.declared.report.Report.{Report}
 use Rattle.golf_run_texts.specs.Texts.{report_text, reports_text, last_line, history_line}

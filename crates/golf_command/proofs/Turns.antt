@@ -10,7 +10,7 @@ use Rattle.std.proofs.lemmas.Simd.{map-map}
 use Rattle.golf_data.specs.declared.code.Code.{Code}
 use Rattle.golf_data.specs.declared.goroutine.Ending.{Ending}
 use Rattle.golf_model.specs.State.{start, runnable, ending}
-use Rattle.golf_model.specs.Running.{Event, run}
+use Rattle.golf_model.specs.Runs.{Event, run}
 use Rattle.golf_run_schedules.specs.Events.{turns_from, turns_among}
 use Rattle.golf_run_texts.specs.Output.{events_of}
 use Rattle.golf_model_futures.proofs.RealRuns.{real-runs}

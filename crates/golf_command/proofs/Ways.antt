@@ -4,7 +4,7 @@
 use Rattle.std.proofs.Common.{◌<◌, [], refl, arith}
 use Rattle.golf_syntax_trees.specs.declared.declarations.File.{File}
 use Rattle.golf_code_of.specs.Files.{CodeOf}
-use Rattle.golf_meaning_functions.specs.Files.{function_count}
+use Rattle.golf_meaning_statements.specs.Files.{function_count}
 use Rattle.golf_command_words.specs.declared.line.CommandLine.{CommandLine}
 use Rattle.golf_command_words.specs.Words.{IsWithin}
 use Rattle.golf_command.specs.Ways.{Way, IsWayOf}

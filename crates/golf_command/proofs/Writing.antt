@@ -1,5 +1,5 @@
 -- What it means that the texts of a run that is over were written, or could not be made.
--- For: `write_texts`, `write_told`, src/texts.rt; `HasWritten`, specs/Written.antt
+-- For: `write_texts`, `write_told`, src/texts.rt; `HasWrittenRun`, specs/Written.antt
 -- By: cases of whether the texts were made and written; no induction
 use Rattle.std.proofs.Common.{◌≡◌, ℕ, List, [], ◌∷◌, refl, sym, subst, ap, ◌∙◌, inl, inr, append-nil}
 use Rattle.std.specs.Prelude.{Option, false, Result, Ok, Err, IfOk}
@@ -10,7 +10,7 @@ use Rattle.golf_base.specs.declared.Memory.{Memory}
 use Rattle.golf_data.specs.declared.code.Code.{Code}
 use Rattle.golf_syntax_trees.specs.declared.declarations.File.{File}
 use Rattle.golf_code_of.specs.Files.{CodeOf}
-use Rattle.golf_meaning_functions.specs.Files.{function_count}
+use Rattle.golf_meaning_statements.specs.Files.{function_count}
 use Rattle.golf_run_texts.specs.Texts.{meaning_line}
 use Rattle.golf_reader.specs.Refusals.{IsOnly}
 use Rattle.golf_command_words.specs.declared.line.CommandLine.{CommandLine}
@@ -21,9 +21,10 @@ use Rattle.golf_run_texts.specs.Fixed.{no_memory_text}
 use Rattle.golf_run_texts.specs.Writes.{Write}
 use Rattle.golf_run.specs.HasRun.{Sinks, sinks}
 use Rattle.golf_command.specs.declared.texts.RunTexts.{RunTexts}
-use Rattle.golf_command.specs.Generating.{generated_writes}
+use Rattle.golf_command.specs.GeneratedRuns.{generated_writes}
 use Rattle.golf_command.specs.Ways.{Way, IsWayOf, AreTurns, out_for, err_for, writes_for}
-use Rattle.golf_command.specs.Written.{AreTextsOf, AreTextsByThreads, text_writes, WroteBoth, HasWritten, HasTold}
+use Rattle.golf_command.specs.Written.{AreTextsOf, AreTextsByThreads, text_writes, WroteBoth, HasWrittenRun}
+use Rattle.golf_command.specs.Written.{HasWrittenText}
 use Rattle.golf_command.specs.Promises.{Accepts}
 use Rattle.golf_command.specs.Means.{Says, FileTells}
 use Rattle.golf_command.proofs.Filing.{went-tells, failed-tells, memory-tells}
@@ -78,7 +79,7 @@ module _ (line : CommandLine) (bytes : List ℕ) (within : IsWithin line) (file 
     these = last ∙ ap (λ t. Write.ToOut t ∷ Write.ToErr (err_for way code) ∷ []) (sym h.out)
         ∙ ap (λ t. Write.ToOut of.out ∷ Write.ToErr t ∷ []) (sym h.err)
 
-    texts-tell : (r : Status) → HasWritten (Ok of) r old new → FileTells line bytes r old new
+    texts-tell : (r : Status) → HasWrittenRun (Ok of) r old new → FileTells line bytes r old new
     texts-tell r (inl w) = went-tells line bytes within file code accepted is only way is_way old new r (w.0 ∙ h.status)
         (subst (Appends old.out new.out) (append-nil of.out ∙ h.out) w.1.0)
         (subst (Appends old.err new.err) (append-nil of.err ∙ h.err) w.1.1) w.2
@@ -93,7 +94,7 @@ module _ (line : CommandLine) (bytes : List ℕ) (within : IsWithin line) (file 
   MadeOf of = (way : Way) × IsWayOf line file way × WritesLast way code × AreTextsOf of way code
 
   pub written-tells : (made : Result RunTexts Memory) (r : Status) (old new : Sinks) → IfOk made MadeOf
-      → HasWritten made r old new → FileTells line bytes r old new
+      → HasWrittenRun made r old new → FileTells line bytes r old new
   written-tells (Ok of) r old new h w = texts-tell h.0 h.1 h.2 of h.3 old new r w
   written-tells (Err m) r old new h w = memory-tells line bytes within old new r w
 
@@ -119,7 +120,7 @@ module _ (bytes : List ℕ) (file : File) (accepted : Accepts bytes file) (only 
   way = Way.Compared (function_count file.declarations)
 
   pub told-tells : (made : Result (List ℕ) Memory) (r : Status) (old new : Sinks)
-      → IfOk made (λ text. text ≡ meaning_line (function_count file.declarations)) → HasTold made r old new
+      → IfOk made (λ text. text ≡ meaning_line (function_count file.declarations)) → HasWrittenText made r old new
       → FileTells CommandLine.Meaning bytes r old new
   told-tells (Ok text) r old new is (inl w) =
       went-tells CommandLine.Meaning bytes tt file (CodeOf file) accepted refl only way refl old new r w.0
@@ -131,12 +132,12 @@ module _ (bytes : List ℕ) (file : File) (accepted : Accepts bytes file) (only 
   told-tells (Err m) r old new is w = memory-tells CommandLine.Meaning bytes tt old new r w
 
 pub told-whole : (out out' err : Option (List ℕ)) (of of' ef : ℕ) (text : List ℕ) → Appends out out' text → of' ≡ of
-    → HasTold (Ok text) s.Clean (sinks out of err ef) (sinks out' of' err ef)
+    → HasWrittenText (Ok text) s.Clean (sinks out of err ef) (sinks out' of' err ef)
 told-whole out out' err of of' ef text a e =
     inl (refl, (subst (Appends out out') (sym (append-nil text)) a, Appends-nil err), record { out = e; err = refl })
 
 pub told-cut : (out out' err : Option (List ℕ)) (of of' ef : ℕ) (text : List ℕ) → WritesPrefix out out' text
-    → Rose of of' → HasTold (Ok text) s.WriteFault (sinks out of err ef) (sinks out' of' err ef)
+    → Rose of of' → HasWrittenText (Ok text) s.WriteFault (sinks out of err ef) (sinks out' of' err ef)
 told-cut out out' err of of' ef text f rose =
     inr (
       refl,
@@ -150,19 +151,19 @@ told-cut out out' err of of' ef text f rose =
 
 -- the text in other words
 pub same-text : (made : Result (List ℕ) Memory) (text now : List ℕ) (r : Status) (old new : Sinks) → made ≡ Ok text
-    → now ≡ text → HasTold (Ok now) r old new → HasTold made r old new
+    → now ≡ text → HasWrittenText (Ok now) r old new → HasWrittenText made r old new
 same-text made text now r old new e n told =
-    subst (λ (x : Result (List ℕ) Memory). HasTold x r old new) (sym e)
-    (subst (λ (t : List ℕ). HasTold (Ok t) r old new) n told)
+    subst (λ (x : Result (List ℕ) Memory). HasWrittenText x r old new) (sym e)
+    (subst (λ (t : List ℕ). HasWrittenText (Ok t) r old new) n told)
 
 pub none-told : (made : Result (List ℕ) Memory) (m : Memory) (r : Status) (old new : Sinks) → made ≡ Err m
-    → Says s.Memory no_memory_text r old new → HasTold made r old new
-none-told made m r old new e said = subst (λ (x : Result (List ℕ) Memory). HasTold x r old new) (sym e) said
+    → Says s.Memory no_memory_text r old new → HasWrittenText made r old new
+none-told made m r old new e said = subst (λ (x : Result (List ℕ) Memory). HasWrittenText x r old new) (sym e) said
 
 -- there are none
 pub none-written : (made : Result RunTexts Memory) (m : Memory) (r : Status) (old new : Sinks) → made ≡ Err m
-    → Says s.Memory no_memory_text r old new → HasWritten made r old new
-none-written made m r old new e said = subst (λ (x : Result RunTexts Memory). HasWritten x r old new) (sym e) said
+    → Says s.Memory no_memory_text r old new → HasWrittenRun made r old new
+none-written made m r old new e said = subst (λ (x : Result RunTexts Memory). HasWrittenRun x r old new) (sym e) said
 
 -- the file in other words
 pub same-file : (line : CommandLine) (bytes other : List ℕ) (r : Status) (old new : Sinks) → bytes ≡ other

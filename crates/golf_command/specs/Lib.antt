@@ -1,5 +1,5 @@
 pub mod Asked
-pub mod Generating
+pub mod GeneratedRuns
 pub mod Ways
 pub mod Promises
 pub mod Means

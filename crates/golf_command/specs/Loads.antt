@@ -4,9 +4,6 @@ use Rattle.std.specs.Io.KnownBytes.{IsAtEnd}
 use Rattle.golf_base.specs.Causes.{Rose}
 use Rattle.golf_data.specs.declared.code.Code.{Code}
 use Rattle.golf_syntax_trees.specs.declared.declarations.File.{File}
-use Rattle.golf_check_types.specs.Files.{facts_in}
-use Rattle.golf_check.specs.declared.files.Checked.{Checked}
-use Rattle.golf_check.specs.Heads.{scope_of}
 use Rattle.golf_code_of.specs.Files.{CodeOf}
 use Rattle.golf_reader.specs.Refusals.{IsOnly}
 use Rattle.golf_command_words.specs.declared.line.CommandLine.{CommandLine}
@@ -16,14 +13,14 @@ use Rattle.golf_run_texts.specs.declared.status.Status.TheVariants as s
 use Rattle.golf_run_texts.specs.Fixed.{most_bytes, read_fault_text, no_memory_text}
 use Rattle.golf_run.specs.HasRun.{sinks}
 use Rattle.golf_command.specs.Ends.{EndsWith}
-use Rattle.golf_command.specs.Promises.{Reads, Accepts, RefusedBy}
+use Rattle.golf_command.specs.Promises.{ReadsFile, Accepts, RefusedBy}
 use Rattle.golf_command.specs.Means.{seen, LineTells}
 
 -- a line says why there is no file, and the call of a command line that reads a file ends so
-abbrev pub Ends : Status → Option (List ℕ) → Option (List ℕ) → ℕ → ℕ → Option (List ℕ) → Option (List ℕ) → ℕ → ℕ
+abbrev pub EndsUnread : Status → Option (List ℕ) → Option (List ℕ) → ℕ → ℕ → Option (List ℕ) → Option (List ℕ) → ℕ → ℕ
     → Type 0
-Ends status left left' before now err err' faults faults' =
-    (line : CommandLine) → Reads line → IsWithin line → (out : Option (List ℕ)) (out_faults : ℕ)
+EndsUnread status left left' before now err err' faults faults' =
+    (line : CommandLine) → ReadsFile line → IsWithin line → (out : Option (List ℕ)) (out_faults : ℕ)
     → LineTells line status (seen left before (sinks out out_faults err faults))
     (seen left' now (sinks out out_faults err' faults'))
 
@@ -84,7 +81,7 @@ abbrev pub Fetches : Result (List ℕ) Status → Option (List ℕ) → Option (
 Fetches (Ok bytes) left left' before now err err' faults faults' = HasFetched bytes left left' before now × (err' ≡ err)
     × (faults' ≡ faults)
 Fetches (Err status) left left' before now err err' faults faults' =
-    Ends status left left' before now err err' faults faults'
+    EndsUnread status left left' before now err err' faults faults'
 
 -- the code, and nothing was written; or the reason for which there is none
 abbrev pub Loads : Result Code Status → Option (List ℕ) → Option (List ℕ) → ℕ → ℕ → Option (List ℕ) → Option (List ℕ)
@@ -92,13 +89,12 @@ abbrev pub Loads : Result Code Status → Option (List ℕ) → Option (List ℕ
 Loads (Ok code) left left' before now err err' faults faults' = (file : File) × HasFile file left left' before now
     × (code ≡ CodeOf file) × (err' ≡ err) × (faults' ≡ faults)
 Loads (Err status) left left' before now err err' faults faults' =
-    Ends status left left' before now err err' faults faults'
+    EndsUnread status left left' before now err err' faults faults'
 
--- the tree with the scope and the facts of the checker, and nothing was written; or the reason for which there is none
-abbrev pub LoadsTree : Result Checked Status → Option (List ℕ) → Option (List ℕ) → ℕ → ℕ → Option (List ℕ)
+-- the typed tree, and nothing was written; or the reason for which there is none
+abbrev pub LoadsTree : Result File Status → Option (List ℕ) → Option (List ℕ) → ℕ → ℕ → Option (List ℕ)
     → Option (List ℕ) → ℕ → ℕ → Type 0
-LoadsTree (Ok checked) left left' before now err err' faults faults' =
-    HasFile checked.file left left' before now × (checked.scope ≡ scope_of checked.file)
-    × (checked.facts ≡ facts_in checked.file) × (err' ≡ err) × (faults' ≡ faults)
+LoadsTree (Ok file) left left' before now err err' faults faults' =
+    HasFile file left left' before now × (err' ≡ err) × (faults' ≡ faults)
 LoadsTree (Err status) left left' before now err err' faults faults' =
-    Ends status left left' before now err err' faults faults'
+    EndsUnread status left left' before now err err' faults faults'

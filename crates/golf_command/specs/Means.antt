@@ -15,7 +15,7 @@ use Rattle.golf_run_texts.specs.Fixed.{usage_text, read_fault_text, no_memory_te
 use Rattle.golf_run_texts.specs.Writes.{Write}
 use Rattle.golf_run.specs.HasRun.{Sinks, GotWrites, IsPrefixOf, HasFailed, IsSteady}
 use Rattle.golf_command.specs.Ways.{Way, IsWayOf, options_of, status_for, out_for, err_for, writes_for}
-use Rattle.golf_command.specs.Promises.{IsLine, IsNoLine, Reads, IsFileOf, Accepts, AreTrue, MovesAlways}
+use Rattle.golf_command.specs.Promises.{StandFor, IsNoLine, ReadsFile, IsFileOf, Accepts, AreTrue, MovesAlways}
 use Rattle.golf_command.specs.Promises.{MeansItsSource, RefusedBy, WordsMean}
 
 -- the bytes of the words
@@ -74,7 +74,7 @@ pub record AreFirst (line : CommandLine) (bytes : List ℕ) (done : List Write) 
 
 -- the text of a cause, which may follow these writes; only the file of a command line that reads is refused
 pub data IsCause (line : CommandLine) (bytes : List ℕ) : List ℕ → Type 0 where
-  Refusal : (text : List ℕ) → Reads line → RefusedBy bytes text → IsCause line bytes text
+  Refusal : (text : List ℕ) → ReadsFile line → RefusedBy bytes text → IsCause line bytes text
   OutOfMemory : IsCause line bytes no_memory_text
 
 -- the write that may follow these: the next write of the way, or the text of a cause
@@ -97,7 +97,7 @@ pub record GoesWhole (line : CommandLine) (bytes : List ℕ) (answer : Status) (
 
 -- the command line reads a file, which was refused, and standard error got the line with the reason
 pub record IsRefused (line : CommandLine) (bytes : List ℕ) (old new : Sinks) : Type 0 where
-  pub reads : Reads line
+  pub reads : ReadsFile line
   pub text : List ℕ
   pub why : RefusedBy bytes text
   pub got : GotWrites (Write.ToErr text ∷ []) old new
@@ -134,7 +134,7 @@ Says status text answer old new =
 
 -- the source of a command line that reads failed, and the sinks got the line that says so
 pub record IsUnread (line : CommandLine) (answer : Status) (old new : View) : Type 0 where
-  pub reads : Reads line
+  pub reads : ReadsFile line
   pub failed : Rose old.read_faults new.read_faults
   pub says : Says s.ReadFault read_fault_text answer old.sinks new.sinks
 
@@ -152,7 +152,7 @@ pub record TellsOfFile (line : CommandLine) (answer : Status) (old new : View) :
   pub bytes : List ℕ
   pub is_file : IsFileOf line old.left bytes
   pub means : FileMeans line bytes answer old.sinks new.sinks
-  pub at_end : Reads line → IsWholeEnd answer → IsAtEnd new.left
+  pub at_end : ReadsFile line → IsWholeEnd answer → IsAtEnd new.left
 
 -- the meaning of a status if the words are this command line
 abbrev pub LineMeans : CommandLine → Status → View → View → Type 0
@@ -213,8 +213,8 @@ pub record IsUntouched (old new : View) : Type 0 where
 -- All that the status of a call says. It has a meaning if the words are a command line, and one if they are not. Only a
 -- command line that reads touches the source. The status names what failed. Without a fault nothing is missing.
 pub record Tells (words : List (List ℕ)) (answer : Status) (old new : View) : Type 0 where
-  pub line : (line : CommandLine) → IsLine words line → LineMeans line answer old new
+  pub line : (line : CommandLine) → StandFor words line → LineMeans line answer old new
   pub usage : IsNoLine words → UsageMeans answer old new
-  pub unread : ((line : CommandLine) → IsLine words line → Reads line → ⊥) → IsUntouched old new
+  pub unread : ((line : CommandLine) → StandFor words line → ReadsFile line → ⊥) → IsUntouched old new
   pub causes : Causes answer old new
   pub complete : IsComplete words answer old new

@@ -3,15 +3,15 @@ use Rattle.std.specs.Prelude.{◌≡◌, ℕ, ◌≤◌, ◌<◌, ◌↔◌, Lis
 use Rattle.golf_theory.specs.Membership.{In}
 use Rattle.golf_data.specs.declared.code.Code.{Code}
 use Rattle.golf_model.specs.State.{State, start, ending}
-use Rattle.golf_model.specs.Living.{dead, Dead}
-use Rattle.golf_model.specs.Running.{Event, run, stops}
+use Rattle.golf_model.specs.LiveSet.{dead, Dead}
+use Rattle.golf_model.specs.Runs.{Event, run, stops}
 use Rattle.golf_model.specs.Futures.{Leads, Still}
-use Rattle.golf_model_futures.specs.Telling.{TellsOfEach}
+use Rattle.golf_model_futures.specs.ReportedGoroutines.{TellsOfEach}
 use Rattle.golf_model.specs.Turn.{MovesOn}
 use Rattle.golf_syntax_trees.specs.declared.declarations.File.{File}
 use Rattle.golf_code_of.specs.Files.{CodeOf}
-use Rattle.golf_meaning_typing.specs.FileLaws.{MeaningsSound}
-use Rattle.golf_meaning_runs.specs.Agreeing.{SourcesAgree}
+use Rattle.golf_meaning_runs.specs.FileLaws.{MeaningsSound}
+use Rattle.golf_meaning_runs.specs.Agreement.{SourcesAgree}
 use Rattle.golf_meaning_runs.specs.Laws.{RunMeansSource}
 use Rattle.golf_reader.specs.Refusals.{HasTypedTree, IsUnlexed, IsUnparsed, IsUntyped}
 use Rattle.golf_run_schedules.specs.declared.options.RunOptions.{RunOptions}
@@ -28,19 +28,19 @@ use Rattle.golf_command.specs.Ways.{Way, IsWayOf, status_for, out_for, err_for}
 -- ---- the command line
 
 -- the words stand for this command line
-abbrev pub IsLine : List (List ℕ) → CommandLine → Type 0
-IsLine words line = line_of words ≡ Some line
+abbrev pub StandFor : List (List ℕ) → CommandLine → Type 0
+StandFor words line = line_of words ≡ Some line
 
 -- the words stand for no command line
 abbrev pub IsNoLine : List (List ℕ) → Type 0
 IsNoLine words = line_of words ≡ None
 
 -- the command line reads its file from the source
-abbrev pub Reads : CommandLine → Type 0
-Reads (CommandLine.Run options) = Unit {0}
-Reads (CommandLine.Generate n) = ⊥
-Reads (CommandLine.Threads n) = Unit {0}
-Reads CommandLine.Meaning = Unit {0}
+abbrev pub ReadsFile : CommandLine → Type 0
+ReadsFile (CommandLine.Run options) = Unit {0}
+ReadsFile (CommandLine.Generate n) = ⊥
+ReadsFile (CommandLine.Threads n) = Unit {0}
+ReadsFile CommandLine.Meaning = Unit {0}
 
 -- the bytes of the file: those that the source had left, if they are known, or those of the generated file
 abbrev pub IsFileOf : CommandLine → Option (List ℕ) → List ℕ → Type 0
@@ -106,8 +106,9 @@ pub data RefusedBy (bytes : List ℕ) : List ℕ → Type 0 where
 -- refused
 pub data WordsMean (words : List (List ℕ)) (left : Option (List ℕ)) : Status → List ℕ → List ℕ → Type 0 where
   Misused : IsNoLine words → WordsMean words left s.Usage [] usage_text
-  Refused : (line : CommandLine) (bytes text : List ℕ) → IsLine words line → Reads line → IsFileOf line left bytes
+  Refused : (line : CommandLine) (bytes text : List ℕ) → StandFor words line → ReadsFile line → IsFileOf line left bytes
       → RefusedBy bytes text → WordsMean words left s.Refused [] text
-  Goes : (line : CommandLine) (bytes : List ℕ) (file : File) (way : Way) → IsLine words line → IsFileOf line left bytes
+  Goes : (line : CommandLine) (bytes : List ℕ) (file : File) (way : Way) → StandFor words line
+      → IsFileOf line left bytes
       → Accepts bytes file → IsWayOf line file way
       → WordsMean words left (status_for way (CodeOf file)) (out_for way (CodeOf file)) (err_for way (CodeOf file))

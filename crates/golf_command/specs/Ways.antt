@@ -3,10 +3,10 @@ use Rattle.std.specs.Prelude.{◌≡◌, ℕ, ◌<◌, ◌≤◌, false, List, [
 use Rattle.std.specs.Prelude.{None}
 use Rattle.golf_data.specs.declared.code.Code.{Code}
 use Rattle.golf_model.specs.State.{State, start, runnable, ending}
-use Rattle.golf_model.specs.Running.{Event, run}
+use Rattle.golf_model.specs.Runs.{Event, run}
 use Rattle.golf_syntax_trees.specs.declared.declarations.File.{File}
 use Rattle.golf_code_of.specs.Files.{CodeOf}
-use Rattle.golf_meaning_functions.specs.Files.{function_count}
+use Rattle.golf_meaning_statements.specs.Files.{function_count}
 use Rattle.golf_run_schedules.specs.declared.schedule.Schedule.{Schedule}
 use Rattle.golf_run_schedules.specs.declared.options.RunOptions.{RunOptions}
 use Rattle.golf_command_words.specs.declared.line.CommandLine.{CommandLine}
@@ -16,7 +16,7 @@ use Rattle.golf_run_texts.specs.Texts.{history_line, meaning_line}
 use Rattle.golf_run_texts.specs.Output.{events_of, status_of, out_of, end_of, err_of}
 use Rattle.golf_run_texts.specs.Writes.{Write, writes_of}
 use Rattle.golf_world.specs.History.{most_entries, number_at}
-use Rattle.golf_command.specs.Generating.{generated_options, generated_summary, generated_writes}
+use Rattle.golf_command.specs.GeneratedRuns.{generated_options, generated_summary, generated_writes}
 
 -- ---- turns by threads
 

@@ -30,16 +30,16 @@ WroteBoth true text line old new = GotWrites (Write.ToOut text ∷ Write.ToErr l
 WroteBoth false text line old new = WasCut (Write.ToOut text ∷ Write.ToErr line ∷ []) old new
 
 -- All was written with the status of the run, or a write was cut. Without texts only the line that says so was written.
-abbrev pub HasWritten : Result RunTexts Memory → Status → Sinks → Sinks → Type 0
-HasWritten (Ok of) answer old new =
+abbrev pub HasWrittenRun : Result RunTexts Memory → Status → Sinks → Sinks → Type 0
+HasWrittenRun (Ok of) answer old new =
     ((answer ≡ of.status) × GotWrites (text_writes of) old new × IsSteady old new)
     ⊎ ((answer ≡ s.WriteFault) × WasCut (text_writes of) old new)
-HasWritten (Err m) answer old new = Says s.Memory no_memory_text answer old new
+HasWrittenRun (Err m) answer old new = Says s.Memory no_memory_text answer old new
 
 -- The text was written to standard output, with status 0, or its write was cut. Without a text only the line that says
 -- so was written.
-abbrev pub HasTold : Result (List ℕ) Memory → Status → Sinks → Sinks → Type 0
-HasTold (Ok text) answer old new =
+abbrev pub HasWrittenText : Result (List ℕ) Memory → Status → Sinks → Sinks → Type 0
+HasWrittenText (Ok text) answer old new =
     ((answer ≡ s.Clean) × GotWrites (Write.ToOut text ∷ []) old new × IsSteady old new)
     ⊎ ((answer ≡ s.WriteFault) × Breaks old new [] (Write.ToOut text))
-HasTold (Err m) answer old new = Says s.Memory no_memory_text answer old new
+HasWrittenText (Err m) answer old new = Says s.Memory no_memory_text answer old new

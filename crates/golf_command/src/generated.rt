@@ -7,7 +7,7 @@ ghost use Rattle.golf_data.specs.Places.{HasPlaces};
 ghost use Rattle.golf_run_schedules.specs.Options.{IsWithinLimits};
 ghost use Rattle.golf_command_sample.specs.File.{file as file_of, most_parts, summary as summary_of};
 ghost use Rattle.golf_run.specs.HasRun.{sinks};
-ghost use Rattle.golf_command.specs.Generating.{generated_options as generated_options_of, summed_up};
+ghost use Rattle.golf_command.specs.GeneratedRuns.{generated_options as generated_options_of, summed_up};
 ghost use Rattle.golf_command.specs.Ways.{Way};
 ghost use Rattle.golf_command.specs.Written.{AreTextsOf};
 ghost use Rattle.golf_command.specs.Means.{FileTells};
@@ -60,7 +60,7 @@ fn summary(alloc: Global, parts: u32, totals: Totals) -> Result<List<u8>, Memory
 }
 
 // The texts of the run of the code of the generated file of this many parts.
-#[tactic(auto, unfolding(crate::specs::Generating::generated_summary))]
+#[tactic(auto, unfolding(crate::specs::GeneratedRuns::generated_summary))]
 fn surveyed<R: Threads + Sync, G: Gate + Sync>(
     rt: &R,
     alloc: Global,

@@ -3,15 +3,13 @@
 //! It runs nothing.
 
 ghost use Rattle.std.specs.Prelude.{◌≡◌, IfOk};
-ghost use Rattle.golf_check_types.specs.Files.{facts_in};
-ghost use Rattle.golf_check.specs.Heads.{scope_of};
-ghost use Rattle.golf_meaning_functions.specs.Files.{function_count as function_count_of};
+ghost use Rattle.golf_meaning_statements.specs.Files.{function_count as function_count_of};
 ghost use Rattle.golf_run_texts.specs.Texts.{meaning_line as meaning_line_of};
 ghost use Rattle.golf_run.specs.HasRun.{sinks};
 ghost use Rattle.golf_command.specs.Means.{seen, LineTells};
 ghost use Rattle.golf_command_words.specs.declared.line.CommandLine.{CommandLine};
 
-use crate::loading::load_tree;
+use crate::source_file::load_tree;
 use crate::texts::write_told;
 use golf_base::{List, Memory, Sink, Source};
 use golf_check::Checked;
@@ -22,16 +20,17 @@ use std::alloc::Global;
 
 // The line that says that all functions agree with their source, and how many there are.
 fn agreement(alloc: Global, checked: &Checked) -> Result<List<u8>, Memory>
-    requires scope { checked.now.scope ≡ scope_of checked.now.file }
-    requires facts { checked.now.facts ≡ facts_in checked.now.file }
-    ensures { IfOk result (λ text. text ≡ meaning_line_of (function_count_of checked.now.file.declarations)) }
+    ensures { IfOk result (λ text. text ≡ meaning_line_of (function_count_of checked.now.declarations)) }
 {
     let code = generate(alloc, checked)?;
     let same = check_all(alloc, checked, &code)?;
     if !same {
         unreachable!()
     }
-    meaning_line(alloc, function_count(checked.file.declarations.as_slice()))
+    meaning_line(
+        alloc,
+        function_count(checked.file().declarations.as_slice()),
+    )
 }
 
 /// Serves the command line `meaning`: reads the file, and compares the code of each of its functions with

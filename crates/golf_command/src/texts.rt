@@ -1,7 +1,7 @@
 //! Writes the texts at the end of a command line: after a run one text to each sink.
 
 ghost use Rattle.golf_run.specs.HasRun.{sinks};
-ghost use Rattle.golf_command.specs.Written.{HasTold, HasWritten, WroteBoth};
+ghost use Rattle.golf_command.specs.Written.{HasWrittenText, HasWrittenRun, WroteBoth};
 
 use crate::ends::end;
 use golf_base::{List, Memory, Sink, write_all};
@@ -37,7 +37,7 @@ pub(crate) fn write_texts<O: Sink, E: Sink>(
     err: &mut E,
     made: Result<RunTexts, Memory>,
 ) -> Status
-    ensures { HasWritten made result
+    ensures { HasWrittenRun made result
         (sinks (O.written out.old) (O.faults out.old) (E.written err.old) (E.faults err.old))
         (sinks (O.written out.new) (O.faults out.new) (E.written err.new) (E.faults err.new)) }
 {
@@ -59,7 +59,7 @@ pub(crate) fn write_told<O: Sink, E: Sink>(
     err: &mut E,
     made: Result<List<u8>, Memory>,
 ) -> Status
-    ensures { HasTold made result
+    ensures { HasWrittenText made result
         (sinks (O.written out.old) (O.faults out.old) (E.written err.old) (E.faults err.old))
         (sinks (O.written out.new) (O.faults out.new) (E.written err.new) (E.faults err.new)) }
 {

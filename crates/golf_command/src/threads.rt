@@ -13,7 +13,7 @@ ghost use Rattle.golf_command.specs.Written.{AreTextsByThreads};
 ghost use Rattle.golf_command_words.specs.declared.line.CommandLine.{CommandLine};
 ghost use Rattle.golf_world.specs.History.{most_entries};
 
-use crate::loading::load;
+use crate::source_file::load;
 use crate::texts::{RunTexts, write_texts};
 use golf_base::{Gate, List, Memory, Sink, Source};
 use golf_data::{Code, Ending};

@@ -11,8 +11,8 @@ ghost use Rattle.golf_command.specs.Means.{words_of, seen, LineTells, Tells};
 
 use crate::ends::end;
 use crate::generated::run_generated;
-use crate::loading::load;
 use crate::meaning::serve_meaning;
+use crate::source_file::load;
 use crate::threads::serve_threads;
 use golf_base::{Gate, Memory, Sink, Source};
 use golf_command_words::{CommandLine, parse};

@@ -1,5 +1,5 @@
 -- How bytes are scanned that stand before others.
--- For: `scan` (golf_lex/specs/Scanning.antt) and `Lexes` (golf_lex_tokens/specs/Lexes.antt)
+-- For: `scan` (golf_lex/specs/LexemeScan.antt) and `Lexes` (golf_lex_tokens/specs/Lexes.antt)
 -- By: induction over the list of digits; otherwise computing with the automaton
 use Rattle.std.proofs.Common.{◌≡◌, ℕ, ◌≤◌, Bool, true, false, ◌||◌, List, [], ◌∷◌, ◌++◌, refl, sym, ap, ◌∙◌}
 use Rattle.std.proofs.Common.{append_assoc, append-nil, arith}
@@ -14,7 +14,7 @@ use Rattle.golf_lex_tokens.specs.Lexemes.{Blank, Of, Lexeme}
 use Rattle.golf_lex_tokens.specs.Semicolons.{tokens_of}
 use Rattle.golf_lex_tokens.specs.Lexes.{Lexes}
 use Rattle.golf_lex.specs.Automaton.{begun}
-use Rattle.golf_lex.specs.Scanning.{behind, scan}
+use Rattle.golf_lex.specs.LexemeScan.{behind, scan}
 use Rattle.golf_lex.proofs.Runs.{scans-lexes}
 
 -- The states of the automaton have no names outside its crate: each is that after a byte.

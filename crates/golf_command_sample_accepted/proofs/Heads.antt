@@ -19,7 +19,7 @@ use Rattle.golf_syntax_trees.specs.declared.types.TypeExpr.TheVariants as ty
 use Rattle.golf_syntax_trees.specs.declared.types.TypeExpr.TheOpen as TF
 use Rattle.golf_syntax_trees.specs.Types.{TypeForm, type_form_step, type_form}
 use Rattle.golf_syntax_trees.specs.Statements.{stmts_good, stmt_form}
-use Rattle.golf_syntax_trees.specs.Words.{Word, word, closed, Spells}
+use Rattle.golf_syntax_trees.specs.Words.{Word, word, closed, SpellsWords}
 use Rattle.golf_syntax_trees.specs.Declarations.{print_decl, print_file, decl_good}
 use Rattle.golf_syntax_trees.specs.Reads.{most, no_counts, is_affordable, Reads}
 use Rattle.golf_command_sample_accepted.proofs.Chunks.{scanned, scan-behind, scanned-lexes}
@@ -161,8 +161,8 @@ head-reads rest ds r = record {
   tokens = tokens_of (head_lexemes r.lexemes);
   lexes = scanned-lexes (head ++ rest) (head_lexemes r.lexemes) (scan-head rest r.lexemes r.scans);
   reads = record {
-    prints = subst (λ ws. Spells ws (tokens_from 1 (head_lexemes r.lexemes)) []) (sym (head-prints ds))
-        (subst (λ ts. Spells (head_words (closed (map print_decl ds))) ts []) (sym (head-tokens r.lexemes r.opens))
+    prints = subst (λ ws. SpellsWords ws (tokens_from 1 (head_lexemes r.lexemes)) []) (sym (head-prints ds))
+        (subst (λ ts. SpellsWords (head_words (closed (map print_decl ds))) ts []) (sym (head-tokens r.lexemes r.opens))
         (spelt-head (closed (map print_decl ds)) (tokens_from 16 r.lexemes) (record { is = r.spells })).is);
     form = record {
       good = head-good ds r.good;

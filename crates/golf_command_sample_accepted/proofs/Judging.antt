@@ -28,10 +28,10 @@ use Rattle.golf_check_types.specs.Types.{has_base, type_given, is_nil}
 use Rattle.golf_check_types.specs.Names.{Table, is_blank}
 use Rattle.golf_check_types.specs.Scopes.{meaning, type_name, value_name, call_name, package_name, member, is_here}
 use Rattle.golf_check_types.specs.Scopes.{is_reserved, may_be_declared}
-use Rattle.golf_check_types.specs.Written.{Write, write_step, named_base, made_base, sync_base}
+use Rattle.golf_check_types.specs.Written.{WriteType, write_step, named_base, made_base, sync_base}
 use Rattle.golf_check_types.specs.Expressions.{used, given_by, facts_of, made, field_type, fits_int}
 use Rattle.golf_check_types.specs.Calls.{call_judged}
-use Rattle.golf_check_types.specs.Judging.{Judge, judge, judge_step}
+use Rattle.golf_check_types.specs.Judgments.{Judge, judge, judge_step}
 use Rattle.golf_check_types.specs.Statements as W
 use Rattle.golf_check_types.specs.Statements.{Walk, Walked, walk, clause_step, stmt_step}
 use Rattle.golf_check_types.specs.Files.{parts_walk, head_scope, func_walk, outside}
@@ -64,10 +64,10 @@ named n = judge_step (F.Name n)
 abbrev pub digits : List ℕ → Judge
 digits n = judge_step (F.Integer n)
 
-abbrev pub int_written : Write
+abbrev pub int_written : WriteType
 int_written = write_step (TF.Named (codes "int"))
 
-abbrev pub made_by : Write → Judge
+abbrev pub made_by : WriteType → Judge
 made_by x l s = made l (x l s)
 
 abbrev pub defines : ℕ → List ℕ → Judge → Walk
@@ -172,7 +172,7 @@ known names entities functions = record {
 }
 
 -- the walk of a function with one parameter and this body
-abbrev walked_by : ℕ → Write → List Walk → Walk
+abbrev walked_by : ℕ → WriteType → List Walk → Walk
 walked_by l x body s = W.in_order
     ((λ t. W.nothing) ∷ W.in_order ((λ t. W.declares_one t (codes "n") (x 0 s).type
     (broken l 2 (may_be_declared t (codes "n"))) []) ∷ []) ∷ W.in_order body ∷ (λ t. W.breaks []) ∷ [])

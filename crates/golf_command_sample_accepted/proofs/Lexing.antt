@@ -1,10 +1,10 @@
 -- How a part is cut into lexemes.
--- For: `part` (golf_command_sample/specs/File.antt) and `scan` (golf_lex/specs/Scanning.antt)
+-- For: `part` (golf_command_sample/specs/File.antt) and `scan` (golf_lex/specs/LexemeScan.antt)
 -- By: computing with the automaton; no induction
 use Rattle.std.proofs.Common.{◌≡◌, ℕ, ◌<◌, ◌≤◌, ◌^◌, refl, ap, ◌∙◌, List, [], ◌∷◌, ◌++◌, append_assoc, codes, decimal}
 use Rattle.std.specs.Prelude.{Option, Some, None}
 use Rattle.golf_lex_tokens.specs.Lexemes.{Lexeme}
-use Rattle.golf_lex.specs.Scanning.{behind}
+use Rattle.golf_lex.specs.LexemeScan.{behind}
 use Rattle.golf_command_sample_accepted.proofs.Chunks.{scanned, in_word, scan-word, scan-behind, space}
 use Rattle.golf_command_sample.specs.File.{part, part_body}
 use Rattle.golf_command_sample_accepted.specs.Trees.{part_name}

@@ -29,10 +29,10 @@ use Rattle.golf_check_types.specs.Types.{plain, has_base}
 use Rattle.golf_check_types.specs.Names.{Table, number_of}
 use Rattle.golf_check_types.specs.Scopes.{meaning, type_name, value_name, call_name, package_name, is_here, is_reserved}
 use Rattle.golf_check_types.specs.Scopes.{may_be_declared}
-use Rattle.golf_check_types.specs.Written.{Write, write_step, named_base}
+use Rattle.golf_check_types.specs.Written.{WriteType, write_step, named_base}
 use Rattle.golf_check_types.specs.Expressions.{used, named_or_used, given_by, facts_of, value_from, fits_int}
 use Rattle.golf_check_types.specs.Expressions.{runtime_member}
-use Rattle.golf_check_types.specs.Judging.{Judge, judge, judge_step}
+use Rattle.golf_check_types.specs.Judgments.{Judge, judge, judge_step}
 use Rattle.golf_check_types.specs.Statements as W
 use Rattle.golf_check_types.specs.Statements.{Walk, walk, clause_step, stmt_step}
 use Rattle.golf_check_types.specs.Files.{func_walk, outside}
@@ -193,13 +193,13 @@ main-keeps n l small = no_more _ (calls-work n n l (last_stmts n (call_line l n)
 
 -- `wait`.
 
-abbrev chan_written : Write
+abbrev chan_written : WriteType
 chan_written = write_step (TF.Chan int_written)
 
 abbrev receive_judge : Judge
 receive_judge = judge_step (F.Unary unary.Receive (named (codes "c")))
 
-abbrev waits_by : Write → Walk → Walk
+abbrev waits_by : WriteType → Walk → Walk
 waits_by x a s = W.in_order
     ((λ t. W.nothing) ∷ W.in_order ((λ t. W.declares_one t (codes "c") (x 0 s).type
     (broken 12 2 (may_be_declared t (codes "c"))) []) ∷ []) ∷ W.in_order (a ∷ []) ∷ (λ t. W.breaks []) ∷ [])

@@ -12,11 +12,11 @@ use Rattle.golf_lex_tokens.specs.declared.token.Keyword.TheVariants as keywords
 use Rattle.golf_lex_tokens.specs.Bytes.{newlines}
 use Rattle.golf_lex_tokens.specs.Lexemes.{Of, Lexeme}
 use Rattle.golf_syntax_trees.specs.declared.statements.Stmt.{Stmt}
-use Rattle.golf_syntax_trees.specs.Words.{Word, word, punctuation, separated, closed, Spells}
+use Rattle.golf_syntax_trees.specs.Words.{Word, word, punctuation, separated, closed, SpellsWords}
 use Rattle.golf_syntax_trees.specs.Declarations.{print_decl}
 use Rattle.golf_syntax_trees.specs.Statements.{print_stmt, stmt_form, stmts_good}
 use Rattle.golf_syntax_trees.specs.Reads.{most, no_counts, is_affordable}
-use Rattle.golf_lex.specs.Scanning.{behind}
+use Rattle.golf_lex.specs.LexemeScan.{behind}
 use Rattle.golf_command_sample_accepted.proofs.Chunks.{scanned, in_word, in_integer, in_paren, in_space, scan-word}
 use Rattle.golf_command_sample_accepted.proofs.Chunks.{scan-in-paren, scan-in-space, scan-behind, paren, space}
 use Rattle.golf_syntax_expressions.proofs.ExprShapes as shape
@@ -107,7 +107,7 @@ record BodyReads (bytes : List ℕ) (l : ℕ) (first : Stmt) (ss : List Stmt) : 
   lexemes : List Lexeme
   scans : scanned bytes ≡ Some lexemes
   opens : Opens l lexemes
-  spells : Spells (body_words (first ∷ ss)) (tokens_from l lexemes) []
+  spells : SpellsWords (body_words (first ∷ ss)) (tokens_from l lexemes) []
   good : stmts_good (map stmt_form (first ∷ ss)) ≡ true
   cost : is_affordable in_main (kinds_of (body_words (first ∷ ss))) ≡ true
 
@@ -131,8 +131,9 @@ call-reads k l rest first ss some fits r =
       lexemes = call_lexemes k r.lexemes;
       scans = scan-call k rest r.lexemes some fits r.scans;
       opens = refl;
-      spells = subst (λ ws. Spells ws (tokens_from l (call_lexemes k r.lexemes)) []) (sym (call-prints k l first ss))
-          (subst (λ ts. Spells (line_words l (call_kinds k) ++ body_words (first ∷ ss)) ts [])
+      spells = subst (λ ws. SpellsWords ws (tokens_from l (call_lexemes k r.lexemes)) [])
+          (sym (call-prints k l first ss))
+          (subst (λ ts. SpellsWords (line_words l (call_kinds k) ++ body_words (first ∷ ss)) ts [])
           (sym (call-tokens k l r.lexemes none r.opens))
           (spells-line l (call_kinds k) (body_words (first ∷ ss)) (tokens_from (l + 1) r.lexemes) r.spells));
       good = ap (λ t. t && stmts_good (map stmt_form (first ∷ ss))) (call-good k l) ∙ r.good;
@@ -202,8 +203,8 @@ tail-reads n l some fits =
       lexemes = tail_lexemes n;
       scans = scan-tail n some fits;
       opens = refl;
-      spells = subst (λ ws. Spells ws (tokens_from l (tail_lexemes n)) []) (sym (tail-prints n l))
-          (subst (λ ts. Spells (tail_words n l) ts []) (sym (tail-tokens n l none)) (spelt-tail n l).is);
+      spells = subst (λ ws. SpellsWords ws (tokens_from l (tail_lexemes n)) []) (sym (tail-prints n l))
+          (subst (λ ts. SpellsWords (tail_words n l) ts []) (sym (tail-tokens n l none)) (spelt-tail n l).is);
       good = tail-good n l;
       cost = ap (λ ws. is_affordable in_main (kinds_of ws)) (tail-prints n l) ∙ tail-cost n l;
     }
@@ -213,7 +214,7 @@ record MainReads (bytes : List ℕ) (l : ℕ) (ss : List Stmt) : Type 0 where
   lexemes : List Lexeme
   scans : scanned bytes ≡ Some lexemes
   opens : Opens l lexemes
-  spells : Spells (body_words ss) (tokens_from l lexemes) []
+  spells : SpellsWords (body_words ss) (tokens_from l lexemes) []
   good : stmts_good (map stmt_form ss) ≡ true
   cost : is_affordable in_main (kinds_of (body_words ss)) ≡ true
 
@@ -261,8 +262,8 @@ main-reads n l some fits =
       lexemes = main_lexemes r.lexemes;
       scans = scan-main (calls n ++ tail n) r.lexemes r.scans;
       opens = refl;
-      spells = subst (λ ws. Spells ws (tokens_from l (main_lexemes r.lexemes)) []) (sym (main-prints n l))
-          (subst (λ ts. Spells (line_words l main_kinds ++ body_words (main_func n l).body) ts [])
+      spells = subst (λ ws. SpellsWords ws (tokens_from l (main_lexemes r.lexemes)) []) (sym (main-prints n l))
+          (subst (λ ts. SpellsWords (line_words l main_kinds ++ body_words (main_func n l).body) ts [])
           (sym (main-tokens l r.lexemes)) (spells-line l main_kinds (body_words (main_func n l).body)
           (tokens_from (l + 1) r.lexemes) r.spells));
       good = ap (λ t. t && true) r.good;

@@ -12,7 +12,7 @@ use Rattle.golf_lex_tokens.specs.Bytes.{newlines}
 use Rattle.golf_lex_tokens.specs.Lexemes.{Lexeme}
 use Rattle.golf_lex_tokens.specs.Semicolons.{items, inserted, closes, without_optional}
 use Rattle.golf_syntax_trees.specs.declared.declarations.Decl.{Decl}
-use Rattle.golf_syntax_trees.specs.Words.{Word, word, closed, Spells}
+use Rattle.golf_syntax_trees.specs.Words.{Word, word, closed, SpellsWords}
 use Rattle.golf_syntax_trees.specs.Declarations.{print_decl, decl_good}
 use Rattle.golf_syntax_trees.specs.Reads.{most, no_counts, is_affordable}
 use Rattle.golf_command_sample_accepted.proofs.Chunks.{scanned}
@@ -30,19 +30,19 @@ token l k = record { kind = k; line = l }
 abbrev pub line_tokens : ℕ → List TokenKind → List Token
 line_tokens l ks = map (token l) ks
 
-pub spells-plain : (l : ℕ) (ks : List TokenKind) (ws : List Word) (ts : List Token) → Spells ws ts []
-    → Spells (map word ks ++ ws) (line_tokens l ks ++ ts) []
+pub spells-plain : (l : ℕ) (ks : List TokenKind) (ws : List Word) (ts : List Token) → SpellsWords ws ts []
+    → SpellsWords (map word ks ++ ws) (line_tokens l ks ++ ts) []
 spells-plain l [] ws ts h = h
 spells-plain l (k ∷ ks) ws ts h = ((refl, tt), spells-plain l ks ws ts h)
 
-pub spells-line : (l : ℕ) (ks : List TokenKind) (ws : List Word) (ts : List Token) → Spells ws ts []
-    → Spells (line_words l ks ++ ws) (line_tokens l ks ++ ts) []
+pub spells-line : (l : ℕ) (ks : List TokenKind) (ws : List Word) (ts : List Token) → SpellsWords ws ts []
+    → SpellsWords (line_words l ks ++ ws) (line_tokens l ks ++ ts) []
 spells-line l [] ws ts h = h
 spells-line l (k ∷ ks) ws ts h = ((refl, refl), spells-plain l ks ws ts h)
 
 -- the same, kept together
 pub record Spelt (ws : List Word) (ts : List Token) : Type 0 where
-  pub is : Spells ws ts []
+  pub is : SpellsWords ws ts []
 
 pub spelt-end : Spelt [] []
 spelt-end = record { is = refl }
@@ -91,7 +91,7 @@ pub record ReadsFrom (bytes : List ℕ) (l : ℕ) (ds : List Decl) : Type 0 wher
   pub lexemes : List Lexeme
   pub scans : scanned bytes ≡ Some lexemes
   pub opens : Opens l lexemes
-  pub spells : Spells (closed (map print_decl ds)) (tokens_from l lexemes) []
+  pub spells : SpellsWords (closed (map print_decl ds)) (tokens_from l lexemes) []
   pub good : list_all decl_good ds ≡ true
   pub cost : is_affordable no_counts (kinds_of (closed (map print_decl ds))) ≡ true
 
@@ -108,8 +108,8 @@ part-reads k l rest ds some fits r =
       lexemes = part_lexemes k r.lexemes;
       scans = scan-part k rest r.lexemes some fits r.scans;
       opens = refl;
-      spells = subst (λ ws. Spells ws (tokens_from l (part_lexemes k r.lexemes)) []) (sym (part-prints k l ds))
-          (subst (λ ts. Spells (part_words k l (closed (map print_decl ds))) ts [])
+      spells = subst (λ ws. SpellsWords ws (tokens_from l (part_lexemes k r.lexemes)) []) (sym (part-prints k l ds))
+          (subst (λ ts. SpellsWords (part_words k l (closed (map print_decl ds))) ts [])
           (sym (part-tokens k l r.lexemes none r.opens))
           (spelt-part k l (closed (map print_decl ds)) (tokens_from (next_part l) r.lexemes)
           (record { is = r.spells })).is);

@@ -21,7 +21,7 @@ use Rattle.golf_check_types.specs.declared.scopes.Scope.{Scope}
 use Rattle.golf_check_types.specs.Faults.{Fault, broken}
 use Rattle.golf_check_types.specs.Names.{is_number}
 use Rattle.golf_check_types.specs.Scopes.{meaning, type_name, value_name, call_name, package_name, is_reserved}
-use Rattle.golf_check_types.specs.Written.{Write, write, write_step, named_base}
+use Rattle.golf_check_types.specs.Written.{WriteType, write, write_step, named_base}
 use Rattle.golf_check_types.specs.Files.{naming_of, methods_added, Above, next_above, none_above, may_be_named}
 use Rattle.golf_check_types.specs.Files.{names_faults, type_faults, main_faults, is_main, outside, bare_file}
 use Rattle.golf_check_types.specs.Files.{with_types, with_forms, file_scope, struct_types, global_types, function_types}
@@ -104,10 +104,10 @@ flat-signatures g h zero ds = refl
 flat-signatures g h (suc n) ds = flat-signatures g h n (part_decl (suc n) (part_line n) ∷ ds)
     ∙ ap (λ xs. signatures n (xs ++ flat_map g ds)) (h (suc n) (part_line n))
 
-abbrev chan_written : Write
+abbrev chan_written : WriteType
 chan_written = write_step (TF.Chan int_written)
 
-abbrev node_written : Write
+abbrev node_written : WriteType
 node_written = write_step (TF.Pointer (codes "Node"))
 
 chan-write : write (ty.Chan (ty.Named (codes "int"))) ≡ chan_written
@@ -115,10 +115,11 @@ chan-write = w.write-Chan (ty.Named (codes "int")) ∙ ap (λ x. write_step (TF.
 
 part-signature : (n k l : ℕ) → function_types (outside (bare n)) (part_decl k l) ≡ int_signature ∷ []
 unfolding named_base
-part-signature n k l = ap (λ (x : Write). record { parameters = (x 0 (outside (bare n))).type ∷ []; result = None }
+part-signature n k l = ap (λ (x : WriteType). record { parameters = (x 0 (outside (bare n))).type ∷ []; result = None }
     ∷ []) (w.write-Named (codes "int"))
 
-abbrev typed_by : ℕ → Write → Write → List (List (Option GoType)) → List (Option GoType) → List Signature → FileScope
+abbrev typed_by : ℕ → WriteType → WriteType → List (List (Option GoType)) → List (Option GoType) → List Signature
+    → FileScope
 typed_by n x y fields globals functions =
     let s = outside (bare n) in
     record (bare n) {
@@ -197,9 +198,9 @@ names-keep n small =
 
 part-written : (s : Scope) (k l : ℕ) → type_faults s (part_decl k l) ≡ []
 unfolding named_base
-part-written s k l = ap (λ (x : Write). ((x l s).faults ++ []) ++ []) (w.write-Named (codes "int"))
+part-written s k l = ap (λ (x : WriteType). ((x l s).faults ++ []) ++ []) (w.write-Named (codes "int"))
 
-abbrev written_by : Scope → Write → Write → List Fault → List Fault
+abbrev written_by : Scope → WriteType → WriteType → List Fault → List Fault
 written_by s x y fs = ((x 5 s).faults ++ ((y 5 s).faults ++ []))
     ++ ((y 10 s).faults ++ ((((x 12 s).faults ++ []) ++ []) ++ fs))
 

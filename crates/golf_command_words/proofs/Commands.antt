@@ -1,5 +1,5 @@
 -- What the faults of a program's words come to, and the program's commands.
--- For: `match_words`, `split`, src/splitting.rt; `matched`, `split_of`, specs/Splitting.antt
+-- For: `match_words`, `split`, src/clap_commands.rt; `matched`, `split_of`, specs/ClapCommands.antt
 -- By: cases of the list of faults; computing what the commands are
 use Rattle.std.proofs.Common.{◌≡◌, true, refl, sym, ap, ◌∙◌, List, [], ◌∷◌, Option, None}
 use Rattle.clap.proofs.OnLiterals.{clap_on_literals}
@@ -9,7 +9,7 @@ use Rattle.clap.specs.Simple.{App, subcommand_of}
 use Rattle.clap.specs.Faults.{fault_of, is_simple_and_free}
 use Rattle.clap.specs.declared.error.ErrorKind.{ErrorKind}
 use Rattle.golf_command_words.specs.Values.{Text}
-use Rattle.golf_command_words.specs.Splitting.{golf_app, matched, unless_fault}
+use Rattle.golf_command_words.specs.ClapCommands.{golf_app, matched, unless_fault}
 
 -- an answer of a parse
 pub answered : (a : App) (words : List Text) (found : Option (Text × List Row)) → fault_of a words ≡ []

@@ -1,5 +1,5 @@
 -- A generate line: one number, with one `--` right before or after it.
--- For: `parse`, src/reading.rt; `generate_of`, specs/Words.antt
+-- For: `parse`, src/command_lines.rt; `generate_of`, specs/Words.antt
 -- By: cases of how many words there are and of what each word is; no induction
 use Rattle.std.proofs.Common.{◌≡◌, ◌∙◌, ◌&&◌, ℕ, Bool, cond, true, false, refl, sym, ap, List, [], ◌∷◌, length, Option}
 use Rattle.std.proofs.Common.{Some, None, option_map, option_and_then, bytes_eq, codes, nat_le, IsUtf8, eqb-true}
@@ -14,7 +14,7 @@ use Rattle.clap.specs.declared.builder.value_parser.Reading.TheVariants.{AsWritt
 use Rattle.golf_command_sample.specs.File.{most_parts}
 use Rattle.golf_command_words.specs.Values.{Text, if_within, number_within}
 use Rattle.golf_command_words.specs.Words.{begins_with_hyphen, generate_of}
-use Rattle.golf_command_words.specs.Splitting.{generate_app, generate_by, program_app}
+use Rattle.golf_command_words.specs.ClapCommands.{generate_app, generate_by, program_app}
 use Rattle.golf_command_words.specs.declared.line.CommandLine.{CommandLine}
 use Rattle.golf_command_words.proofs.Outcomes.{dashes_met, ended, long_is, outcome, outcome-nil, plain_is, short_is}
 use Rattle.golf_command_words.proofs.Outcomes.{standing, trailed, trailed_is}

@@ -1,5 +1,5 @@
 -- The line that the words stand for is what `clap` finds in them.
--- For: `parse`, src/reading.rt; `line_of`, specs/Words.antt; `split_of`, specs/Splitting.antt
+-- For: `parse`, src/command_lines.rt; `line_of`, specs/Words.antt; `split_of`, specs/ClapCommands.antt
 -- By: cases of the first word; induction over the list of words after it
 use Rattle.std.proofs.Common.{◌≡◌, ◌∙◌, ◌++◌, Bool, cond, true, false, refl, sym, ap, ap₂, subst, List, [], ◌∷◌, map}
 use Rattle.std.proofs.Common.{Option, Some, None, Result, Ok, Err, IfOk, option_and_then, is_some, bytes_eq, codes}
@@ -18,7 +18,7 @@ use Rattle.clap.specs.Faults.{other_fault, settle_fault, step_fault, turn_fault,
 use Rattle.clap.proofs.WalkLemmas.{walk_stopped}
 use Rattle.golf_command_words.specs.Values.{Text, most_choices}
 use Rattle.golf_command_words.specs.Words.{generate_of, line_of, meaning_of, run_of, uses_after}
-use Rattle.golf_command_words.specs.Splitting.{generate_by, golf_app, line_by, run_by, split_of, unless_fault}
+use Rattle.golf_command_words.specs.ClapCommands.{generate_by, golf_app, line_by, run_by, split_of, unless_fault}
 use Rattle.golf_command_words.specs.declared.line.CommandLine.{CommandLine}
 use Rattle.golf_command_words.proofs.Outcomes.{bundle_fails, fails, level_is, outcome, short_text, unless_fails}
 use Rattle.golf_command_words.proofs.Outcomes.{unless_none}

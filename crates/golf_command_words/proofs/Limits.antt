@@ -1,5 +1,5 @@
 -- The numbers of a line are within their limits.
--- For: `parse`, src/reading.rt; `IsWithin`, specs/Words.antt
+-- For: `parse`, src/command_lines.rt; `IsWithin`, specs/Words.antt
 -- By: cases of the line and of the tests of its bounds; no induction
 use Rattle.std.proofs.Common.{◌≡◌, ◌&&◌, ℕ, ◌≤◌, Bool, true, false, if◌then◌else◌, List, [], ◌∷◌, Option, Some, None}
 use Rattle.std.proofs.Common.{IfSome, Result, Ok, Err, IfOk, option_and_then, option_map, nat_le, bytes_eq, codes, refl}
@@ -14,7 +14,7 @@ use Rattle.golf_command_words.specs.Values.{Text, most_choices, if_within, numbe
 use Rattle.golf_command_words.specs.Words.{Use, any_used, by_uses, default_turns, every_or_none, generate_of, is_used}
 use Rattle.golf_command_words.specs.Words.{line_of, meaning_of, number_word, run_by_settings, run_by_threads}
 use Rattle.golf_command_words.specs.Words.{run_by_values, run_of, setting, threads_by, uses_after, value_in, IsWithin}
-use Rattle.golf_command_words.specs.Splitting.{by_rows, is_true, with_threads}
+use Rattle.golf_command_words.specs.ClapCommands.{by_rows, is_true, with_threads}
 use Rattle.golf_command_words.specs.declared.line.CommandLine.{CommandLine}
 
 true-le : (a b : ℕ) → nat_le a b ≡ true → a ≤ b
@@ -53,7 +53,8 @@ options-within us =
     let markers = value_in us (codes "markers") in
     run-within-limits (is_used us (codes "recover")) (is_used us (codes "why"))
     (setting turns default_turns (number_within 1 most_turns)) (every_or_none (value_in us (codes "every")))
-    (setting markers 1 (number_within 1 16)) (setting (value_in us (codes "schedule")) Schedule.Rotate (schedule_of most_choices))
+    (setting markers 1 (number_within 1 16))
+    (setting (value_in us (codes "schedule")) Schedule.Rotate (schedule_of most_choices))
     (set-within 1 most_turns default_turns (omega arith) (omega arith) turns)
     (set-within 1 16 1 (omega arith) (omega arith) markers)
 
@@ -66,7 +67,8 @@ threads-within false text = go (number_within 1 16 text) (within 1 16 (number_of
     go (Some n) h = h
 
 -- a run by the rows of its options
-pub rows-within : (most : ℕ) (threads : Option Text) (rows : List Row) → IfSome (with_threads most threads rows) IsWithin
+pub rows-within : (most : ℕ) (threads : Option Text) (rows : List Row)
+    → IfSome (with_threads most threads rows) IsWithin
 rows-within most None rows =
     let turns = first_of (codes "turns") rows in
     let markers = first_of (codes "markers") rows in

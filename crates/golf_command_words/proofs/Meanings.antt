@@ -1,5 +1,5 @@
 -- A meaning line: nothing after its name, or one `--`.
--- For: `parse`, src/reading.rt; `meaning_of`, specs/Words.antt
+-- For: `parse`, src/command_lines.rt; `meaning_of`, specs/Words.antt
 -- By: cases of how many words there are and of what the first word is; no induction
 use Rattle.std.proofs.Common.{◌≡◌, ◌∙◌, Bool, cond, true, false, refl, ap, List, [], ◌∷◌, Option, Some, None}
 use Rattle.std.proofs.Common.{option_and_then, bytes_eq, IsUtf8}
@@ -10,7 +10,7 @@ use Rattle.clap.specs.Simple.{Shape, built_leaf, inherited}
 use Rattle.clap.specs.Faults.{defaults_fault}
 use Rattle.golf_command_words.specs.Values.{Text}
 use Rattle.golf_command_words.specs.Words.{meaning_of}
-use Rattle.golf_command_words.specs.Splitting.{meaning_app, program_app}
+use Rattle.golf_command_words.specs.ClapCommands.{meaning_app, program_app}
 use Rattle.golf_command_words.specs.declared.line.CommandLine.{CommandLine}
 use Rattle.golf_command_words.proofs.Outcomes.{dashes_met, ended, long_is, outcome, outcome-nil, plain_is, short_is}
 use Rattle.golf_command_words.proofs.Outcomes.{standing, trailed, trailed_is}

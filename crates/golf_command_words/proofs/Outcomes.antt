@@ -1,5 +1,5 @@
 -- What a command without subcommands finds in its words: the rows of its arguments, or none if a word is at fault.
--- For: `parse`, src/reading.rt; `split_of`, specs/Splitting.antt
+-- For: `parse`, src/command_lines.rt; `split_of`, specs/ClapCommands.antt
 -- By: cases of what the next word is: `--`, a long option, short ones, or plain; no induction
 use Rattle.std.proofs.Common.{◌≡◌, ◌∙◌, ◌==◌, ◌++◌, ℕ, Bool, cond, true, false, refl, sym, ap, ap₂, List, [], ◌∷◌}
 use Rattle.std.proofs.Common.{Option, Some, None, option_and_then, fold, bytes_eq, slice_get, chars, drop, encode_utf8}
@@ -18,7 +18,7 @@ use Rattle.clap.specs.Faults.{bundle_fault, bundle_step_fault, check_fault, defa
 use Rattle.clap.specs.Faults.{flags_fault, level_fault, long_fault, other_fault, settle_fault, short_fault, step_fault}
 use Rattle.clap.specs.Faults.{turn_fault, walk_fault}
 use Rattle.golf_command_words.specs.Values.{Text}
-use Rattle.golf_command_words.specs.Splitting.{unless_fault}
+use Rattle.golf_command_words.specs.ClapCommands.{unless_fault}
 
 pub unless_or : {X : Type 0} (a b : Kinds) (o : Option X)
     → unless_fault (or_else a b) o ≡ unless_fault a (unless_fault b o)

@@ -1,5 +1,5 @@
 -- A run line, whole: `clap` finds in its words what the grammar says.
--- For: `parse`, src/reading.rt; `run_of`, `uses_after`, specs/Words.antt
+-- For: `parse`, src/command_lines.rt; `run_of`, `uses_after`, specs/Words.antt
 -- By: induction over the list of words
 use Rattle.std.proofs.Common.{◌≡◌, ◌∙◌, Bool, cond, true, false, refl, sym, ap, ap₂, List, [], ◌∷◌, map, length, Option}
 use Rattle.std.proofs.Common.{Some, None, option_and_then, bytes_eq, nat_lt, is_some, IsUtf8, true≢false}
@@ -14,7 +14,7 @@ use Rattle.clap.specs.Faults.{long_fault, option_fault, react_fault, settle_faul
 use Rattle.clap.specs.declared.error.kind.ErrorKind.TheVariants.{TooManyValues}
 use Rattle.golf_command_words.specs.Values.{Text, most_choices}
 use Rattle.golf_command_words.specs.Words.{Use, option_met, run_of, uses_after, with_use}
-use Rattle.golf_command_words.specs.Splitting.{run_by, unless_fault}
+use Rattle.golf_command_words.specs.ClapCommands.{run_by, unless_fault}
 use Rattle.golf_command_words.proofs.Outcomes.{IsBundle, fails, long_is, outcome, plain_is, short_is, standing, turned}
 use Rattle.golf_command_words.proofs.Outcomes.{unless_fails, unless_or}
 use Rattle.golf_command_words.proofs.Runs.{long_hyphen, plain_hyphen, row, rules, run_shape}

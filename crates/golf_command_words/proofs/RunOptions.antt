@@ -1,5 +1,5 @@
 -- A word of a run line that is an option: `clap` does with it what the grammar says.
--- For: `parse`, src/reading.rt; `uses_after`, specs/Words.antt
+-- For: `parse`, src/command_lines.rt; `uses_after`, specs/Words.antt
 -- By: cases of the option's name and of its value; no induction
 use Rattle.std.proofs.Common.{◌≡◌, ◌∙◌, ◌&&◌, ◌++◌, Bool, cond, true, false, refl, sym, ap, ap₂, List, [], ◌∷◌, map}
 use Rattle.std.proofs.Common.{Option, Some, None, option_map, option_and_then, is_some, bytes_eq}
@@ -13,7 +13,7 @@ use Rattle.golf_command_words.specs.Values.{Text}
 use Rattle.golf_command_words.specs.Words.{Use, is_flag, is_last, is_used, option_in, run_of, takes_value, uses_after}
 use Rattle.golf_command_words.specs.Words.{with_use}
 use Rattle.golf_command_words.specs.Words.{option_met as option_told}
-use Rattle.golf_command_words.specs.Splitting.{unless_fault}
+use Rattle.golf_command_words.specs.ClapCommands.{unless_fault}
 use Rattle.golf_command_words.proofs.Outcomes.{long_is, outcome, standing, turned, unless_then}
 use Rattle.golf_command_words.proofs.Runs.{IsFlag, IsValued, flagged, has_row-used, new_use, option_in-long}
 use Rattle.golf_command_words.proofs.Runs.{or_else-nil, row, rules, run_shape, unknown, used_rows, valued}

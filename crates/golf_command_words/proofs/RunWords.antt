@@ -1,5 +1,5 @@
 -- The words of a run line, one by one: the walk of `clap` finds what the grammar says.
--- For: `parse`, src/reading.rt; `run_of`, `uses_after`, specs/Words.antt
+-- For: `parse`, src/command_lines.rt; `run_of`, `uses_after`, specs/Words.antt
 -- By: cases of the next word; induction over the lists of rules and of uses
 use Rattle.std.proofs.Common.{◌≡◌, ◌∙◌, ◌||◌, ◌++◌, Bool, cond, true, false, refl, sym, ap, List, [], ◌∷◌, map, Option}
 use Rattle.std.proofs.Common.{Some, None, option_map, option_and_then, fold, is_some, bytes_eq}
@@ -12,7 +12,7 @@ use Rattle.clap.specs.Faults.{default_fault, defaults_fault, given_default_fault
 use Rattle.golf_command_words.specs.Values.{Text, most_choices}
 use Rattle.golf_command_words.specs.Words.{Use, begins_with_hyphen, is_last, is_used, option_in, option_met, run_of}
 use Rattle.golf_command_words.specs.Words.{takes_value, uses_after, with_use, word_met}
-use Rattle.golf_command_words.specs.Splitting.{run_by, unless_fault}
+use Rattle.golf_command_words.specs.ClapCommands.{run_by, unless_fault}
 use Rattle.golf_command_words.specs.declared.line.CommandLine.{CommandLine}
 use Rattle.golf_command_words.proofs.Outcomes.{dashes_met, ended, fails, outcome, outcome-nil, standing, trailed}
 use Rattle.golf_command_words.proofs.Outcomes.{trailed_is, unless_fails}

@@ -1,5 +1,5 @@
 -- What the walk of `clap` over the words of a run line comes to.
--- For: `parse`, src/reading.rt; `is_used`, `option_in`, specs/Words.antt
+-- For: `parse`, src/command_lines.rt; `is_used`, `option_in`, specs/Words.antt
 -- By: computing the rule of each option; cases of the word; induction over the list of rows
 use Rattle.std.proofs.Common.{◌≡◌, ◌∙◌, ◌&&◌, ◌==◌, ◌++◌, inl, inr, Bool, cond, true, false, refl, sym, ap, subst, List}
 use Rattle.std.proofs.Common.{[], ◌∷◌, map, Option, Some, None, option_map, option_and_then, is_some, bytes_eq, codes}
@@ -19,7 +19,7 @@ use Rattle.clap.specs.Faults.{repeat_fault, use_fault}
 use Rattle.golf_command_words.specs.Values.{Text}
 use Rattle.golf_command_words.specs.Words.{Use, begins_with_hyphen, is_used, name_behind, option_in, takes_value}
 use Rattle.golf_command_words.specs.Words.{with_use, is_flag}
-use Rattle.golf_command_words.specs.Splitting.{program_app, run_app, unless_fault}
+use Rattle.golf_command_words.specs.ClapCommands.{program_app, run_app, unless_fault}
 use Rattle.golf_command_words.proofs.Outcomes.{fails}
 
 abbrev pub run_shape : Shape

@@ -1,5 +1,5 @@
 -- What the rows of a run line say of its settings.
--- For: `parse`, src/reading.rt; `run_of`, specs/Words.antt
+-- For: `parse`, src/command_lines.rt; `run_of`, specs/Words.antt
 -- By: induction over the list of uses and over the list of rows
 use Rattle.std.proofs.Common.{◌≡◌, ◌∙◌, ◌||◌, ◌++◌, Bool, cond, true, false, refl, sym, ap, ap₂, List, [], ◌∷◌, map}
 use Rattle.std.proofs.Common.{drop, Option, Some, None, option_and_then, fold, is_some, find, bytes_eq}
@@ -14,7 +14,7 @@ use Rattle.clap.specs.declared.builder.value_parser.Reading.TheVariants.{AsWritt
 use Rattle.golf_command_words.specs.Values.{Text, most_choices}
 use Rattle.golf_command_words.specs.Words.{Use, any_used, by_uses, is_used, run_by_threads, run_by_values, run_of}
 use Rattle.golf_command_words.specs.Words.{takes_value, threads_by, value_in}
-use Rattle.golf_command_words.specs.Splitting.{by_rows, is_true, run_by, with_threads}
+use Rattle.golf_command_words.specs.ClapCommands.{by_rows, is_true, run_by, with_threads}
 use Rattle.golf_command_words.proofs.Runs.{at_no_row, has_row-used, row, rules, same_text, value_of}
 
 -- a use has a value if its option takes one
@@ -188,7 +188,8 @@ module _ (us : List Use) (told : AllByRecursion IsTold us) where
   threads_are (Some text) = ap (λ b. threads_by b text) (uses_are any_used)
 
 -- the rows of uses give the line of the uses
-pub run_is : (us : List Use) → AllByRecursion IsTold us → run_by most_choices (fold with_default (map row us) rules) ≡ run_of us
+pub run_is : (us : List Use) → AllByRecursion IsTold us
+    → run_by most_choices (fold with_default (map row us) rules) ≡ run_of us
 run_is us told =
     ap (run_by most_choices) (defaults_are (map row us))
     ∙ ap (λ o. with_threads most_choices o (with_flags (map row us))) (value us told (codes "threads") refl refl refl)

@@ -1,3 +1,3 @@
 pub mod Words
 pub mod Values
-pub mod Splitting
+pub mod ClapCommands

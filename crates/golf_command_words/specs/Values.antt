@@ -65,6 +65,6 @@ abbrev pub schedule_of : ℕ → Text → Option Schedule
 schedule_of most text = schedule_with most (cut 58 text) text
 
 -- a list that has gained the numbers of a text; a text that is no list may leave some of them
-abbrev pub Gains : Option (List ℕ) → List ℕ → List ℕ → Bool → Type 0
-Gains None old new is_list = is_list ≡ false
-Gains (Some ns) old new is_list = (is_list ≡ true) × (new ≡ old ++ ns)
+abbrev pub GainsNumbers : Option (List ℕ) → List ℕ → List ℕ → Bool → Type 0
+GainsNumbers None old new is_list = is_list ≡ false
+GainsNumbers (Some ns) old new is_list = (is_list ≡ true) × (new ≡ old ++ ns)

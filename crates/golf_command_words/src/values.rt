@@ -3,7 +3,7 @@
 //! A number has one to twenty decimal digits. A schedule is `rotate`, `seed:N` or `choices:N,N,..`.
 
 ghost use Rattle.std.specs.Prelude.{◌≡◌, ◌∷◌, [], option_map, IfOk};
-ghost use Rattle.golf_command_words.specs.Values.{cut, digits_after as digits_after_of, Gains, number_of};
+ghost use Rattle.golf_command_words.specs.Values.{cut, digits_after as digits_after_of, GainsNumbers, number_of};
 ghost use Rattle.golf_command_words.specs.Values.{number_within as number_within_of, numbers_of, schedule_of};
 
 use golf_base::{List, Memory};
@@ -11,7 +11,7 @@ use golf_run_schedules::Schedule;
 use std::alloc::Global;
 
 /// The most numbers of written choices that `golf run` takes.
-pub(crate) const MOST_CHOICES: u32 = 4_096;
+pub const MOST_CHOICES: u32 = 4_096;
 
 // The number that digits write behind those of `number`, or `None`.
 fn digits_after(number: u64, text: &[u8]) -> Option<u64>
@@ -66,7 +66,7 @@ fn at_colon(text: &str) -> Option<(&str, &str)>
 
 // Adds the number that a text writes. Returns whether the text writes one.
 fn add_number(list: &mut List<u64>, text: &str) -> Result<bool, Memory>
-    ensures { IfOk result (Gains (option_map (λ n. n ∷ []) (number_of text.now)) list.old list.new) }
+    ensures { IfOk result (GainsNumbers (option_map (λ n. n ∷ []) (number_of text.now)) list.old list.new) }
 {
     match number(text) {
         Some(number) => {
@@ -79,7 +79,7 @@ fn add_number(list: &mut List<u64>, text: &str) -> Result<bool, Memory>
 
 // Adds the numbers of a written list of at most `most` numbers. Returns whether the text is such a list.
 fn add_numbers(list: &mut List<u64>, most: u32, text: &str) -> Result<bool, Memory>
-    ensures { IfOk result (Gains (numbers_of most text.now) list.old list.new) }
+    ensures { IfOk result (GainsNumbers (numbers_of most text.now) list.old list.new) }
 {
     let mut left = text;
     let mut more = most;

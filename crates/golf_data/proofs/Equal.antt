@@ -1,5 +1,5 @@
 -- What derived equality says.
--- For: `is`, `same_lines`, src/equality.rt
+-- For: `same_lines`, src/equality.rt
 -- By: induction over the variants of an enum
 use Rattle.std.proofs.Common.{◌≡◌, ℕ, Bool, true, false, ◌&&◌, suc, ◌+◌, ◌<◌, ◌≤◌, List, [], ◌∷◌, length, drop, get_or}
 use Rattle.std.proofs.Common.{drop-cons, cond, inl, inr, sym, refl, ap, subst, ◌∙◌, arith, rules, nat_eq}
@@ -22,29 +22,29 @@ use Rattle.golf_data.specs.contracts.code.SelectCasePartialEq.TheImpl as cases
 use Rattle.golf_data.specs.contracts.value.ValuePartialEq.TheImpl as values
 
 -- a test that decides whether two values are equal
-record Tells {A : Type 0} (E : A → A → Bool) : Type 0 where
+record IsTest {A : Type 0} (E : A → A → Bool) : Type 0 where
   pub it : (x y : A) → Decides (E x y) (x ≡ y)
 
 -- the fields of a variant: one, or two
 one : {A : Type 0} {E : A → A → Bool} → ((x y : A) → Decides (E x y) (x ≡ y))
-    → Tells (λ (x y : A × Unit {0}). E x.0 y.0)
+    → IsTest (λ (x y : A × Unit {0}). E x.0 y.0)
 one d = record { it = λ x y. Decides-like _ (λ e. ap (λ z. (z, tt)) e) (λ e. ap (λ z. z.0) e) (d x.0 y.0) }
 
 two : {A B : Type 0} {E : A → A → Bool} {F : B → B → Bool} → ((x y : A) → Decides (E x y) (x ≡ y))
-    → ((x y : B) → Decides (F x y) (x ≡ y)) → Tells (λ (x y : A × (B × Unit {0})). E x.0 y.0 && F x.1.0 y.1.0)
+    → ((x y : B) → Decides (F x y) (x ≡ y)) → IsTest (λ (x y : A × (B × Unit {0})). E x.0 y.0 && F x.1.0 y.1.0)
 two d f = record {
   it = λ x y. Decides-like _ (λ h. rw (h.0, h.1)) (λ e. (ap (λ z. z.0) e, ap (λ z. z.1.0) e))
       (Decides-and _ _ (d x.0 y.0) (f x.1.0 y.1.0));
 }
 
 -- The test of each variant decides whether its fields are equal. Without fields it is true.
-abbrev AllTell : (Fss : List (List Field)) → Each Bool Fss → Type 0
-AllTell [] es = Unit {0}
-AllTell ([] ∷ Fss) es = cond (es.0 tt tt) (AllTell Fss es.1) ⊥
-AllTell ((F ∷ Fs) ∷ Fss) es = Tells es.0 × AllTell Fss es.1
+abbrev AreTests : (Fss : List (List Field)) → Each Bool Fss → Type 0
+AreTests [] es = Unit {0}
+AreTests ([] ∷ Fss) es = cond (es.0 tt tt) (AreTests Fss es.1) ⊥
+AreTests ((F ∷ Fs) ∷ Fss) es = IsTest es.0 × AreTests Fss es.1
 
-split : (Fs : List Field) (Fss : List (List Field)) (es : Each Bool (Fs ∷ Fss)) → AllTell (Fs ∷ Fss) es
-    → Tells es.0 × AllTell Fss es.1
+split : (Fs : List Field) (Fss : List (List Field)) (es : Each Bool (Fs ∷ Fss)) → AreTests (Fs ∷ Fss) es
+    → IsTest es.0 × AreTests Fss es.1
 split [] Fss es all = let h = holds (es.0 tt tt) all in (record { it = λ x y. (λ t. refl, λ e. h.0) }, h.1)
   where
     holds : {P : Type 0} (b : Bool) → cond b P ⊥ → (b ≡ true) × P
@@ -52,7 +52,7 @@ split [] Fss es all = let h = holds (es.0 tt tt) all in (record { it = λ x y. (
     holds false p = absurd p
 split (F ∷ Fs) Fss es all = all
 
-variants_decide : (Fss : List (List Field)) (es : Each Bool Fss) → AllTell Fss es → (c d : Choice Fss)
+variants_decide : (Fss : List (List Field)) (es : Each Bool Fss) → AreTests Fss es → (c d : Choice Fss)
     → Decides (by false false Fss es c d) (c ≡ d)
 variants_decide [] es all c d = absurd c
 variants_decide (Fs ∷ Fss) es all (inl x) (inl y) =
@@ -62,13 +62,13 @@ variants_decide (Fs ∷ Fss) es all (inr x) (inl y) = (λ t. cc, λ e. cc)
 variants_decide (Fs ∷ Fss) es all (inr x) (inr y) =
     Decides-like _ (λ e. ap inr e) (λ e. ap (right_or x) e) (variants_decide Fss es.1 (split Fs Fss es all).1 x y)
 
-enum_decides : (N : Record) (es : Each Bool N.parts) → AllTell N.parts es → (x y : N.D)
+enum_decides : (N : Record) (es : Each Bool N.parts) → AreTests N.parts es → (x y : N.D)
     → Decides (by false false N.parts es (N.as_values x) (N.as_values y)) (x ≡ y)
 enum_decides N es all x y =
     Decides-like _ (values_one N x y) (λ e. ap N.as_values e)
     (variants_decide N.parts es all (N.as_values x) (N.as_values y))
 
-pub instr_decides : (i j : Instr) → Decides (instrs.eq-value.it i j) (i ≡ j)
+instr_decides : (i j : Instr) → Decides (instrs.eq-value.it i j) (i ≡ j)
 instr_decides =
     let int = one signed_Decides in
     let bool = one booleans_Decides in
@@ -79,7 +79,7 @@ instr_decides =
     (λ x y. search rules) in
     enum_decides enum _ (search (int, bool, number, value, numbers, choice) depth 40)
 
-pub line_decides : (x y : CodeLine) → Decides (lines.eq-value.it x y) (x ≡ y)
+line_decides : (x y : CodeLine) → Decides (lines.eq-value.it x y) (x ≡ y)
 line_decides x y = Decides-like _ (λ h. rw (h.0, h.1)) (λ e. (ap (λ z. z.instr) e, ap (λ z. z.line) e))
     (Decides-and _ _ (instr_decides x.instr y.instr) (unsigned_Decides x.line y.line))
 

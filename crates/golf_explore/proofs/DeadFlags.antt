@@ -1,5 +1,5 @@
 -- A state has no dead goroutine exactly when the marking has set the flag of each blocked one.
--- For: `has_unset` and `has_dead`, src/dying.rt
+-- For: `has_unset` and `has_dead`, src/dead_goroutines.rt
 -- By: induction over the flags
 use Rattle.std.proofs.Common.{◌≡◌, ℕ, zero, suc, Bool, true, false, List, [], ◌∷◌, map, length, take, Some, slice_get}
 use Rattle.std.proofs.Common.{inl, inr, refl, sym, ap, ◌∙◌, arith}
@@ -8,12 +8,12 @@ use Rattle.golf_theory.specs.Membership.{In}
 use Rattle.golf_heap.specs.Objects.{left_out}
 use Rattle.golf_model.specs.Sleepers.{Sleeper}
 use Rattle.golf_model.specs.State.{State}
-use Rattle.golf_model.specs.Living.{dead}
-use Rattle.golf_model.specs.Reporting.{numbers}
+use Rattle.golf_model.specs.LiveSet.{dead}
+use Rattle.golf_model.specs.Reports.{numbers}
 use Rattle.golf_model.specs.Futures.{Numbered}
 use Rattle.golf_model.specs.Presence.{IsWhole}
 use Rattle.golf_model.specs.declared.graph.Marked.{Marked}
-use Rattle.golf_mark.specs.Marking.{MarksLeast}
+use Rattle.golf_mark.specs.MarkingResult.{MarksLeast}
 use Rattle.golf_snapshot.specs.Parts.{live_parts}
 use Rattle.golf_reclaim.proofs.Translating.{dead-flags}
 

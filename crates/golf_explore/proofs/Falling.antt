@@ -1,5 +1,5 @@
 -- Ranks that fall along the edges of all visits: each run ends.
--- For: `have_ranks`, src/ranking.rt; `Exploration::step`, src/exploring.rt; `Fall`, specs/Ranking.antt
+-- For: `have_ranks`, src/visit_ranks.rt; `Exploration::step`, src/full_search.rt; `Fall`, specs/Ranks.antt
 -- By: induction over the list of states and that of ranks; the law of ranked lists
 use Rattle.std.proofs.Common.{◌≡◌, ℕ, zero, suc, ◌+◌, ◌<◌, List, [], ◌∷◌, length, Some, None, slice_get}
 use Rattle.std.proofs.Common.{take, ◌⊎◌, inl, inr, refl, sym, ap, ◌∙◌, subst, arith}
@@ -13,8 +13,8 @@ use Rattle.golf_explore_laws.specs.Laws.{AlwaysEnds}
 use Rattle.golf_explore_laws.proofs.MainLaws.{ranked_lists_always_end}
 use Rattle.golf_explore.specs.declared.visits.Edge.{Edge}
 use Rattle.golf_explore.specs.declared.visits.Visit.{Visit}
-use Rattle.golf_explore.specs.Ranking.{SettlesBy, LeadsLower, AreLower, Fall}
-use Rattle.golf_explore.specs.Visiting.{states, AreVisits, AreDone}
+use Rattle.golf_explore.specs.Ranks.{SettlesBy, LeadsLower, AreLower, Fall}
+use Rattle.golf_explore.specs.VisitLists.{states, AreVisits, AreDone}
 use Rattle.golf_explore.proofs.Growing.{states-length, get-within}
 use Rattle.golf_explore.proofs.Leading.{below-or-last}
 use Rattle.golf_explore.proofs.Parents.{some-same}

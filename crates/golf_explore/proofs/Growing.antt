@@ -1,5 +1,5 @@
 -- Lists of visits that grow at the end.
--- For: `add`, `add_choices`, `add_places`, `expand`, src/expanding.rt; `AreVisits`, specs/Visiting.antt
+-- For: `add`, `add_choices`, `add_places`, `expand`, src/successors.rt; `AreVisits`, specs/VisitLists.antt
 -- By: induction over the list of visits
 use Rattle.std.proofs.Common.{◌≡◌, ℕ, zero, suc, ◌<◌, ◌≤◌, List, [], ◌∷◌, ◌++◌, length, Option, Some, None, slice_get}
 use Rattle.std.proofs.Common.{◌⊎◌, inl, inr, refl, sym, ap, ◌∙◌, subst, arith, append-nil, append_assoc}
@@ -13,10 +13,11 @@ use Rattle.golf_explore_laws.proofs.Visiting.{silent-dead}
 use Rattle.golf_explore.specs.declared.visits.Came.{Came}
 use Rattle.golf_explore.specs.declared.visits.Edge.{Edge}
 use Rattle.golf_explore.specs.declared.visits.Visit.{Visit}
-use Rattle.golf_explore.specs.Ranking.{SettlesAt, SettlesBy}
-use Rattle.golf_explore.specs.Visiting.{states, LeadsTo, IsNext, IsFrom, IsWell, AreVisits, Grows, HasPushed, HasEdges}
-use Rattle.golf_explore.specs.Visiting.{HasAdded}
-use Rattle.golf_explore.specs.Settling.{HasTaken}
+use Rattle.golf_explore.specs.Ranks.{SettlesAt, SettlesBy}
+use Rattle.golf_explore.specs.VisitLists.{states, LeadsTo, IsNext, IsFrom, IsWell, AreVisits, VisitsGrow, HasPushed}
+use Rattle.golf_explore.specs.VisitLists.{EdgesGrow}
+use Rattle.golf_explore.specs.VisitLists.{HasAdded}
+use Rattle.golf_explore.specs.FrameLocalTurns.{HasTakenAndSettled}
 use Rattle.golf_explore.proofs.Settled.{silent-all}
 
 -- ---- places
@@ -69,13 +70,13 @@ length-more (x ∷ xs) ys = let l = length-more xs ys in omega (arith, l)
 
 -- ---- growing
 
-pub grows-same : (vs : List Visit) → Grows vs vs
+pub grows-same : (vs : List Visit) → VisitsGrow vs vs
 grows-same vs = ([], sym (append-nil vs))
 
-pub grows-trans : (a b c : List Visit) → Grows a b → Grows b c → Grows a c
+pub grows-trans : (a b c : List Visit) → VisitsGrow a b → VisitsGrow b c → VisitsGrow a c
 grows-trans a b c g h = (g.0 ++ h.0, h.1 ∙ ap (λ (xs : List Visit). xs ++ h.0) g.1 ∙ append_assoc a g.0 h.0)
 
-module _ (old new : List Visit) (g : Grows old new) where
+module _ (old new : List Visit) (g : VisitsGrow old new) where
   grown : states new ≡ states old ++ states g.0
   grown = ap states g.1 ∙ states-append old g.0
 
@@ -89,7 +90,7 @@ module _ (old new : List Visit) (g : Grows old new) where
   grown-at code e s h = (h.0, h.1, h.2, grown-get e.to (after_all code s h.0) h.3)
 
   -- so do the edges
-  pub grown-by : (code : Code) (before now : List Edge) → HasEdges before now → (s : State)
+  pub grown-by : (code : Code) (before now : List Edge) → EdgesGrow before now → (s : State)
       → SettlesBy code (states old) before s → SettlesBy code (states new) now s
   grown-by code before now m s h =
       (h.0, subst (In h.0) (sym m.1) (In-left h.0 before m.0 h.1), grown-at code h.0 s h.2)
@@ -115,7 +116,8 @@ module _ (old new : List Visit) (g : Grows old new) where
 
 -- ---- one more visit
 
-pub pushed-grows : (old new : List Visit) (s : State) (came : Option Came) → HasPushed old new s came → Grows old new
+pub pushed-grows : (old new : List Visit) (s : State) (came : Option Came) → HasPushed old new s came
+    → VisitsGrow old new
 pushed-grows old new s came p = (p.0 ∷ [], p.1)
 
 module _ (code : Code) (old new : List Visit) (s : State) (came : Option Came) (p : HasPushed old new s came) where
@@ -176,7 +178,7 @@ visits-opened code new s is p well =
 
 -- a turn and frame-local ones after it lead to this state
 module _ (code : Code) (t : State) (number : ℕ) (s : State) (numbers : List ℕ)
-    (taken : HasTaken code t number s numbers) where
+    (taken : HasTakenAndSettled code t number s numbers) where
   abbrev u : State
   u = after code t number
 
@@ -184,7 +186,7 @@ module _ (code : Code) (t : State) (number : ℕ) (s : State) (numbers : List �
   quiet = ap silent taken.led ∙ silent-all code taken.more u refl
 
   -- the edge to it
-  module _ (old new : List Visit) (grows : Grows old new) (are : AreVisits code new) (e : Edge)
+  module _ (old new : List Visit) (grows : VisitsGrow old new) (are : AreVisits code new) (e : Edge)
       (stands : slice_get (states new) e.to ≡ Some (silent s)) (turns : e.turns ≡ length numbers) where
     settles : SettlesAt code (states new) e u
     settles = (taken.more, ap length (sym taken.are) ∙ sym turns, taken.local, stands ∙ ap Some quiet)

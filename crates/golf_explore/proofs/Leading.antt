@@ -1,5 +1,6 @@
 -- What the turns of one visit add to the list.
--- For: `add_choices`, `add_places` and `expand`, src/expanding.rt; `HasTurned` and `HasExpanded`, specs/Visiting.antt
+-- For: `add_choices`, `add_places` and `expand`, src/successors.rt; `HasAddedTurns` and `HasExpanded`,
+-- specs/VisitLists.antt
 -- By: the facts of one more turn; no induction over the list
 use Rattle.std.proofs.Common.{◌≡◌, ℕ, zero, suc, ◌+◌, ◌*◌, ◌<◌, true, false, List, [], ◌∷◌, ◌++◌, length, Some, None}
 use Rattle.std.proofs.Common.{is_some, get_or, slice_get, ◌⊎◌, inl, inr, refl, sym, ap, ◌∙◌, subst, arith, append-nil}
@@ -13,9 +14,10 @@ use Rattle.golf_explore_laws.specs.After.{silent, after, after_all}
 use Rattle.golf_explore_laws.specs.Closed.{after_turn, turn_last_choice, IsTurn}
 use Rattle.golf_explore.specs.declared.visits.Edge.{Edge}
 use Rattle.golf_explore.specs.declared.visits.Visit.{Visit}
-use Rattle.golf_explore.specs.Ranking.{SettlesBy}
-use Rattle.golf_explore.specs.Visiting.{states, AreVisits, IsPathTo, IsPathFor, Grows, HasAdded}
-use Rattle.golf_explore.specs.Visiting.{HasEdges, HasTurned, HasExpanded, HasVisited, HasChoices, IsDone, AreDone}
+use Rattle.golf_explore.specs.Ranks.{SettlesBy}
+use Rattle.golf_explore.specs.VisitLists.{states, AreVisits, IsPathTo, IsPathFor, VisitsGrow, HasAdded}
+use Rattle.golf_explore.specs.VisitLists.{EdgesGrow, HasAddedTurns, HasExpanded, HasVisited, HasChoices, IsDone}
+use Rattle.golf_explore.specs.VisitLists.{AreDone}
 use Rattle.golf_explore.proofs.Growing.{grows-same, grows-trans, grown-by, grown-get, grown-back, get-states}
 use Rattle.golf_explore.proofs.Growing.{get-within, get-pushed}
 
@@ -29,7 +31,7 @@ below-or-last (suc k) (suc n) l = elim (below-or-last k n (omega (arith, l))) [
       inr (ap suc e)
 ]
 
-pub path-grown : (code : Code) (old new : List Visit) (at : ℕ) (path : List ℕ) → Grows old new
+pub path-grown : (code : Code) (old new : List Visit) (at : ℕ) (path : List ℕ) → VisitsGrow old new
     → IsPathFor code old at path → IsPathFor code new at path
 path-grown code old new at path g p = record {
   goes = p.goes;
@@ -37,14 +39,14 @@ path-grown code old new at path g p = record {
   on = p.on;
 }
 
-pub edges-same : (es : List Edge) → HasEdges es es
+pub edges-same : (es : List Edge) → EdgesGrow es es
 edges-same es = ([], sym (append-nil es))
 
 module _ (code : Code) (old : List Visit) (s : State) where
   -- ---- choices at a place
 
   pub turned-none : (es : List Edge) (place count : ℕ) → AreVisits code old
-      → HasTurned code old old es es s place count 0
+      → HasAddedTurns code old old es es s place count 0
   turned-none es place count are = record {
     grows = grows-same old;
     visits = are;
@@ -53,7 +55,7 @@ module _ (code : Code) (old : List Visit) (s : State) where
   }
 
   module _ (mid new : List Visit) (before at now : List Edge) (place count choice number : ℕ)
-      (t : HasTurned code old mid before at s place count choice)
+      (t : HasAddedTurns code old mid before at s place count choice)
       (a : HasAdded code mid new at now (after code s number)) (is : number ≡ choice * count + place) where
     more-has : (k : ℕ) → (k < choice) ⊎ (k ≡ choice)
         → SettlesBy code (states new) now (after code s (k * count + place))
@@ -63,7 +65,7 @@ module _ (code : Code) (old : List Visit) (s : State) where
         subst (λ n. SettlesBy code (states new) now (after code s n)) (is ∙ ap (λ c. c * count + place) (sym last))
         (a.edge, subst (In a.edge) (sym a.adds) (In-right a.edge at (a.edge ∷ []) (inl refl)), a.has)
 
-    pub turned-more : HasTurned code old new before now s place count (choice + 1)
+    pub turned-more : HasAddedTurns code old new before now s place count (choice + 1)
     turned-more = record {
       grows = grows-trans old mid new t.grows a.grows;
       visits = a.visits;
@@ -83,7 +85,7 @@ module _ (code : Code) (old : List Visit) (s : State) where
 
   module _ (mid new : List Visit) (at now : List Edge) (place choices : ℕ) (were : HasPlaces mid at place)
       (last : turn_last_choice code s (slice_get (runnable s) place) < choices) where
-    more-places : Grows mid new → HasEdges at now
+    more-places : VisitsGrow mid new → EdgesGrow at now
         → ((choice : ℕ) → choice < choices
         → SettlesBy code (states new) now (after code s (choice * length (runnable s) + place)))
         → (k choice : ℕ) → (k < place) ⊎ (k ≡ place) → IsTurn code s k choice
@@ -96,14 +98,15 @@ module _ (code : Code) (old : List Visit) (s : State) where
         subst (λ p. SettlesBy code (states new) now (after_turn code s p choice)) (sym is)
         (has choice (omega (arith, up, last)))
 
-    pub places-more : (count : ℕ) → HasTurned code mid new at now s place count choices → count ≡ length (runnable s)
+    pub places-more : (count : ℕ) → HasAddedTurns code mid new at now s place count choices
+        → count ≡ length (runnable s)
         → HasPlaces new now (place + 1)
     places-more count t is k choice below =
         more-places t.grows t.edges
         (λ c b. subst (λ n. SettlesBy code (states new) now (after code s (c * n + place))) is (t.has c b)) k choice
         (below-or-last k place (omega (arith, below)))
 
-  pub expanded : (new : List Visit) (es : List Edge) (count : ℕ) → Grows old new → AreVisits code new
+  pub expanded : (new : List Visit) (es : List Edge) (count : ℕ) → VisitsGrow old new → AreVisits code new
       → HasPlaces new es count → count ≡ length (runnable s) → HasExpanded code old new es s
   expanded new es count g are has all = record {
     grows = g;

@@ -1,5 +1,5 @@
 -- The turns from the opening state to a visit, found by way of parents.
--- For: `add_backwards` and `path_to`, src/paths.rt; `Joins` and `IsPathTo`, specs/Visiting.antt
+-- For: `add_backwards` and `path_to`, src/paths.rt; `Joins` and `IsPathTo`, specs/VisitLists.antt
 -- By: the facts of one visit; induction over the list of numbers
 use Rattle.std.proofs.Common.{◌≡◌, ℕ, zero, suc, List, [], ◌∷◌, ◌++◌, length, drop, Option, Some, None, slice_get}
 use Rattle.std.proofs.Common.{refl, sym, ap, ◌∙◌, subst, reverse, append_assoc}
@@ -9,7 +9,7 @@ use Rattle.golf_model.specs.State.{State, start}
 use Rattle.golf_explore_laws.specs.After.{silent}
 use Rattle.golf_explore.specs.declared.visits.Came.{Came}
 use Rattle.golf_explore.specs.declared.visits.Visit.{Visit}
-use Rattle.golf_explore.specs.Visiting.{states, IsNext, IsFrom, AreVisits, LeadsTo, Joins, IsPathTo}
+use Rattle.golf_explore.specs.VisitLists.{states, IsNext, IsFrom, AreVisits, LeadsTo, Joins, IsPathTo}
 use Rattle.golf_explore.proofs.Growing.{get-states}
 use Rattle.golf_explore.proofs.Turns.{leads-append}
 

@@ -1,6 +1,6 @@
 -- What holds of all visits once each is done.
--- For: `Exploration` and `opened`, src/exploring.rt; `has_panic` and `has_sleep`, src/endings.rt; `Tells`,
--- specs/Telling.antt
+-- For: `Exploration` and `opened`, src/full_search.rt; `has_panic` and `has_sleep`, src/endings.rt; `TellsSearch`,
+-- specs/Results.antt
 -- By: the laws of closed lists, and induction over the list of visits
 use Rattle.std.proofs.Common.{◌≡◌, ℕ, zero, suc, ◌<◌, List, [], ◌∷◌, ◌++◌, length, Bool, true, false, Option, Some}
 use Rattle.std.proofs.Common.{None, Result, Ok, Err, IfOk, slice_get, inl, inr, refl, sym, ap, ◌∙◌, subst, arith}
@@ -11,23 +11,24 @@ use Rattle.golf_theory.proofs.Tests.{from_any_of}
 use Rattle.golf_data.specs.declared.code.Code.{Code}
 use Rattle.golf_data.specs.declared.goroutine.Ending.{Ending}
 use Rattle.golf_model.specs.State.{State, ending, start}
-use Rattle.golf_model.specs.Living.{live_list}
+use Rattle.golf_model.specs.LiveSet.{live_list}
 use Rattle.golf_explore_laws.specs.After.{silent, after_all}
 use Rattle.golf_explore_laws.specs.Closed.{after_turn, IsTurn, SettlesIn, IsClosed, NoneDead, NoneEnds}
 use Rattle.golf_explore_laws.specs.Laws.{is_panic, is_asleep}
 use Rattle.golf_explore_laws.proofs.MainLaws.{closed_lists_never_leak, closed_lists_never_report}
 use Rattle.golf_explore_laws.proofs.MainLaws.{closed_lists_report_nobody, closed_lists_never_end}
-use Rattle.golf_explore.specs.declared.exploring.Exploration.{Exploration}
-use Rattle.golf_explore.specs.declared.exploring.Explored.{Explored}
-use Rattle.golf_explore.specs.declared.exploring.Visited.{Visited}
+use Rattle.golf_explore.specs.declared.full_search.Exploration.{Exploration}
+use Rattle.golf_explore.specs.declared.full_search.Explored.{Explored}
+use Rattle.golf_explore.specs.declared.full_search.Visited.{Visited}
 use Rattle.golf_explore.specs.declared.visits.Came.{Came}
 use Rattle.golf_explore.specs.declared.visits.Edge.{Edge}
 use Rattle.golf_explore.specs.declared.visits.Visit.{Visit}
-use Rattle.golf_explore.specs.Ranking.{HaveRanks}
-use Rattle.golf_explore.specs.Visiting.{states, IsFrom, IsWell, AreVisits, LeadsTo, AreDone, ends_by}
-use Rattle.golf_explore.specs.Visiting.{has_ended_by, HasVisited}
-use Rattle.golf_explore.specs.Telling.{run_of, some_ended, CanEnd, Decides, EndsIf, Tells, HasTold, IsExploring, Unless}
-use Rattle.golf_explore.specs.Telling.{HasGoneOn}
+use Rattle.golf_explore.specs.Ranks.{HaveRanks}
+use Rattle.golf_explore.specs.VisitLists.{states, IsFrom, IsWell, AreVisits, LeadsTo, AreDone, ends_by}
+use Rattle.golf_explore.specs.VisitLists.{has_ended_by, HasVisited}
+use Rattle.golf_explore.specs.Results.{run_of, some_ended, CanEnd, Decides, EndsIf, TellsSearch, CountsVisits}
+use Rattle.golf_explore.specs.Results.{IsExploring, Unless}
+use Rattle.golf_explore.specs.Results.{HasSearchedOn}
 use Rattle.golf_explore.proofs.Growing.{states-length, get-states, grown-length}
 use Rattle.golf_explore.proofs.Leading.{done-more, count-more}
 use Rattle.golf_explore.proofs.Falling.{In-get, get-there, always-ends}
@@ -116,7 +117,7 @@ module _ (code : Code) (vs : List Visit) (edges : List (List Edge)) (are : AreVi
   ends-if false ranks = tt
 
   pub all-visited : (count : ℕ) (ends : Bool) (told : Visited) → count ≡ length vs → (ends ≡ true → HaveRanks edges)
-      → HasTold vs count ends told → Tells code (Explored.AllVisited told)
+      → CountsVisits vs count ends told → TellsSearch code (Explored.AllVisited told)
   all-visited count ends told counted ranks h = (
     closed_lists_never_leak code (states vs) closed alive,
     closed_lists_never_report code (states vs) closed alive,
@@ -144,7 +145,7 @@ if-it-goes-on code f (Err e) h = tt
 pub still-exploring : {E : Type 0} (code : Code) (mid new : Exploration) (at : ℕ) → length mid.edges ≡ at
     → at < length mid.visits.list → AreDone code (states mid.visits.list) mid.edges → (r : Result (Option Explored) E)
     → IfOk r (Unless code (HasVisited code mid.visits.list new.visits.list mid.edges new.edges at))
-    → IfOk r (Unless code (HasGoneOn code mid new))
+    → IfOk r (Unless code (HasSearchedOn code mid new))
 still-exploring code mid new at count within were =
     if-it-goes-on code (λ more.
     let grown = grown-length mid.visits.list new.visits.list more.grows in

@@ -1,21 +1,21 @@
 -- A state that turns reach is that of their run.
--- For: `attempt`, src/attempting.rt; `judge`, src/expanding.rt; `IsFound` and `Shows`, specs/Seeking.antt
+-- For: `attempt`, src/attempts.rt; `judge`, src/successors.rt; `IsFound` and `Shows`, specs/Sought.antt
 -- By: cases of what is sought; for the first turns, induction over their number
 use Rattle.std.proofs.Common.{◌≡◌, ℕ, zero, suc, ◌+◌, ◌<◌, List, [], ◌∷◌, ◌++◌, length, length-append, take, slice_get}
 use Rattle.std.proofs.Common.{Some, None, Bool, true, Result, Ok, Err, IfOk}
 use Rattle.std.proofs.Common.{sym, ap, subst, ◌∙◌, arith}
 use Rattle.golf_data.specs.declared.code.Code.{Code}
 use Rattle.golf_model.specs.State.{State, ending, start}
-use Rattle.golf_model.specs.Living.{dead}
+use Rattle.golf_model.specs.LiveSet.{dead}
 use Rattle.golf_explore_laws.specs.After.{silent, after, after_all}
 use Rattle.golf_explore_laws.specs.Closed.{IsPlain}
 use Rattle.golf_explore_laws.specs.Laws.{is_panic, is_asleep}
 use Rattle.golf_explore_laws.proofs.Visiting.{silent-dead}
-use Rattle.golf_explore.specs.declared.attempting.Reached.{Reached}
-use Rattle.golf_explore.specs.declared.seeking.Sought.{Sought}
-use Rattle.golf_explore.specs.Seeking.{IsFound, IsReached, Shows}
-use Rattle.golf_explore.specs.Telling.{run_of}
-use Rattle.golf_explore.specs.Visiting.{GoesOn, IsTrail, has_ended_by}
+use Rattle.golf_explore.specs.declared.attempts.Reached.{Reached}
+use Rattle.golf_explore.specs.declared.sought.Sought.{Sought}
+use Rattle.golf_explore.specs.Sought.{IsFound, IsReached, Shows}
+use Rattle.golf_explore.specs.Results.{run_of}
+use Rattle.golf_explore.specs.VisitLists.{GoesPlainly, IsTrail, has_ended_by}
 use Rattle.golf_explore.proofs.Turns.{goes-append, run-goes}
 
 -- the first turns and one more
@@ -30,14 +30,15 @@ pub take-next : {X : Type 0} (ns : List X) (i : ℕ) (x : X) → slice_get ns i 
 take-next ns i x h = let one : i + 1 ≡ suc i = omega arith in ap (λ k. take k ns) one ∙ take-suc-next ns i x h
 
 -- one turn more goes on too
-pub goes-more : (code : Code) (ns : List ℕ) (i x : ℕ) → slice_get ns i ≡ Some x → GoesOn code (start code) (take i ns)
+pub goes-more : (code : Code) (ns : List ℕ) (i x : ℕ) → slice_get ns i ≡ Some x
+    → GoesPlainly code (start code) (take i ns)
     → ending (after_all code (start code) (take i ns)) ≡ None
-    → IsPlain (after code (after_all code (start code) (take i ns)) x) → GoesOn code (start code) (take (i + 1) ns)
-goes-more code ns i x at goes on plain = subst (GoesOn code (start code)) (sym (take-next ns i x at))
+    → IsPlain (after code (after_all code (start code) (take i ns)) x) → GoesPlainly code (start code) (take (i + 1) ns)
+goes-more code ns i x at goes on plain = subst (GoesPlainly code (start code)) (sym (take-next ns i x at))
     (goes-append code (take i ns) (x ∷ []) (start code) goes (on, plain, tt))
 
 module _ (code : Code) (ns : List ℕ) (s : State) (led : s ≡ after_all code (start code) ns)
-    (goes : GoesOn code (start code) ns) where
+    (goes : GoesPlainly code (start code) ns) where
   ran : silent (run_of code ns) ≡ s
   ran = run-goes code ns (start code) goes ∙ sym led
 

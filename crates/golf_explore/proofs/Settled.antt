@@ -1,5 +1,6 @@
 -- Frame-local turns that follow a turn.
--- For: src/settling.rt; `add`, src/expanding.rt; `HasSettled` and `HasTaken`, specs/Settling.antt
+-- For: src/frame_local_turns.rt; `add`, src/successors.rt; `HasSettled` and `HasTakenAndSettled`,
+-- specs/FrameLocalTurns.antt
 -- By: induction over the list of numbers
 use Rattle.std.proofs.Common.{◌≡◌, ℕ, true, ◌&&◌, List, [], ◌∷◌, ◌++◌, length, length-append, Option, Some, None}
 use Rattle.std.proofs.Common.{refl, sym, ap, ◌∙◌, subst, arith, append-nil, append_assoc}
@@ -17,9 +18,9 @@ use Rattle.golf_explore_laws.specs.After.{silent, after, after_all}
 use Rattle.golf_explore_laws.specs.Closed.{IsPlain}
 use Rattle.golf_explore_laws.specs.Local.{is_local, IsLocal, IsLocalTurn, AreLocalTurns}
 use Rattle.golf_explore_laws.proofs.LocalKeeps.{numbered-after, local-keeps, locals-keep}
-use Rattle.golf_explore.specs.Visiting.{GoesOn, IsTrail}
-use Rattle.golf_explore.specs.Settling.{line_is_local, frame_is_local, frames_are_local, goroutine_is_local}
-use Rattle.golf_explore.specs.Settling.{HasSettled, HasTaken}
+use Rattle.golf_explore.specs.VisitLists.{GoesPlainly, IsTrail}
+use Rattle.golf_explore.specs.FrameLocalTurns.{line_is_local, frame_is_local, frames_are_local, goroutine_is_local}
+use Rattle.golf_explore.specs.FrameLocalTurns.{HasSettled, HasTakenAndSettled}
 use Rattle.golf_explore.proofs.Turns.{all-append, goes-append}
 
 -- ---- whether the next instruction is frame-local
@@ -84,7 +85,7 @@ module _ (code : Code) where
 
   -- they begin in states without an ending, and reach plain states
   local-goes : (ns : List ℕ) (s : State) → Numbered s → AreLocalTurns code s ns → ending s ≡ None → s.finalisers ≡ []
-      → GoesOn code s ns
+      → GoesPlainly code s ns
   local-goes [] s ordered are goes none = tt
   local-goes (n ∷ ns) s ordered are goes none =
       let k = local-keeps code s n ordered are.0 in (
@@ -139,13 +140,14 @@ module _ (code : Code) where
     u = after code s number
 
     -- the program has ended after the turn
-    pub taken-one : (t : State) (numbers : List ℕ) → t ≡ u → numbers ≡ number ∷ [] → HasTaken code s number t numbers
+    pub taken-one : (t : State) (numbers : List ℕ) → t ≡ u → numbers ≡ number ∷ []
+        → HasTakenAndSettled code s number t numbers
     taken-one t numbers is are = record {
       more = [];
       are = are;
       local = tt;
       led = is;
-      goes = λ plain. subst (GoesOn code s) (sym are) (goes, subst IsPlain is plain, tt);
+      goes = λ plain. subst (GoesPlainly code s) (sym are) (goes, subst IsPlain is plain, tt);
       leads = subst (Leads code) (sym is) (leads-after s number leads goes);
     }
 
@@ -158,20 +160,20 @@ module _ (code : Code) where
       none-before plain = sym (ap (λ (v : State). v.finalisers) h.led ∙ (locals-keep code u h.more ordered h.local).1)
           ∙ plain h.goes
 
-      pub taken-more : HasTaken code s number t numbers
+      pub taken-more : HasTakenAndSettled code s number t numbers
       taken-more = record {
         more = h.more;
         are = h.adds;
         local = h.local;
         led = h.led;
-        goes = λ plain. subst (GoesOn code s) (sym h.adds)
+        goes = λ plain. subst (GoesPlainly code s) (sym h.adds)
             (goes, (λ g. none-before plain), local-goes h.more u ordered h.local on (none-before plain));
         leads = h.leads;
       }
 
 -- the turns of a path, and then these
-pub trail-of : (code : Code) (path numbers : List ℕ) (number : ℕ) (t : State) → GoesOn code (start code) path
-    → HasTaken code (after_all code (start code) path) number t numbers → IsTrail code (path ++ numbers) t
+pub trail-of : (code : Code) (path numbers : List ℕ) (number : ℕ) (t : State) → GoesPlainly code (start code) path
+    → HasTakenAndSettled code (after_all code (start code) path) number t numbers → IsTrail code (path ++ numbers) t
 trail-of code path numbers number t goes taken = record {
   led =
       taken.led

@@ -1,5 +1,5 @@
 -- Turns one after another, and the run that they are.
--- For: `replay`, src/replaying.rt; `add`, src/expanding.rt; `GoesOn` and `LeadsTo`, specs/Visiting.antt
+-- For: `replay`, src/replays.rt; `add`, src/successors.rt; `GoesPlainly` and `LeadsTo`, specs/VisitLists.antt
 -- By: induction over the list of numbers
 use Rattle.std.proofs.Common.{◌≡◌, ℕ, zero, suc, ◌+◌, List, [], ◌∷◌, ◌++◌, map, take, Bool, true, false, Option, Some}
 use Rattle.std.proofs.Common.{None, is_some, slice_get, refl, sym, ap, ◌∙◌, subst, arith}
@@ -7,11 +7,11 @@ use Rattle.golf_data.specs.declared.code.Code.{Code}
 use Rattle.golf_model.specs.State.{State, not_empty, ending}
 use Rattle.golf_data.specs.declared.goroutine.Ending.{Ending}
 use Rattle.golf_model.specs.Turn.{step}
-use Rattle.golf_model.specs.Running.{Event, run}
+use Rattle.golf_model.specs.Runs.{Event, run}
 use Rattle.golf_explore_laws.specs.After.{silent, after, after_all}
 use Rattle.golf_explore_laws.specs.Closed.{IsPlain}
 use Rattle.golf_explore_laws.proofs.Visiting.{silent-step, turn-happens}
-use Rattle.golf_explore.specs.Visiting.{GoesOn, LeadsTo}
+use Rattle.golf_explore.specs.VisitLists.{GoesPlainly, LeadsTo}
 
 module _ (code : Code) where
   all-more : (ns : List ℕ) (s : State) (i x : ℕ) → slice_get ns i ≡ Some x
@@ -27,7 +27,7 @@ module _ (code : Code) where
       is ∙ ap (λ (v : State). after code v x) led ∙ sym (all-more ns s i x h)
       ∙ ap (λ k. after_all code s (take k ns)) one
 
-  pub goes-at : (ns : List ℕ) (s : State) (i x : ℕ) → GoesOn code s ns → slice_get ns i ≡ Some x
+  pub goes-at : (ns : List ℕ) (s : State) (i x : ℕ) → GoesPlainly code s ns → slice_get ns i ≡ Some x
       → ending (after_all code s (take i ns)) ≡ None
   goes-at [] s i x g h = cc
   goes-at (n ∷ ns) s zero x g h = g.0
@@ -39,8 +39,8 @@ module _ (code : Code) where
   all-append [] ms s = refl
   all-append (n ∷ ns) ms s = all-append ns ms (after code s n)
 
-  pub goes-append : (ns ms : List ℕ) (s : State) → GoesOn code s ns → GoesOn code (after_all code s ns) ms
-      → GoesOn code s (ns ++ ms)
+  pub goes-append : (ns ms : List ℕ) (s : State) → GoesPlainly code s ns → GoesPlainly code (after_all code s ns) ms
+      → GoesPlainly code s (ns ++ ms)
   goes-append [] ms s g h = h
   goes-append (n ∷ ns) ms s g h = (g.0, g.1, goes-append ns ms (after code s n) g.2 h)
 
@@ -48,7 +48,7 @@ module _ (code : Code) where
       → LeadsTo code s (ns ++ ms) u
   leads-append s t u ns ms p q = (
     all-append ns ms s ∙ ap (λ (v : State). after_all code v ms) p.0 ∙ q.0,
-    goes-append ns ms s p.1 (subst (λ (v : State). GoesOn code v ms) (sym p.0) q.1),
+    goes-append ns ms s p.1 (subst (λ (v : State). GoesPlainly code v ms) (sym p.0) q.1),
   )
 
   -- ---- as a run
@@ -56,12 +56,12 @@ module _ (code : Code) where
   plain-step : (s : State) (k : ℕ) → IsPlain (after code (silent s) k) → IsPlain (step code s k)
   plain-step s k plain = subst IsPlain (sym (silent-step code s k)) plain
 
-  pub run-goes : (ns : List ℕ) (s : State) → GoesOn code (silent s) ns
+  pub run-goes : (ns : List ℕ) (s : State) → GoesPlainly code (silent s) ns
       → silent (run code s (map Event.Turn ns)) ≡ after_all code (silent s) ns
   run-goes [] s g = refl
   run-goes (n ∷ ns) s g =
       ap (λ (u : State). silent (run code u (map Event.Turn ns))) (sym (turn-happens code s g.0 n (plain-step s n g.1)))
-      ∙ run-goes ns (step code s n) (subst (λ (u : State). GoesOn code u ns) (sym (silent-step code s n)) g.2)
+      ∙ run-goes ns (step code s n) (subst (λ (u : State). GoesPlainly code u ns) (sym (silent-step code s n)) g.2)
       ∙ ap (λ (u : State). after_all code u ns) (silent-step code s n)
 
 -- ---- what tests say

@@ -1,5 +1,5 @@
-pub mod Ranking
-pub mod Visiting
-pub mod Settling
-pub mod Telling
-pub mod Seeking
+pub mod Ranks
+pub mod VisitLists
+pub mod FrameLocalTurns
+pub mod Results
+pub mod Sought

@@ -4,7 +4,7 @@
 
 ghost use Rattle.std.specs.Prelude.{◌<◌, Some, IfOk};
 ghost use Rattle.golf_explore_laws.specs.Closed.{last_choice, turn_last_choice};
-ghost use Rattle.golf_explore.specs.Visiting.{HasChoices};
+ghost use Rattle.golf_explore.specs.VisitLists.{HasChoices};
 
 use golf_base::{GoroutineId, List, Memory};
 use golf_data::{Code, Instr, Leaving};

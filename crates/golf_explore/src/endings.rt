@@ -4,8 +4,8 @@
 
 ghost use Rattle.std.specs.Prelude.{◌≡◌};
 ghost use Rattle.golf_explore_laws.specs.Laws.{is_panic, is_asleep};
-ghost use Rattle.golf_explore.specs.Telling.{some_ended};
-ghost use Rattle.golf_explore.specs.Visiting.{has_ended_by};
+ghost use Rattle.golf_explore.specs.Results.{some_ended};
+ghost use Rattle.golf_explore.specs.VisitLists.{has_ended_by};
 
 use crate::visits::Visit;
 use golf_data::Ending;

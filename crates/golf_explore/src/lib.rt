@@ -13,22 +13,22 @@
 //! only the state after them. What it says holds for each state.
 #![tactic(auto)]
 
-mod attempting;
+mod attempts;
 mod choices;
-mod dying;
+mod dead_goroutines;
 mod endings;
-mod expanding;
-mod exploring;
-mod hashing;
+mod frame_local_turns;
+mod full_search;
+mod hashes;
 mod paths;
-mod ranking;
-mod replaying;
-mod searching;
-mod seeking;
-mod settling;
-mod shortening;
+mod preemption_search;
+mod replays;
+mod shorter_schedules;
+mod sought;
+mod successors;
+mod visit_ranks;
 mod visits;
 
-pub use exploring::{Exploration, Explored, Visited};
-pub use searching::{Aim, Search, SearchResult};
-pub use seeking::Sought;
+pub use full_search::{Exploration, Explored, Visited};
+pub use preemption_search::{Aim, Search, SearchResult};
+pub use sought::Sought;

@@ -1,7 +1,7 @@
 //! The path of a visit: the turns that reach it from the opening state.
 
 ghost use Rattle.std.specs.Prelude.{◌≡◌, ◌<◌, ◌++◌, length, reverse, IfOk, OnOk};
-ghost use Rattle.golf_explore.specs.Visiting.{IsPathTo, ParentsBelow};
+ghost use Rattle.golf_explore.specs.VisitLists.{IsPathTo, ParentsBelow};
 
 use crate::visits::Visit;
 use golf_base::{List, Memory};

@@ -4,7 +4,7 @@
 
 ghost use Rattle.std.specs.Prelude.{◌≡◌, [], ◌<◌, ◌^◌, Some, length, slice_get, IfOk, IfSome, OnOk};
 ghost use Rattle.golf_explore_laws.specs.After.{silent};
-ghost use Rattle.golf_explore.specs.Visiting.{states, HasPushed};
+ghost use Rattle.golf_explore.specs.VisitLists.{states, HasPushed};
 
 use golf_base::{List, Memory};
 use golf_state::State;

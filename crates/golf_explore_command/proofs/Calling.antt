@@ -1,7 +1,8 @@
 -- What the ends of a call mean, by its words.
--- For: `explorer`, `serve`, src/top.rt; `CallTells`, specs/Telling.antt
+-- For: `explorer`, `serve`, src/top.rt; `CallTells`, specs/Means.antt
 -- By: cases of how the reading ends; no induction
-use Rattle.std.proofs.Common.{◌≡◌, ℕ, ◌≤◌, ◌⊎◌, inl, inr, Bool, true, false, List, [], ◌∷◌, ◌++◌, Some, None, sym, subst, arith}
+use Rattle.std.proofs.Common.{◌≡◌, ℕ, ◌≤◌, ◌⊎◌, inl, inr, Bool, true, false, List, [], ◌∷◌, ◌++◌, Some, None, sym}
+use Rattle.std.proofs.Common.{subst, arith}
 use Rattle.std.specs.Prelude.{Option}
 use Rattle.std.specs.Io.KnownBytes.{Keeps}
 use Rattle.std.proofs.KnownBytes.{Keeps-refl}
@@ -25,13 +26,13 @@ use Rattle.golf_command.specs.Loads.{SourceFailed, FileRefused, MemoryRanOut, Ha
 use Rattle.golf_explore_words.specs.declared.line.ExploreLine.{ExploreLine}
 use Rattle.golf_explore_words.specs.Words.{line_of}
 use Rattle.golf_explore_words.specs.declared.line.Question.{Question}
-use Rattle.golf_explore.specs.declared.exploring.Explored.{Explored}
-use Rattle.golf_explore.specs.declared.searching.SearchResult.{SearchResult}
-use Rattle.golf_explore_command.specs.declared.finding.Searched.{Searched}
+use Rattle.golf_explore.specs.declared.full_search.Explored.{Explored}
+use Rattle.golf_explore.specs.declared.preemption_search.SearchResult.{SearchResult}
+use Rattle.golf_explore_command.specs.declared.search_answers.Searched.{Searched}
 use Rattle.golf_explore_command.specs.Texts.{usage_text}
 use Rattle.golf_explore_command.specs.Answers.{status_for, status_searched, IsAnswer}
-use Rattle.golf_explore_command.specs.Telling.{CodeComes, Wrote, CodeTells, CallTells}
-use Rattle.golf_explore_command.specs.Telling.Comes.{Misused, Unread, Refused, Served, NoMemory}
+use Rattle.golf_explore_command.specs.Means.{CodeComes, Wrote, CodeTells, CallTells}
+use Rattle.golf_explore_command.specs.Means.ComesOf.{Misused, Unread, Refused, Served, NoMemory}
 use Rattle.golf_explore_command.proofs.Writing.{nothing-written, still-steady, ends}
 
 -- a status other than that of a source that failed

@@ -1,5 +1,5 @@
 -- The run of a leak reports somebody, and that of another ending ends so.
--- For: `leak`, src/answering.rt; `found`, src/finding.rt; `leak_options`, `end_options`, specs/Texts.antt
+-- For: `leak`, src/full_answers.rt; `found`, src/search_answers.rt; `leak_options`, `end_options`, specs/Texts.antt
 -- By: the laws of written numbers and of the last collection; for choices alone, induction over their list
 use Rattle.std.proofs.Common.{◌≡◌, ℕ, ◌+◌, ◌<◌, ◌≤◌, Bool, true, List, [], ◌∷◌, length, map, None, refl, ap, ◌∙◌}
 use Rattle.std.proofs.Common.{arith}
@@ -7,14 +7,14 @@ use Rattle.std.proofs.lemmas.List.{take_all}
 use Rattle.golf_data.specs.declared.code.Code.{Code}
 use Rattle.golf_model.specs.State.{start}
 use Rattle.golf_data.specs.declared.goroutine.Ending.{Ending}
-use Rattle.golf_model.specs.Living.{dead, live_list}
-use Rattle.golf_model.specs.Running.{Event, run}
+use Rattle.golf_model.specs.LiveSet.{dead, live_list}
+use Rattle.golf_model.specs.Runs.{Event, run}
 use Rattle.golf_explore_laws.specs.Laws.{is_panic, is_asleep}
-use Rattle.golf_explore.specs.Seeking.{Shows}
-use Rattle.golf_explore.specs.Visiting.{has_ended_by}
+use Rattle.golf_explore.specs.Sought.{Shows}
+use Rattle.golf_explore.specs.VisitLists.{has_ended_by}
 use Rattle.golf_explore_words.specs.declared.line.SearchFor.{SearchFor}
-use Rattle.golf_explore.specs.declared.exploring.Explored.{Explored}
-use Rattle.golf_explore.specs.Telling.{run_of, Tells}
+use Rattle.golf_explore.specs.declared.full_search.Explored.{Explored}
+use Rattle.golf_explore.specs.Results.{run_of, TellsSearch}
 use Rattle.golf_command_words.specs.Words.{default_turns}
 use Rattle.golf_run_schedules.specs.Events.{turns_from}
 use Rattle.golf_run_schedules.specs.Laws.{turns_then_collect, ChoicesThenCollect}
@@ -37,7 +37,8 @@ leak-events : (ns : List ℕ) → ChoicesThenCollect → 0 < length ns → lengt
 unfolding events_of leak_options
 leak-events ns law some few = law ns default_turns some few
 
-pub leak-shown : (code : Code) (ns : List ℕ) → ChoicesThenCollect → LeaksAreReported → Tells code (Explored.Leak ns)
+pub leak-shown : (code : Code) (ns : List ℕ) → ChoicesThenCollect → LeaksAreReported
+    → TellsSearch code (Explored.Leak ns)
     → length ns ≤ default_turns → anyone_reported (reports_of code (leak_options ns)) ≡ true
 leak-shown code ns choices reported tells few = reported code (leak_options ns) ns
     (leak-events ns choices (some-turns code ns tells.1) few) tells.0 tells.1

@@ -2,5 +2,5 @@ pub mod Writing
 pub mod Progressing
 pub mod Searching
 pub mod Leaking
-mod Traces
+mod TracedWrites
 pub mod Calling

@@ -12,7 +12,7 @@ use Rattle.golf_run_texts.proofs.Writings.{out-append, err-append}
 use Rattle.golf_run.specs.declared.fault.RunFault.{RunFault}
 use Rattle.golf_run.specs.declared.fault.RunFault.TheVariants as faults
 use Rattle.golf_explore_command.specs.Progress.{states_told, progress_line, progress_text, progress, MayTell}
-use Rattle.golf_explore_command.specs.Progress.{HasToldLines, IsCutInLine, GoesOnTelling}
+use Rattle.golf_explore_command.specs.Progress.{HasToldLines, IsCutInLine, ToldUntil}
 
 -- ---- the writes of the lines
 
@@ -71,7 +71,7 @@ module _ (shows : Bool) (first err : Option (List ℕ)) (before ef : ℕ) where
       -- so the call that writes it ends
       pub next-fails : (err' : Option (List ℕ)) (ef' : ℕ) → WritesPrefix err err' line → Rose ef ef'
           → (result : Result ℕ RunFault) → IsErr result → IsErrAnd result (λ e. e ≡ faults.Write)
-          → GoesOnTelling shows result first err' before ef'
+          → ToldUntil (λ n. HasToldLines shows n first err' before ef') shows result first err' before ef'
       next-fails err' ef' f rose (Ok n) is fault = cc
       next-fails err' ef' f rose (Err faults.Memory) is fault = cc
       next-fails err' ef' f rose (Err faults.Write) is fault = next-cut err' ef' f rose

@@ -1,5 +1,5 @@
 -- What the ends of a search mean.
--- For: `tell_answer`, src/top.rt; `CodeTells`, specs/Telling.antt
+-- For: `tell_answer`, src/top.rt; `CodeTells`, specs/Means.antt
 -- By: cases of which write failed; no induction
 use Rattle.std.proofs.Common.{◌≡◌, ℕ, suc, Bool, List, [], ◌∷◌, ◌++◌, refl, sym, ap, subst, ◌∙◌, append_assoc}
 use Rattle.std.specs.Prelude.{Option, Err}
@@ -22,8 +22,8 @@ use Rattle.golf_explore_command.specs.Texts.{note_line}
 use Rattle.golf_explore_command.specs.Answers.{IsAnswer}
 use Rattle.golf_explore_command.specs.Progress.{states_told, progress_line, progress_text, progress, HasToldLines}
 use Rattle.golf_explore_command.specs.Progress.{IsCutInLine, Meanwhile}
-use Rattle.golf_explore_command.specs.Telling.{CodeTells, Wrote, noted}
-use Rattle.golf_explore_command.specs.Telling.CodeComes.{Answered, OutOfMemory, OutOfMemoryLater}
+use Rattle.golf_explore_command.specs.Means.{CodeTells, Wrote, noted}
+use Rattle.golf_explore_command.specs.Means.CodeComes.{Answered, OutOfMemory, OutOfMemoryLater}
 use Rattle.golf_explore_command.proofs.Progressing.{progress-out, progress-err, none-told}
 use Rattle.golf_explore_command.proofs.Writing.{nothing-written, still-steady, err-cut, ends, out-whole, out-cut}
 

@@ -1,7 +1,8 @@
 -- What two sinks got by one write more, after some writes.
--- For: `tell_answer`, src/top.rt; `tell_turns`, `tell_threads`, src/tracing.rt; `Wrote`, specs/Telling.antt
+-- For: `tell_answer`, src/top.rt; `tell_turns`, `tell_threads`, src/traces.rt; `Wrote`, specs/Means.antt
 -- By: cases of whether the write failed; no induction
-use Rattle.std.proofs.Common.{◌≡◌, ℕ, List, [], ◌∷◌, ◌++◌, inl, inr, refl, sym, ap, subst, ◌∙◌, append-nil, append_assoc}
+use Rattle.std.proofs.Common.{◌≡◌, ℕ, List, [], ◌∷◌, ◌++◌, inl, inr, refl, sym, ap, subst, ◌∙◌, append-nil}
+use Rattle.std.proofs.Common.{append_assoc}
 use Rattle.std.specs.Prelude.{Option}
 use Rattle.std.specs.Io.KnownBytes.{Appends}
 use Rattle.std.proofs.KnownBytes.{Appends-nil, Appends-trans}
@@ -12,7 +13,7 @@ use Rattle.golf_run_texts.specs.Writes.{Write, out_bytes, err_bytes}
 use Rattle.golf_run_texts.proofs.Writings.{out-append, err-append}
 use Rattle.golf_run.specs.HasRun.{Sinks, sinks, GotWrites, IsSteady}
 use Rattle.golf_command.specs.Ends.{EndsWith}
-use Rattle.golf_explore_command.specs.Telling.{Wrote}
+use Rattle.golf_explore_command.specs.Means.{Wrote}
 
 -- nothing was written
 pub nothing-written : (old : Sinks) → GotWrites [] old old

@@ -1,12 +1,12 @@
 -- The answer on a file whose schedules are searched.
 use Rattle.std.specs.Prelude.{◌≡◌, ℕ, true, List, ◌++◌, Some, codes}
 use Rattle.golf_data.specs.declared.code.Code.{Code}
-use Rattle.golf_explore.specs.declared.exploring.Explored.{Explored}
-use Rattle.golf_explore.specs.declared.searching.SearchResult.{SearchResult}
-use Rattle.golf_explore.specs.declared.seeking.Sought.{Sought}
-use Rattle.golf_explore.specs.Seeking.{Finds}
-use Rattle.golf_explore.specs.Telling.{Tells}
-use Rattle.golf_explore.specs.Visiting.{has_ended_by}
+use Rattle.golf_explore.specs.declared.full_search.Explored.{Explored}
+use Rattle.golf_explore.specs.declared.preemption_search.SearchResult.{SearchResult}
+use Rattle.golf_explore.specs.declared.sought.Sought.{Sought}
+use Rattle.golf_explore.specs.Sought.{Finds}
+use Rattle.golf_explore.specs.Results.{TellsSearch}
+use Rattle.golf_explore.specs.VisitLists.{has_ended_by}
 use Rattle.golf_explore_laws.specs.Laws.{is_panic, is_asleep}
 use Rattle.golf_explore_words.specs.declared.line.Question.{Question}
 use Rattle.golf_explore_words.specs.declared.line.SearchFor.{SearchFor}
@@ -16,7 +16,7 @@ use Rattle.golf_run_texts.specs.declared.status.Status.TheVariants as s
 use Rattle.golf_run_texts.specs.Output.{last_of, reports_of, err_of, anyone_reported}
 use Rattle.golf_explore_command.specs.Texts.{visited_text, leak_options, leak_line, too_many_line, finalisers_text}
 use Rattle.golf_explore_command.specs.Texts.{end_options, end_line, nothing_line, out_of_time_line}
-use Rattle.golf_explore_command.specs.declared.finding.Searched.{Searched}
+use Rattle.golf_explore_command.specs.declared.search_answers.Searched.{Searched}
 
 -- the status of the program for each result of a search
 abbrev pub status_for : Explored → Status
@@ -34,18 +34,18 @@ text_for code most Explored.Finalisers = finalisers_text
 text_for code most Explored.TooMany = too_many_line most
 
 -- the run of a leak reports a goroutine
-abbrev pub Shows : Code → Explored → Type 0
-Shows code (Explored.AllVisited told) = Unit {0}
-Shows code (Explored.Leak numbers) = anyone_reported (reports_of code (leak_options numbers)) ≡ true
-Shows code Explored.Finalisers = Unit {0}
-Shows code Explored.TooMany = Unit {0}
+abbrev pub ShowsLeak : Code → Explored → Type 0
+ShowsLeak code (Explored.AllVisited told) = Unit {0}
+ShowsLeak code (Explored.Leak numbers) = anyone_reported (reports_of code (leak_options numbers)) ≡ true
+ShowsLeak code Explored.Finalisers = Unit {0}
+ShowsLeak code Explored.TooMany = Unit {0}
 
 -- Status and text are those of a result that holds of the code. All schedules were searched and no run leaks. Or these
 -- turns reach a leak, and their run reports it. Or the search was stopped.
 pub record IsAnswerOnAll (code : Code) (most : ℕ) (status : Status) (text : List ℕ) : Type 0 where
   pub explored : Explored
-  pub tells : Tells code explored
-  pub shows : Shows code explored
+  pub tells : TellsSearch code explored
+  pub shows : ShowsLeak code explored
   pub status_is : status ≡ status_for explored
   pub text_is : text ≡ text_for code most explored
 

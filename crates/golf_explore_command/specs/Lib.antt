@@ -1,4 +1,4 @@
 pub mod Texts
 pub mod Answers
 pub mod Progress
-pub mod Telling
+pub mod Means

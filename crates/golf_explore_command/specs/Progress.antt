@@ -43,15 +43,16 @@ pub record IsCutInLine (shows : Bool) (err err' : Option (List ℕ)) (ef ef' : �
   pub prefix : WritesPrefix mid err' (progress_line (states_told (suc told)))
   pub failed : Rose ef ef'
 
--- The result of a call that writes lines of progress and nothing else. Without a fault it is one of which this holds.
+-- The result of a call that writes lines of progress. Without a fault this holds of it; without memory some lines were
+-- told; or the write of one failed.
+abbrev pub ToldUntil : {T : Type 0} → (T → Type 0) → Bool → Result T RunFault → Option (List ℕ) → Option (List ℕ) → ℕ
+    → ℕ → Type 0
+ToldUntil P shows (Ok x) err err' ef ef' = P x
+ToldUntil P shows (Err faults.Memory) err err' ef ef' = (n : ℕ) × HasToldLines shows n err err' ef ef'
+ToldUntil P shows (Err faults.Write) err err' ef ef' = IsCutInLine shows err err' ef ef'
+
+-- the result of a call that writes some lines of progress and nothing else
 abbrev pub Meanwhile : {T : Type 0} → (T → Type 0) → Bool → Result T RunFault → Option (List ℕ) → Option (List ℕ) → ℕ
     → ℕ → Type 0
-Meanwhile P shows (Ok x) err err' ef ef' = P x × ((n : ℕ) × HasToldLines shows n err err' ef ef')
-Meanwhile P shows (Err faults.Memory) err err' ef ef' = (n : ℕ) × HasToldLines shows n err err' ef ef'
-Meanwhile P shows (Err faults.Write) err err' ef ef' = IsCutInLine shows err err' ef ef'
-
--- the result of writing the next line, if it is due: how many lines there are then
-abbrev pub GoesOnTelling : Bool → Result ℕ RunFault → Option (List ℕ) → Option (List ℕ) → ℕ → ℕ → Type 0
-GoesOnTelling shows (Ok n) err err' ef ef' = HasToldLines shows n err err' ef ef'
-GoesOnTelling shows (Err faults.Memory) err err' ef ef' = (n : ℕ) × HasToldLines shows n err err' ef ef'
-GoesOnTelling shows (Err faults.Write) err err' ef ef' = IsCutInLine shows err err' ef ef'
+Meanwhile P shows r err err' ef ef' =
+    ToldUntil (λ x. P x × ((n : ℕ) × HasToldLines shows n err err' ef ef')) shows r err err' ef ef'

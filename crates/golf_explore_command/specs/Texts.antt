@@ -1,7 +1,8 @@
 -- The lines of the program that looks at every schedule (profile).
-use Rattle.std.specs.Prelude.{ℕ, ◌+◌, ◌/◌, Bool, true, false, if◌then◌else◌, List, [], ◌++◌, length, Some, None, nat_le, codes}
+use Rattle.std.specs.Prelude.{ℕ, ◌+◌, ◌/◌, Bool, true, false, if◌then◌else◌, List, [], ◌++◌, length, Some, None, nat_le}
+use Rattle.std.specs.Prelude.{codes}
 use Rattle.std.specs.Prelude.{decimal}
-use Rattle.golf_explore.specs.declared.exploring.Visited.{Visited}
+use Rattle.golf_explore.specs.declared.full_search.Visited.{Visited}
 use Rattle.golf_command_words.specs.Values.{most_choices}
 use Rattle.golf_command_words.specs.Words.{default_turns}
 use Rattle.golf_run_schedules.specs.declared.options.RunOptions.{RunOptions}

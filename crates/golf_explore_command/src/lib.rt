@@ -4,12 +4,12 @@
 //! - `USAGE`: the text for words that are no command line.
 #![tactic(auto)]
 
-mod answering;
-mod finding;
+mod full_answers;
 mod progress;
+mod search_answers;
 mod texts;
 mod top;
-mod tracing;
+mod traces;
 
 pub use texts::USAGE;
 pub use top::explorer;

@@ -1,7 +1,7 @@
 //! Tells how far a search is.
 
 ghost use Rattle.std.specs.Prelude.{◌≡◌, ℕ, ◌+◌, List, Option, IfOk, IfSome};
-ghost use Rattle.golf_explore_command.specs.Progress.{progress_line as progress_line_of, states_told, GoesOnTelling};
+ghost use Rattle.golf_explore_command.specs.Progress.{progress_line as progress_line_of, states_told, ToldUntil};
 ghost use Rattle.golf_explore_command.specs.Progress.{HasToldLines};
 
 use golf_base::{List, Memory, Sink, write_all};
@@ -39,7 +39,7 @@ pub(crate) fn tell_progress<E: Sink>(
     err: &mut E,
 ) -> Result<u64, RunFault>
     ensures { (first : Option (List ℕ)) (faults : ℕ) → HasToldLines shows told first (E.written err.old) faults (E.faults err.old)
-        → GoesOnTelling shows result first (E.written err.new) faults (E.faults err.new) }
+        → ToldUntil (λ n. HasToldLines shows n first (E.written err.new) faults (E.faults err.new)) shows result first (E.written err.new) faults (E.faults err.new) }
 {
     if !shows {
         return Ok(told);

@@ -16,6 +16,7 @@ ghost use Rattle.golf_explore_command.specs.Texts.{
 };
 
 use golf_base::{List, Memory};
+use golf_command_words::MOST_CHOICES;
 use golf_explore::Visited;
 use golf_run_texts::{add_numbers, list_of};
 use std::alloc::Global;
@@ -26,9 +27,6 @@ pub const USAGE: &[u8; 300] =
 
 /// The line of a file that sets finalisers.
 pub(crate) const FINALISERS: &[u8; 34] = b"stopped: the file sets finalisers\n";
-
-/// The most numbers that `--schedule choices:` may have.
-const MOST_CHOICES: usize = 4_096;
 
 /// Returns the line that says how much memory this many states may take.
 pub(crate) fn note_line(alloc: Global, most: u32) -> Result<List<u8>, Memory>
@@ -87,7 +85,7 @@ pub(crate) fn leak_line(alloc: Global, numbers: &[u64]) -> Result<List<u8>, Memo
     ensures { IfOk result (λ line. line ≡ leak_line_of numbers.now) }
 {
     let count = numbers.len();
-    if count > MOST_CHOICES {
+    if count > MOST_CHOICES as usize {
         let text = format!(in alloc;
             "leak: after {count} turns, more than a schedule of choices may have\n"
         )?;
@@ -107,7 +105,7 @@ pub(crate) fn end_line(alloc: Global, how: &[u8], numbers: &[u64]) -> Result<Lis
 {
     let mut line = list_of(alloc, how)?;
     let count = numbers.len() as u64;
-    if numbers.len() > MOST_CHOICES {
+    if numbers.len() > MOST_CHOICES as usize {
         let text = format!(in alloc;
             ": after {count} turns, more than a schedule of choices may have\n"
         )?;

@@ -7,12 +7,12 @@ ghost use Rattle.golf_data.specs.Places.{HasPlaces};
 ghost use Rattle.golf_run.specs.HasRun.{sinks};
 ghost use Rattle.golf_command.specs.Means.{seen, words_of};
 ghost use Rattle.golf_explore_words.specs.declared.line.ExploreLine.{ExploreLine};
-ghost use Rattle.golf_explore_words.specs.Words.{line_of, IsWithin};
-ghost use Rattle.golf_explore_command.specs.Telling.{CallTells, CodeTells};
+ghost use Rattle.golf_explore_words.specs.Words.{line_of, IsSearchWithin};
+ghost use Rattle.golf_explore_command.specs.Means.{CallTells, CodeTells};
 
-use crate::answering::answer_to;
+use crate::full_answers::answer_to;
 use crate::texts::{USAGE, note_line};
-use crate::tracing::{tell_threads, tell_turns};
+use crate::traces::{tell_threads, tell_turns};
 use golf_base::{Sink, Source, write_all};
 use golf_command::{end, load};
 use golf_data::Code;
@@ -67,7 +67,7 @@ fn serve<R: AllocGlobal + Threads + Wait + Sync + Clock, S: Source, O: Sink, E: 
     out: &mut O,
     err: &mut E,
 ) -> Status
-    requires { IsWithin line }
+    requires { IsSearchWithin line }
     ensures { (words : List (List ℕ)) → line_of words ≡ Some line → CallTells words shows result
         (seen (S.left source.old) (S.faults source.old) (sinks (O.written out.old) (O.faults out.old) (E.written err.old) (E.faults err.old)))
         (seen (S.left source.new) (S.faults source.new) (sinks (O.written out.new) (O.faults out.new) (E.written err.new) (E.faults err.new))) }

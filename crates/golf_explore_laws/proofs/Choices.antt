@@ -16,10 +16,10 @@ use Rattle.golf_data.specs.declared.goroutine.Leaving.{Leaving}
 use Rattle.golf_model.specs.Views.{FrameView, GoroutineView}
 use Rattle.golf_model.specs.State.{State, runnable, not_empty, ending, ending_of}
 use Rattle.golf_model.specs.Changes.{Change, apply_all}
-use Rattle.golf_model.specs.Acting.{Actor, choose}
-use Rattle.golf_model.specs.Selecting.{Offer, Taken, take_receive, take_send, take_case, and_case, offers_of, kept_if}
-use Rattle.golf_model.specs.Selecting.{is_ready, ready, all_on_channels, chosen, selects_one, selects_from}
-use Rattle.golf_model.specs.Clearing.{clearing}
+use Rattle.golf_model.specs.Actors.{Actor, choose}
+use Rattle.golf_model.specs.Selects.{Offer, Taken, take_receive, take_send, take_case, and_case, offers_of, kept_if}
+use Rattle.golf_model.specs.Selects.{is_ready, ready, all_on_channels, chosen, selects_one, selects_from}
+use Rattle.golf_model.specs.ClearedSlots.{clearing}
 use Rattle.golf_model.specs.Turn.{changes, acting, line_at, performs, frame_changes, goroutine_changes, turn_of}
 use Rattle.golf_model.specs.Turn.{turn_changes, whose_turn, goroutine_collects, step}
 use Rattle.golf_explore_laws.specs.Closed.{last_choice, line_last_choice, frame_last_choice, frames_last_choice}

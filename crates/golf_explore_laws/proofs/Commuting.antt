@@ -13,9 +13,9 @@ use Rattle.golf_data.specs.declared.goroutine.Side.{Side}
 use Rattle.golf_data.specs.declared.goroutine.Wait.{Wait}
 use Rattle.golf_model.specs.Views.{GoroutineView}
 use Rattle.golf_model.specs.State.{State}
-use Rattle.golf_model.specs.Waiting.{waits_of, ticket_of, wait_on, wait_for}
-use Rattle.golf_model.specs.Waking.{Waking, released, woken_by, closed_on, released_by, is_below}
-use Rattle.golf_model.specs.Changes.{Change, become, apply, moved, pass_on, pass_on_at}
+use Rattle.golf_model.specs.Waiters.{waits_of, ticket_of, wait_on, wait_for}
+use Rattle.golf_model.specs.Wakes.{Waking, released, woken_by, closed_on, released_by, is_below}
+use Rattle.golf_model.specs.Changes.{Change, become, apply, moved, requeue, requeue_at}
 use Rattle.golf_explore_laws.specs.Local.{LocalChangesCommute}
 
 -- ---- maps
@@ -25,7 +25,7 @@ module _ {X : Type 0} where
   add-put g n v x [] d = ap (λ b. (n, cond b v x) ∷ []) (sym (ne_eqb g n d))
   add-put g n v x (e ∷ es) d = ap (λ (r : List (ℕ × X)). (e.0, cond (g == e.0) v e.1) ∷ r) (add-put g n v x es d)
 
--- ---- waking and passing on
+-- ---- waking and requeueing
 
 none-either : (b : Bool) → cond {A = Option Wait} b None None ≡ None
 none-either true = refl
@@ -45,7 +45,7 @@ module _ (g : ℕ) (r : GoroutineView) where
       (put-swap k g q r s.goroutines n)
 
   passed-at : (x : Object) (k m : ℕ) (q : GoroutineView) (s : State) → (k ≡ g → ⊥)
-      → pass_on_at x k m q (become g r s) ≡ become g r (pass_on_at x k m q s)
+      → requeue_at x k m q (become g r s) ≡ become g r (requeue_at x k m q s)
   passed-at (Object.Mutex false) k m q s n =
       ap (λ (t : State). apply (Change.Replace m (Object.Mutex true)) t) (other k (released q) s n)
   passed-at (Object.Mutex true) k m q s n =
@@ -54,7 +54,7 @@ module _ (g : ℕ) (r : GoroutineView) where
   passed-at _ k m q s n = refl
 
   passed : (o : Option GoroutineView) (x : Option Object) (k m : ℕ) (s : State) → (k ≡ g → ⊥)
-      → pass_on k m o x (become g r s) ≡ become g r (pass_on k m o x s)
+      → requeue k m o x (become g r s) ≡ become g r (requeue k m o x s)
   passed None x k m s n = refl
   passed (Some q) None k m s n = refl
   passed (Some q) (Some x) k m s n = passed-at x k m q s n
@@ -73,7 +73,7 @@ local-changes-commute (Change.WakeAll o how) g r s runs n d =
     ap (λ (gs : List (ℕ × GoroutineView)). record s { goroutines = gs })
     (map_values-put (λ h. woken_by how o) g r s.goroutines
     ∙ ap (λ q. put g q (map_values (λ h. woken_by how o) s.goroutines)) (woken-runs how o r runs))
-local-changes-commute (Change.PassOn k m) g r s runs n d =
-    ap (λ q. pass_on k m q (find m s.objects) (become g r s)) (find-put_other g r s.goroutines k n)
+local-changes-commute (Change.Requeue k m) g r s runs n d =
+    ap (λ q. requeue k m q (find m s.objects) (become g r s)) (find-put_other g r s.goroutines k n)
     ∙ passed g r (find k s.goroutines) (find m s.objects) k m s n
 local-changes-commute _ g r s runs n d = refl

@@ -13,7 +13,7 @@ use Rattle.golf_data.specs.declared.goroutine.Mode.{Mode}
 use Rattle.golf_model.specs.Views.{FrameView, GoroutineView}
 use Rattle.golf_model.specs.State.{State, can_run, runnable, not_empty}
 use Rattle.golf_model.specs.Changes.{Change, become, apply_all}
-use Rattle.golf_model.specs.Clearing.{cleared, clears_in, clears, clearing}
+use Rattle.golf_model.specs.ClearedSlots.{cleared, clears_in, clears, clearing}
 use Rattle.golf_model.specs.Turn.{turn_changes, whose_turn, goroutine_collects, step}
 use Rattle.golf_model.specs.Futures.{Numbered}
 use Rattle.golf_explore_laws.specs.Local.{IsLocal}

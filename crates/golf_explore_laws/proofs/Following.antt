@@ -21,8 +21,8 @@ use Rattle.golf_explore_laws.proofs.Others.{Other}
 use Rattle.golf_explore_laws.proofs.Exchanging.{step-becomes, step-keeps, turn-of}
 use Rattle.golf_explore_laws.proofs.Visiting.{silent-step}
 
--- some frame-local turns can be taken after turn k. If turn k is one of the given turns they lead where these lead; else
--- they lead to the state after the given turns and turn k.
+-- some frame-local turns can be taken after turn k. If turn k is one of the given turns they lead where these lead;
+-- else they lead to the state after the given turns and turn k.
 pub data Follows (code : Code) (s : State) (ns : List ℕ) (k : ℕ) : Type 0 where
   OneOf : (ms : List ℕ) → suc (length ms) ≡ length ns → AreLocalTurns code (after code s k) ms
       → after_all code (after code s k) ms ≡ after_all code s ns → Follows code s ns k

@@ -7,7 +7,7 @@ use Rattle.golf_data.specs.declared.code.Code.{Code}
 use Rattle.golf_model.specs.Views.{GoroutineView}
 use Rattle.golf_model.specs.State.{State, runnable, not_empty, ending, ending_of}
 use Rattle.golf_model.specs.Turn.{step}
-use Rattle.golf_model.specs.Living.{Node, dead}
+use Rattle.golf_model.specs.LiveSet.{Node, dead}
 use Rattle.golf_model.specs.Futures.{Numbered}
 use Rattle.golf_model.proofs.Agreeing.{dead-sound, dead-complete}
 use Rattle.golf_model_futures.proofs.Numbering.{numbered-rest}

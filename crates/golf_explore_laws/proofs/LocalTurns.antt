@@ -13,11 +13,11 @@ use Rattle.golf_data.specs.declared.goroutine.Mode.{Mode}
 use Rattle.golf_model.specs.Views.{FrameView, GoroutineView}
 use Rattle.golf_model.specs.State.{State, runnable, can_run, start}
 use Rattle.golf_model.specs.Changes.{Change, become, apply_all}
-use Rattle.golf_model.specs.Acting.{Actor, with_frames, standing, stands, leaves, on_some, taking_one, taking_two}
-use Rattle.golf_model.specs.Acting.{taking_from, choose}
-use Rattle.golf_model.specs.Calculating.{two_ints}
+use Rattle.golf_model.specs.Actors.{Actor, with_frames, standing, stands, leaves, on_some, taking_one, taking_two}
+use Rattle.golf_model.specs.Actors.{taking_from, choose}
+use Rattle.golf_model.specs.Arithmetic.{two_ints}
 use Rattle.golf_model.specs.Values.{int_of, bool_of, text_of, equality, is_zero}
-use Rattle.golf_model.specs.Clearing.{cleared, clears, clearing}
+use Rattle.golf_model.specs.ClearedSlots.{cleared, clears, clearing}
 use Rattle.golf_model.specs.Turn.{changes, acting, performs, frame_changes, goroutine_changes, turn_of, turn_changes}
 use Rattle.golf_model.specs.Turn.{is_collection, line_collects, frame_collects, frames_collect, goroutine_collects}
 use Rattle.golf_model.specs.Turn.{whose_turn, step}

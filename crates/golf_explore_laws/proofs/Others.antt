@@ -18,19 +18,19 @@ use Rattle.golf_data.specs.declared.value.Object.{Object}
 use Rattle.golf_model.specs.Views.{FrameView, GoroutineView}
 use Rattle.golf_model.specs.Values.{refs}
 use Rattle.golf_model.specs.State.{State}
-use Rattle.golf_model.specs.Waiting.{waits_of}
-use Rattle.golf_model.specs.Waking.{woken_by, released}
-use Rattle.golf_model.specs.Changes.{Change, become, apply, apply_all, moved, pass_on}
+use Rattle.golf_model.specs.Waiters.{waits_of}
+use Rattle.golf_model.specs.Wakes.{woken_by, released}
+use Rattle.golf_model.specs.Changes.{Change, become, apply, apply_all, moved, requeue}
 use Rattle.golf_model.specs.Refs.{object_refs, deferred_refs, leaving_refs, frames_refs, goroutine_refs, queue_refs}
 use Rattle.golf_model.specs.Refs.{waited}
 use Rattle.golf_model.specs.Turn.{line_at, acting, performs, frame_changes, goroutine_changes, turn_of, turn_changes}
-use Rattle.golf_model.specs.Collecting.{cut}
+use Rattle.golf_model.specs.Collections.{cut}
 use Rattle.golf_model_futures.specs.Invariant.{FrameIn, Good, Sound, objects_after, last_after, finalisable_after}
 use Rattle.golf_model_futures.proofs.Acting.{Ground}
 use Rattle.golf_model_futures.proofs.GoodTurn.{sound_turn}
-use Rattle.golf_model_futures.proofs.Leading.{same-pass_on}
+use Rattle.golf_model_futures.proofs.Leading.{same-requeue}
 use Rattle.golf_model_futures.proofs.SameChanges.{same_changes}
-use Rattle.golf_explore_laws.specs.Local.{IsOf}
+use Rattle.golf_explore_laws.specs.Local.{IsChangeOf}
 use Rattle.golf_explore_laws.proofs.Commuting.{woken-runs, local-changes-commute}
 
 -- each object
@@ -143,21 +143,21 @@ module _ (g : ℕ) where
   -- ---- the changes leave the goroutine alone
 
   module _ (O F : ℕ → Type 0) where
-    not-of : (c : Change) → Good O (Other g) F c → IsOf g c → ⊥
+    not-of : (c : Change) → Good O (Other g) F c → IsChangeOf g c → ⊥
     not-of (Change.Become k r) a same = a.0 same
     not-of (Change.Block k kind line waits r) a same = a.0 same
-    not-of (Change.PassOn k m) a same = a.0 same
+    not-of (Change.Requeue k m) a same = a.0 same
     not-of _ a same = same
 
-    passed-on : (k m : ℕ) (x : Option GoroutineView) (y : Option Object) (s : State) → Other g k
-        → find g (pass_on k m x y s).goroutines ≡ find g s.goroutines
-    passed-on k m None y s other = refl
-    passed-on k m (Some q) None s other = refl
-    passed-on k m (Some q) (Some (Object.Mutex false)) s other =
+    requeued : (k m : ℕ) (x : Option GoroutineView) (y : Option Object) (s : State) → Other g k
+        → find g (requeue k m x y s).goroutines ≡ find g s.goroutines
+    requeued k m None y s other = refl
+    requeued k m (Some q) None s other = refl
+    requeued k m (Some q) (Some (Object.Mutex false)) s other =
         find-put_other k (released q) s.goroutines g (λ e. other (sym e))
-    passed-on k m (Some q) (Some (Object.Mutex true)) s other =
+    requeued k m (Some q) (Some (Object.Mutex true)) s other =
         find-put_other k (record q { mode = moved m s.next_ticket q.mode }) s.goroutines g (λ e. other (sym e))
-    passed-on k m (Some q) (Some _) s other = refl
+    requeued k m (Some q) (Some _) s other = refl
 
     entry-stays : (c : Change) (s : State) (r : GoroutineView) → find g s.goroutines ≡ Some r → r.mode ≡ Mode.Running
         → Good O (Other g) F c → find g (apply c s).goroutines ≡ Some r
@@ -171,15 +171,15 @@ module _ (g : ℕ) where
         find-only (λ h. not (h == k)) s.goroutines g (ap not (ne_eqb g k (λ e. a (sym e)))) ∙ found
     entry-stays (Change.WakeAll o how) s r found on a =
         find-map_values (λ h. woken_by how o) s.goroutines g r found ∙ ap Some (woken-runs how o r on)
-    entry-stays (Change.PassOn k m) s r found on a =
-        passed-on k m (find k s.goroutines) (find m s.objects) s a.0 ∙ found
+    entry-stays (Change.Requeue k m) s r found on a =
+        requeued k m (find k s.goroutines) (find m s.objects) s a.0 ∙ found
     entry-stays _ s r found on a = found
 
   -- its number was given, and stays so
   still-given : (c : Change) (s : State) → g < s.next_goroutine → g < (apply c s).next_goroutine
   still-given (Change.Spawn r) s below = omega (arith, below)
-  still-given (Change.PassOn k m) s below = subst (λ n. g < n)
-      (sym (same-pass_on s k m (find k s.goroutines) (find m s.objects)).1) below
+  still-given (Change.Requeue k m) s below = subst (λ n. g < n)
+      (sym (same-requeue s k m (find k s.goroutines) (find m s.objects)).1) below
   still-given _ s below = below
 
   -- the new entry of the goroutine can be exchanged with changes of others

@@ -1,5 +1,5 @@
 -- No report names a goroutine if no collection finds a dead one.
--- For: `closed_lists_report_nobody`, src/lib.rt; `real_reports`, golf_model/specs/Reporting.antt
+-- For: `closed_lists_report_nobody`, src/lib.rt; `real_reports`, golf_model/specs/Reports.antt
 -- By: induction over the list of states right before collections
 use Rattle.std.proofs.Common.{◌≡◌, Bool, List, [], ◌∷◌, inl, inr, refl, ap, ◌∙◌, subst}
 use Rattle.golf_theory.specs.Membership.{In}
@@ -7,11 +7,11 @@ use Rattle.golf_data.specs.declared.code.Code.{Code}
 use Rattle.golf_data.specs.declared.report.Book.{Book}
 use Rattle.golf_data.specs.declared.report.Report.{Report}
 use Rattle.golf_model.specs.State.{State}
-use Rattle.golf_model.specs.Living.{dead}
-use Rattle.golf_model.specs.Collecting.{sets_finalisers}
-use Rattle.golf_model.specs.Running.{Event, stops}
-use Rattle.golf_model.specs.Reporting.{numbers, without, entries, book_after, new_book, report, reports_from}
-use Rattle.golf_model.specs.Reporting.{real_reports}
+use Rattle.golf_model.specs.LiveSet.{dead}
+use Rattle.golf_model.specs.Collections.{sets_finalisers}
+use Rattle.golf_model.specs.Runs.{Event, stops}
+use Rattle.golf_model.specs.Reports.{numbers, without, entries, book_after, new_book, report, reports_from}
+use Rattle.golf_model.specs.Reports.{real_reports}
 use Rattle.golf_model_futures.proofs.RealRuns.{real-runs}
 use Rattle.golf_explore_laws.specs.Laws.{NeverReports}
 

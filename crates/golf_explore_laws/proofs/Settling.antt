@@ -8,9 +8,9 @@ use Rattle.golf_data.specs.declared.code.Code.{Code}
 use Rattle.golf_data.specs.declared.goroutine.Ending.{Ending}
 use Rattle.golf_model.specs.State.{State, runnable, ending, start}
 use Rattle.golf_model.specs.Turn.{step}
-use Rattle.golf_model.specs.Living.{dead}
-use Rattle.golf_model.specs.Collecting.{plain_collect}
-use Rattle.golf_model.specs.Running.{Event, run}
+use Rattle.golf_model.specs.LiveSet.{dead}
+use Rattle.golf_model.specs.Collections.{plain_collect}
+use Rattle.golf_model.specs.Runs.{Event, run}
 use Rattle.golf_model.specs.Futures.{Numbered}
 use Rattle.golf_model_futures.proofs.Leading.{numbered-start, numbered-step}
 use Rattle.golf_explore_laws.specs.After.{silent, after, after_all}

@@ -11,14 +11,14 @@ use Rattle.golf_data.specs.declared.goroutine.Ending.{Ending}
 use Rattle.golf_data.specs.declared.goroutine.Queued.{Queued}
 use Rattle.golf_model.specs.State.{State, ending}
 use Rattle.golf_model.specs.Turn.{step, wants_collection}
-use Rattle.golf_model.specs.Reaching.{reach, sources}
-use Rattle.golf_model.specs.Living.{live_list, is_dead, dead}
-use Rattle.golf_model.specs.Collecting.{plain_collect, queued}
-use Rattle.golf_model.specs.Running.{Event, has_ended, collected_if, happens_in, happens, run, stop_if, stop_in}
-use Rattle.golf_model.specs.Running.{stops_by}
-use Rattle.golf_model_futures.specs.Printing.{prefixed}
+use Rattle.golf_model.specs.Reach.{reach, sources}
+use Rattle.golf_model.specs.LiveSet.{live_list, is_dead, dead}
+use Rattle.golf_model.specs.Collections.{plain_collect, queued}
+use Rattle.golf_model.specs.Runs.{Event, has_ended, collected_if, happens_in, happens, run, stop_if, stop_in}
+use Rattle.golf_model.specs.Runs.{stops_by}
+use Rattle.golf_model_futures.specs.EarlierOutput.{prefixed}
 use Rattle.golf_model_futures.proofs.Printing.{step-prefixed}
-use Rattle.golf_model_order.proofs.Collecting.{collecting-goes}
+use Rattle.golf_model_futures.proofs.OrderedCollecting.{collecting-goes}
 use Rattle.golf_explore_laws.specs.After.{silent}
 use Rattle.golf_explore_laws.specs.Closed.{IsPlain}
 

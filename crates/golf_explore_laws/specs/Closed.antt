@@ -11,7 +11,7 @@ use Rattle.golf_data.specs.declared.goroutine.Leaving.{Leaving}
 use Rattle.golf_model.specs.Views.{FrameView, GoroutineView}
 use Rattle.golf_model.specs.State.{State, runnable, ending, start}
 use Rattle.golf_model.specs.Turn.{line_at}
-use Rattle.golf_model.specs.Living.{dead}
+use Rattle.golf_model.specs.LiveSet.{dead}
 use Rattle.golf_explore_laws.specs.After.{after, after_all}
 use Rattle.golf_explore_laws.specs.Local.{AreLocalTurns}
 

@@ -6,9 +6,9 @@ use Rattle.golf_data.specs.declared.goroutine.Ending.{Ending}
 use Rattle.golf_data.specs.declared.report.Report.{Report}
 use Rattle.golf_model.specs.State.{State, runnable, ending, start}
 use Rattle.golf_model.specs.Turn.{whose_turn, step}
-use Rattle.golf_model.specs.Living.{dead}
-use Rattle.golf_model.specs.Running.{Event, has_ended, run, stops}
-use Rattle.golf_model.specs.Reporting.{real_reports}
+use Rattle.golf_model.specs.LiveSet.{dead}
+use Rattle.golf_model.specs.Runs.{Event, has_ended, run, stops}
+use Rattle.golf_model.specs.Reports.{real_reports}
 use Rattle.golf_explore_laws.specs.Closed.{IsClosed, NoneDead, NoneEnds, IsRanked, turn_last_choice}
 
 -- ---- of every run: any turns, and collections at any places among them

@@ -9,7 +9,7 @@ use Rattle.golf_data.specs.declared.goroutine.Mode.{Mode}
 use Rattle.golf_model.specs.Views.{FrameView, GoroutineView}
 use Rattle.golf_model.specs.State.{State, runnable}
 use Rattle.golf_model.specs.Changes.{Change, become, apply}
-use Rattle.golf_model.specs.Acting.{Actor, stands}
+use Rattle.golf_model.specs.Actors.{Actor, stands}
 use Rattle.golf_model.specs.Turn.{line_at, changes, whose_turn, step}
 use Rattle.golf_explore_laws.specs.After.{after}
 
@@ -99,14 +99,14 @@ AreLocalTurns code s (n ∷ ns) = IsLocalTurn code s n × AreLocalTurns code (af
 -- ---- changes of other turns
 
 -- the change is a change of the goroutine of this number
-abbrev pub IsOf : ℕ → Change → Type 0
-IsOf g (Change.Become k r) = k ≡ g
-IsOf g (Change.Block k kind line waits r) = k ≡ g
-IsOf g (Change.PassOn k m) = k ≡ g
-IsOf g _ = ⊥
+abbrev pub IsChangeOf : ℕ → Change → Type 0
+IsChangeOf g (Change.Become k r) = k ≡ g
+IsChangeOf g (Change.Block k kind line waits r) = k ≡ g
+IsChangeOf g (Change.Requeue k m) = k ≡ g
+IsChangeOf g _ = ⊥
 
 -- the new entry of a goroutine that runs can be exchanged with a change that is not of this goroutine and does not give
 -- its number
 abbrev pub LocalChangesCommute : Type 0
 LocalChangesCommute = (change : Change) (g : ℕ) (r : GoroutineView) (s : State) → r.mode ≡ Mode.Running
-    → (IsOf g change → ⊥) → (g ≡ s.next_goroutine → ⊥) → apply change (become g r s) ≡ become g r (apply change s)
+    → (IsChangeOf g change → ⊥) → (g ≡ s.next_goroutine → ⊥) → apply change (become g r s) ≡ become g r (apply change s)

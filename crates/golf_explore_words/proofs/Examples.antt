@@ -11,7 +11,8 @@ all_alone : line_of (codes "all" ∷ []) ≡ Some (ExploreLine.Ask (Question.All
 unfolding clap_on_literals split_of
 all_alone = refl
 
-all_with_states : line_of (codes "all" ∷ codes "--states" ∷ codes "250" ∷ []) ≡ Some (ExploreLine.Ask (Question.All 250))
+all_with_states : line_of (codes "all" ∷ codes "--states" ∷ codes "250" ∷ []) ≡ Some
+    (ExploreLine.Ask (Question.All 250))
 unfolding clap_on_literals split_of
 all_with_states = refl
 
@@ -76,7 +77,8 @@ trace_alone : line_of (codes "trace" ∷ []) ≡ Some (ExploreLine.Trace (record
 unfolding clap_on_literals split_of
 trace_alone = refl
 
-trace_with_words : line_of (codes "trace" ∷ codes "--schedule" ∷ codes "seed:7" ∷ codes "--every=5" ∷ codes "--why" ∷ [])
+trace_with_words : line_of (codes "trace" ∷ codes "--schedule" ∷ codes "seed:7" ∷ codes "--every=5" ∷ codes "--why"
+    ∷ [])
     ≡ Some (ExploreLine.Trace (record {
       schedule = Schedule.Seed 7;
       turns = 1000000;

@@ -1,5 +1,5 @@
 -- The numbers of a search are within their limits.
--- For: `parse`, src/reading.rt; `IsWithin`, specs/Words.antt
+-- For: `parse`, src/command_lines.rt; `IsSearchWithin`, specs/Words.antt
 -- By: cases of what each option has; no induction
 use Rattle.std.proofs.Common.{ℕ, ◌≤◌, List, Option, Some, None, IfSome, option_and_then, option_map, codes, arith}
 use Rattle.clap.specs.Walk.{Row, first_of}
@@ -10,7 +10,7 @@ use Rattle.golf_explore_words.specs.declared.line.ExploreLine.{ExploreLine}
 use Rattle.golf_explore_words.specs.declared.line.Question.{Question}
 use Rattle.golf_explore_words.specs.declared.line.SearchFor.{SearchFor}
 use Rattle.golf_explore_words.specs.Words.{aim_of, default_preemptions, default_states, most_preemptions, most_seconds}
-use Rattle.golf_explore_words.specs.Words.{most_states, search_by, seconds_or_none, states_by, IsWithin}
+use Rattle.golf_explore_words.specs.Words.{most_states, search_by, seconds_or_none, states_by, IsSearchWithin}
 
 by_parts : (aim : Option SearchFor) (preemptions states : Option ℕ) (seconds : Option (Option ℕ))
     → Between 0 most_preemptions preemptions → Between 1 most_states states
@@ -18,7 +18,7 @@ by_parts : (aim : Option SearchFor) (preemptions states : Option ℕ) (seconds :
     → IfSome (option_and_then (λ aim. option_and_then (λ preemptions. option_and_then (λ states. option_map
     (λ seconds. ExploreLine.Ask (Question.Search
     (record { aim = aim; preemptions = preemptions; states = states; seconds = seconds }))) seconds) states)
-    preemptions) aim) IsWithin
+    preemptions) aim) IsSearchWithin
 by_parts None preemptions states seconds p s t = tt
 by_parts (Some aim) None states seconds p s t = tt
 by_parts (Some aim) (Some n) None seconds p s t = tt
@@ -35,11 +35,12 @@ seconds-within (Some text) =
     go None h = tt
     go (Some n) h = h
 
-pub search_within : (rows : List Row) → IfSome (search_by rows) IsWithin
+pub search_within : (rows : List Row) → IfSome (search_by rows) IsSearchWithin
 search_within rows =
     by_parts (setting (first_of (codes "for") rows) SearchFor.Leak aim_of)
     (setting (first_of (codes "preemptions") rows) default_preemptions (number_within 0 most_preemptions))
     (states_by rows) (seconds_or_none (first_of (codes "seconds") rows))
-    (set-within 0 most_preemptions default_preemptions (omega arith) (omega arith) (first_of (codes "preemptions") rows))
+    (set-within 0 most_preemptions default_preemptions (omega arith) (omega arith)
+    (first_of (codes "preemptions") rows))
     (set-within 1 most_states default_states (omega arith) (omega arith) (first_of (codes "states") rows))
     (seconds-within (first_of (codes "seconds") rows))

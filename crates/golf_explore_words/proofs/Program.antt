@@ -1,5 +1,5 @@
 -- What the program's commands are.
--- For: `split`, src/splitting.rt
+-- For: `split`, src/clap_commands.rt
 -- By: computing
 use Rattle.std.proofs.Common.{◌≡◌, true, refl}
 use Rattle.clap.proofs.OnLiterals.{clap_on_literals}

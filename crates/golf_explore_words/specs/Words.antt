@@ -6,7 +6,7 @@ use Rattle.clap.specs.Walk.{Row, first_of}
 use Rattle.clap.specs.Simple.{App, new_app, with_rule, with_subcommand}
 use Rattle.golf_command_words.specs.Values.{Text, number_within}
 use Rattle.golf_command_words.specs.Words.{setting}
-use Rattle.golf_command_words.specs.Splitting.{valued, program_app, matched, run_by, with_run_options}
+use Rattle.golf_command_words.specs.ClapCommands.{valued, program_app, matched, run_by, with_run_options}
 use Rattle.golf_command_words.specs.declared.line.CommandLine.{CommandLine}
 use Rattle.golf_run_schedules.specs.Options.{IsWithinLimits}
 use Rattle.golf_explore_words.specs.declared.line.ExploreLine.{ExploreLine}
@@ -129,7 +129,7 @@ pub record IsWithinQuestion (question : Question) : Type 0 where
   pub seconds : IfSome (seconds_in question) (λ s. (1 ≤ s) × (s ≤ most_seconds))
 
 -- the numbers of a command line are within their limits
-abbrev pub IsWithin : ExploreLine → Type 0
-IsWithin (ExploreLine.Ask question) = IsWithinQuestion question
-IsWithin (ExploreLine.Trace options) = IsWithinLimits options
-IsWithin (ExploreLine.TraceThreads n) = (1 ≤ n) × (n ≤ 16)
+abbrev pub IsSearchWithin : ExploreLine → Type 0
+IsSearchWithin (ExploreLine.Ask question) = IsWithinQuestion question
+IsSearchWithin (ExploreLine.Trace options) = IsWithinLimits options
+IsSearchWithin (ExploreLine.TraceThreads n) = (1 ≤ n) × (n ≤ 16)

@@ -4,9 +4,9 @@
 //! - `ExploreLine`: the request of a command line.
 #![tactic(auto)]
 
+mod clap_commands;
+mod command_lines;
 mod line;
-mod reading;
-mod splitting;
 
+pub use command_lines::parse;
 pub use line::{DEFAULT_STATES, ExploreLine, MOST_STATES, Question, SearchFor, SearchOptions};
-pub use reading::parse;

@@ -1,34 +1,17 @@
-//! The top call, on a thread whose stack is taken beforehand.
-//!
-//! `explorer` recurses into the nesting of a file. The stack of a process grows page by page. If the system
-//! refuses a page, or the limit of the stack is small, it kills the process. The stack of this thread is
-//! taken whole before anything is read. So a lack of memory for the stack is an answer.
+//! The top call, on a thread whose stack is taken beforehand, with its clause.
 
 ghost use Rattle.std.specs.Prelude.{◌≡◌, IfOk};
 ghost use Rattle.golf_run.specs.HasRun.{sinks};
 ghost use Rattle.golf_command.specs.Means.{words_of, seen};
-ghost use Rattle.golf_explore_command.specs.Telling.{CallTells};
+ghost use Rattle.golf_explore_command.specs.Means.{CallTells};
 
 use golf_base::{Memory, Sink, Source};
+use golf_command::{Ended, on_own_stack};
 use golf_explore_command::explorer;
-use golf_run_texts::Status;
 use std::snapshot::Snapshot;
 use std::sync::Wait;
-use std::thread::{Builder, Promise, Threads};
+use std::thread::{Promise, Threads};
 use std::time::Clock;
-
-/// The bytes of the stack: as many as the stack of a process has by default. The deepest nesting that a
-/// file may have needs about 2 MB of them.
-const STACK: usize = 8 * 1024 * 1024;
-
-/// The status of a call, and its streams after it.
-#[derive(Drop)]
-pub(crate) struct Ended<S, O, E> {
-    pub(crate) status: Status,
-    pub(crate) source: S,
-    pub(crate) out: O,
-    pub(crate) err: E,
-}
 
 // The words and the streams before the call. Only clauses use them.
 #[derive(Drop)]
@@ -93,11 +76,5 @@ pub(crate) fn explorer_aside<
             err,
         }
     };
-    match Builder::new()
-        .stack_size(STACK)
-        .spawn_with(&rt, begun, call)
-    {
-        Ok(thread) => Ok(thread.join(&rt)),
-        Err(_) => Err(Memory),
-    }
+    on_own_stack(&rt, begun, call)
 }

@@ -1,5 +1,5 @@
 -- The flag at the rank of an object that is there.
--- For: `flagged` and `queue_finalisers`, src/queueing.rt
+-- For: `flagged` and `queue_finalisers`, src/finaliser_queue.rt
 -- By: induction over the list of flags, with the entries that they belong to
 use Rattle.std.proofs.Common.{◌≡◌, ℕ, suc, ◌<◌, ◌≤◌, Bool, true, false, ◌||◌, cond, List, [], ◌∷◌, ◌++◌, not, map}
 use Rattle.std.proofs.Common.{length, get_or, inl, inr, refl, sym, ap, ◌∙◌, arith}
@@ -13,8 +13,8 @@ use Rattle.golf_theory.proofs.Tests.{is_in-out}
 use Rattle.golf_heap.specs.Objects.{kept, left_out, rank}
 use Rattle.golf_heap.proofs.Flagged.{kept-only, left_out-only}
 use Rattle.golf_model.specs.State.{State}
-use Rattle.golf_model.specs.Collecting.{queued, queue_outside}
-use Rattle.golf_state.specs.Collecting.{queue_unflagged}
+use Rattle.golf_model.specs.Collections.{queued, queue_outside}
+use Rattle.golf_state.specs.CollectedParts.{queue_unflagged}
 use Rattle.golf_marks.specs.Flags.{IsSet}
 
 In-kept : {X : Type 0} (flags : List Bool) (xs : List X) (x : X) → In x (kept flags xs) → In x xs

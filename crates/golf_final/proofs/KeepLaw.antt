@@ -1,5 +1,5 @@
 -- On the graph of a state, what is kept is what the definitions keep.
--- For: `keeps_law`, src/laws.rt; `KeepsAlike`, specs/Keeping.antt
+-- For: `keeps_law`, src/laws.rt; `KeepsAlike`, specs/KeepRule.antt
 -- By: induction over the steps that lead to an object
 use Rattle.std.proofs.Common.{◌≡◌, ℕ, ◌+◌, ◌<◌, Bool, true, false, ◌||◌, List, [], length, get_or, Option, Some, ◌==◌}
 use Rattle.std.proofs.Common.{◌⊎◌, inl, inr, refl, sym, ap, subst, ◌∙◌, slice_get}
@@ -16,23 +16,23 @@ use Rattle.golf_data.specs.declared.value.Object.{Object}
 use Rattle.golf_model.specs.Views.{GoroutineView}
 use Rattle.golf_model.specs.State.{State, is_running}
 use Rattle.golf_model.specs.Refs.{object_refs, goroutine_refs, refs_of_goroutine, has_finaliser}
-use Rattle.golf_model.specs.Reaching.{RefersTo, Reach}
-use Rattle.golf_model.specs.Living.{Node, Live, Dead}
-use Rattle.golf_model.specs.Collecting.{Keeps}
+use Rattle.golf_model.specs.Reach.{RefersTo, Reach}
+use Rattle.golf_model.specs.LiveSet.{Node, Live, Dead}
+use Rattle.golf_model.specs.Collections.{Keeps}
 use Rattle.golf_model.specs.Graph.{children_of, sleeper_references, sleeper_count, node_count, Least}
 use Rattle.golf_model.specs.Presence.{Present, IsWhole}
 use Rattle.golf_model.specs.Futures.{Numbered}
 use Rattle.golf_model.specs.declared.graph.Marked.{Marked}
 use Rattle.golf_model.specs.Sleepers.{Sleeper}
 use Rattle.golf_marks.specs.Flags.{IsSet}
-use Rattle.golf_mark.specs.Marking.{MarksLeast}
+use Rattle.golf_mark.specs.MarkingResult.{MarksLeast}
 use Rattle.golf_heap.specs.Objects.{rank}
 use Rattle.golf_snapshot.specs.Parts.{ranks, row_of, sleeping, sleeper_of, live_parts}
 use Rattle.golf_snapshot.proofs.Ranking.{Entry-at, at-rank, row-at}
 use Rattle.golf_snapshot.proofs.Roots.{sleeping-entry}
 use Rattle.golf_snapshot.proofs.LiveSound.{rank-entry}
 use Rattle.golf_snapshot.proofs.LiveComplete.{live-graph}
-use Rattle.golf_final.specs.Keeping.{HasChild, ComesTo, Prevents, IsKept, KeepsAlike}
+use Rattle.golf_final.specs.KeepRule.{HasChild, IsReachedFrom, Prevents, IsKept, KeepsAlike}
 
 -- what some objects that are there reach, and what their nodes come to
 module _ (s : State) (n : Numbered s) (w : IsWhole s) (starts : List ℕ)
@@ -57,7 +57,7 @@ module _ (s : State) (n : Numbered s) (w : IsWhole s) (starts : List ℕ)
       → children_of (live_parts s) k ≡ ranks s.objects (object_refs e.1)
   children-by k e h = row-at (λ (d : ℕ × Object). ranks s.objects (object_refs d.1)) s.objects k e h
 
-  pub comes-reached : (k : ℕ) → ComesTo (live_parts s) (ranks s.objects starts) k → IsReached k
+  pub comes-reached : (k : ℕ) → IsReachedFrom (live_parts s) (ranks s.objects starts) k → IsReached k
   comes-reached k h = Reached-least (λ q. In q (ranks s.objects starts)) (HasChild (live_parts s)) IsReached
       (λ q i. ranked-reached starts q (λ o m. (there o m, Reached-root (λ j. In j starts) (RefersTo s) o m)) i)
       (λ q p r i.
@@ -69,9 +69,10 @@ module _ (s : State) (n : Numbered s) (w : IsWhole s) (starts : List ℕ)
       ))
       (subst (In p) (children-by q r.0 r.1) i)) k h
 
-  pub reached-comes : (o : ℕ) → Reach s starts o → ComesTo (live_parts s) (ranks s.objects starts) (rank o s.objects)
+  pub reached-comes : (o : ℕ) → Reach s starts o
+      → IsReachedFrom (live_parts s) (ranks s.objects starts) (rank o s.objects)
   reached-comes o r = Reached-least (λ q. In q starts) (RefersTo s)
-      (λ q. ComesTo (live_parts s) (ranks s.objects starts) (rank q s.objects))
+      (λ q. IsReachedFrom (live_parts s) (ranks s.objects starts) (rank q s.objects))
       (λ q i. Reached-root (λ p. In p (ranks s.objects starts)) (HasChild (live_parts s)) (rank q s.objects)
       (In-map (λ j. rank j s.objects) q starts i))
       (λ p q d l. Reached-step (λ j. In j (ranks s.objects starts)) (HasChild (live_parts s)) (rank p s.objects)
@@ -116,8 +117,8 @@ not-running false z e = refl
 -- the flags of a sleeper
 module _ (s : State) (n : Numbered s) (w : IsWhole s) (m : Marked) (marks : MarksLeast (live_parts s) m) (j g : ℕ)
     (r : GoroutineView) (at : slice_get (sleeping s) j ≡ Some (g, r)) where
-  asleep : Entry s.goroutines g r × (is_running r.mode ≡ false)
-  asleep = let e = sleeping-entry s (g, r)
+  sleeps : Entry s.goroutines g r × (is_running r.mode ≡ false)
+  sleeps = let e = sleeping-entry s (g, r)
       (In-slice_get (sleeping s) j (g, r) at) in (e.0, not-running (is_running r.mode) (g == 0) e.1)
 
   few : j < sleeper_count (live_parts s)
@@ -139,19 +140,19 @@ module _ (s : State) (n : Numbered s) (w : IsWhole s) (m : Marked) (marks : Mark
       (slice_get-map (sleeper_of s.objects) (sleeping s) j ∙ ap (option_map (sleeper_of s.objects)) at)
 
   found : refs_of_goroutine (find g s.goroutines) ≡ goroutine_refs r
-  found = ap refs_of_goroutine (find-Entry s.goroutines g r n.goroutines_rise asleep.0)
+  found = ap refs_of_goroutine (find-Entry s.goroutines g r n.goroutines_rise sleeps.0)
 
   present : (o : ℕ) → In o (goroutine_refs r) → Present s o
-  present o i = Every-at (Present s) (goroutine_refs r) o (w.goroutines g r asleep.0) i
+  present o i = Every-at (Present s) (goroutine_refs r) o (w.goroutines g r sleeps.0) i
 
   pub kept-alike : (sets : Bool) → IsKept (live_parts s) m sets j ↔ (Dead s g × Keeps s sets g)
   kept-alike sets = (
     λ t.
         let p = t.1.0 in
         let c = comes-reached s n w (goroutine_refs r) present p
-        (subst (λ (l : List ℕ). ComesTo (live_parts s) l p) refs-are t.1.1) in
+        (subst (λ (l : List ℕ). IsReachedFrom (live_parts s) l p) refs-are t.1.1) in
         let reach = subst (λ (l : List ℕ). Reach s l c.0.0) (sym found) c.2 in (
-          (r, asleep.0, asleep.1, λ l. t.0 (awake-live.1 l)),
+          (r, sleeps.0, sleeps.1, λ l. t.0 (awake-live.1 l)),
           (c.0.0, reach, (prevents-alike s n w m marks p c.0 c.1 sets).0 t.1.2),
         ),
     λ t.
@@ -161,7 +162,7 @@ module _ (s : State) (n : Numbered s) (w : IsWhole s) (m : Marked) (marks : Mark
           λ a. t.0.3 (awake-live.0 a),
           (
             rank o s.objects,
-            subst (λ (l : List ℕ). ComesTo (live_parts s) l (rank o s.objects)) (sym refs-are)
+            subst (λ (l : List ℕ). IsReachedFrom (live_parts s) l (rank o s.objects)) (sym refs-are)
                 (reached-comes s n w (goroutine_refs r) present o reach),
             (prevents-alike s n w m marks (rank o s.objects) (o, e.0) e.1 sets).1 t.1.2,
           ),

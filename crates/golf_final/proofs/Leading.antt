@@ -1,5 +1,5 @@
 -- What leads to a node that prevents removal, forwards and backwards.
--- For: `keeps`, src/keeping.rt; `IsKept`, specs/Keeping.antt
+-- For: `keeps`, src/keep_rule.rt; `IsKept`, specs/KeepRule.antt
 -- By: induction over the steps that lead to a node
 use Rattle.std.proofs.Common.{◌≡◌, ℕ, ◌<◌, inl, inr, Bool, List, [], ◌∷◌, length, refl, sym, subst, arith}
 use Rattle.std.specs.Prelude.{◌↔◌}
@@ -13,21 +13,21 @@ use Rattle.golf_model.specs.Graph.{node_count, children_of, sleeper_waits, sleep
 use Rattle.golf_model.specs.Graph.{IsInRange}
 use Rattle.golf_marks.specs.Flags.{IsSet}
 use Rattle.golf_marks.proofs.Flags.{IsSet-below}
-use Rattle.golf_mark.specs.Marking.{MarksLeast}
+use Rattle.golf_mark.specs.MarkingResult.{MarksLeast}
 use Rattle.golf_mark.proofs.Ranges.{row_past, references-nodes}
-use Rattle.golf_final.specs.Keeping.{HasChild, ComesTo, Prevents, IsKept}
+use Rattle.golf_final.specs.KeepRule.{HasChild, IsReachedFrom, Prevents, IsKept}
 use Rattle.golf_final.specs.Backward.{IsBackward}
 
 module _ (g : GraphParts) (flags : List Bool) (sets : Bool) (b : GraphParts) (back : IsBackward g flags sets b) where
   -- it comes to a node that prevents removal
   abbrev Leads : ℕ → Type 0
-  Leads x = (r : ℕ) × ComesTo g (x ∷ []) r × Prevents g flags sets r
+  Leads x = (r : ℕ) × IsReachedFrom g (x ∷ []) r × Prevents g flags sets r
 
   -- what a child comes to
-  from_child : (x q r : ℕ) → In q (children_of g x) → ComesTo g (q ∷ []) r → ComesTo g (x ∷ []) r
-  from_child x q r child c = Reached-least (λ p. In p (q ∷ [])) (HasChild g) (ComesTo g (x ∷ []))
+  from_child : (x q r : ℕ) → In q (children_of g x) → IsReachedFrom g (q ∷ []) r → IsReachedFrom g (x ∷ []) r
+  from_child x q r child c = Reached-least (λ p. In p (q ∷ [])) (HasChild g) (IsReachedFrom g (x ∷ []))
       (λ y h. elim h [
-        | inl e ↦ subst (ComesTo g (x ∷ [])) (sym e)
+        | inl e ↦ subst (IsReachedFrom g (x ∷ [])) (sym e)
             (Reached-step (λ p. In p (x ∷ [])) (HasChild g) x q
             (Reached-root (λ p. In p (x ∷ [])) (HasChild g) x (inl refl)) child)
         | inr none ↦ absurd none
@@ -35,10 +35,10 @@ module _ (g : GraphParts) (flags : List Bool) (sets : Bool) (b : GraphParts) (ba
       (λ y z d l. Reached-step (λ p. In p (x ∷ [])) (HasChild g) y z d l) r c
 
   -- what one of some nodes comes to
-  from_one : (starts : List ℕ) (x r : ℕ) → In x starts → ComesTo g (x ∷ []) r → ComesTo g starts r
-  from_one starts x r i c = Reached-least (λ p. In p (x ∷ [])) (HasChild g) (ComesTo g starts)
+  from_one : (starts : List ℕ) (x r : ℕ) → In x starts → IsReachedFrom g (x ∷ []) r → IsReachedFrom g starts r
+  from_one starts x r i c = Reached-least (λ p. In p (x ∷ [])) (HasChild g) (IsReachedFrom g starts)
       (λ y h. elim h [
-        | inl e ↦ subst (ComesTo g starts) (sym e)
+        | inl e ↦ subst (IsReachedFrom g starts) (sym e)
             (Reached-root (λ p. In p starts) (HasChild g) x i)
         | inr none ↦ absurd none
       ])
@@ -62,7 +62,7 @@ module _ (g : GraphParts) (flags : List Bool) (sets : Bool) (b : GraphParts) (ba
       (λ y h. (y, Reached-root (λ p. In p (y ∷ [])) (HasChild g) y (inl refl), ((back.roots y).0 h).1))
       (λ q y l j. justified q y j l) x d
 
-  pub leads : (starts : List ℕ) → ((x : ℕ) × In x starts × Least b x) → (r : ℕ) × ComesTo g starts r
+  pub leads : (starts : List ℕ) → ((x : ℕ) × In x starts × Least b x) → (r : ℕ) × IsReachedFrom g starts r
       × Prevents g flags sets r
   leads starts t = let l = marked-leads t.0 t.2 in (l.0, from_one starts t.0 l.0 t.1 l.1, l.2)
 
@@ -72,7 +72,7 @@ module _ (g : GraphParts) (flags : List Bool) (sets : Bool) (b : GraphParts) (ba
   prevents-below a f r (inr h) = omega (arith, IsSet-below flags r h.1, f)
 
   pub led : length g.finalised ≡ node_count g → length flags ≡ node_count g → (starts : List ℕ)
-      → ((r : ℕ) × ComesTo g starts r × Prevents g flags sets r) → (x : ℕ) × In x starts × Least b x
+      → ((r : ℕ) × IsReachedFrom g starts r × Prevents g flags sets r) → (x : ℕ) × In x starts × Least b x
   led a f starts t =
       Reached-least (λ p. In p starts) (HasChild g) (λ y. Least b y → (x : ℕ) × In x starts × Least b x)
       (λ y i d. (y, i, d))

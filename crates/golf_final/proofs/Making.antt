@@ -1,5 +1,5 @@
 -- The graph that is gone through backwards.
--- For: `backward`, src/keeping.rt; `IsBackward`, specs/Backward.antt
+-- For: `backward`, src/keep_rule.rt; `IsBackward`, specs/Backward.antt
 -- By: putting the facts of the rows together; no induction
 use Rattle.std.proofs.Common.{◌≡◌, ℕ, ◌<◌, Bool, List, [], length, sym, ap, ◌∙◌, subst, arith}
 use Rattle.std.specs.Prelude.{◌↔◌}
@@ -11,7 +11,7 @@ use Rattle.golf_model.specs.declared.graph.GraphParts.{GraphParts}
 use Rattle.golf_model.specs.Sleepers.{Sleeper}
 use Rattle.golf_model.specs.Graph.{node_count, children_of, AreNodes, IsInRange}
 use Rattle.golf_rows.specs.Rows.{row_of, IsInverseBelow}
-use Rattle.golf_final.specs.Keeping.{Prevents}
+use Rattle.golf_final.specs.KeepRule.{Prevents}
 use Rattle.golf_final.specs.Backward.{HasNumbers, IsBackward}
 use Rattle.golf_final.proofs.Parts.{rows-below}
 

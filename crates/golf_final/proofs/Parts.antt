@@ -1,5 +1,5 @@
 -- Numbers from 0, flags and rows.
--- For: `count_up`, `preventing` and `keeps`, src/keeping.rt
+-- For: `count_up`, `preventing` and `keeps`, src/keep_rule.rt
 -- By: induction over n, the numbers that are counted, and over the list of rows
 use Rattle.std.proofs.Common.{◌≡◌, ℕ, zero, suc, ◌+◌, ◌<◌, inl, inr, Bool, false, List, [], ◌∷◌, ◌++◌, length, get_or}
 use Rattle.std.proofs.Common.{refl, sym, ap, ◌∙◌, subst, arith}
@@ -45,7 +45,7 @@ pub rows-below : (b : ℕ) (rows : List (List ℕ)) → ((n p : ℕ) → In p (r
 rows-below b [] h = tt
 rows-below b (row ∷ rows) h = (Every-from (λ p. p < b) row (h 0), rows-below b rows (λ n p i. h (suc n) p i))
 
--- one more node that passes the test
+-- one more node that satisfies the test
 pub more-members : (P : ℕ → Type 0) (xs : List ℕ) (n : ℕ) → P n → ((p : ℕ) → In p xs ↔ ((p < n) × P p)) → (p : ℕ)
     → In p (xs ++ n ∷ []) ↔ ((p < n + 1) × P p)
 more-members P xs n h all p = (

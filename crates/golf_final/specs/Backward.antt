@@ -4,7 +4,7 @@ use Rattle.golf_theory.specs.Membership.{In}
 use Rattle.golf_base.specs.declared.ids.ObjectId.{ObjectId}
 use Rattle.golf_model.specs.declared.graph.GraphParts.{GraphParts}
 use Rattle.golf_model.specs.Graph.{node_count, children_of, NumbersRise}
-use Rattle.golf_final.specs.Keeping.{Prevents}
+use Rattle.golf_final.specs.KeepRule.{Prevents}
 
 -- `many` numbers, which rise from `first`
 pub record HasNumbers (first many : ℕ) (numbers : List ObjectId) : Type 0 where

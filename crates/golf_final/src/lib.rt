@@ -4,10 +4,10 @@
 //! - `queue_finalisers`: moves the finalisers of unreached objects to the finaliser queue.
 #![tactic(auto)]
 
-mod keeping;
+mod finaliser_queue;
+mod keep_rule;
 mod laws;
-mod queueing;
 
-pub use keeping::keeps;
+pub use finaliser_queue::queue_finalisers;
+pub use keep_rule::keeps;
 pub use laws::keeps_law;
-pub use queueing::queue_finalisers;

@@ -1,5 +1,5 @@
 -- A new hand fits its pool; all hands push at most as often as each may.
--- For: `new`, src/opening.rt; `close`, src/pool.rt; `IsHandIn`, specs/Hands.antt
+-- For: `new`, src/new_pools.rt; `close`, src/pool.rt; `IsHandIn`, specs/Hands.antt
 -- By: the parts of the hand, and arithmetic; no induction
 use Rattle.std.proofs.Common.{◌≡◌, [], ◌∷◌, ℕ, ◌-◌, ◌<◌, ◌≤◌, List, length, refl, sym, ap, subst, arith}
 use Rattle.std.specs.Prelude.{sum_by, ◌*◌, vec_capacity}

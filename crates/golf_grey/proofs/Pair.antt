@@ -1,5 +1,5 @@
 -- The hands of a pool of two have the numbers 0 and 1, and two hands of different numbers are all.
--- For: `two_hands` and `end`, golf_tests_collector/src/hands.rt
+-- For: `two_hands` and `end`, golf_tests_collector/src/marking/hands.rt
 -- By: cases of how many hands there are; no induction
 use Rattle.std.proofs.Common.{◌≡◌, ◌≢◌, ℕ, zero, suc, true, false, eqb, List, [], ◌∷◌, length, get_or, refl, sym, ap}
 use Rattle.std.proofs.Common.{◌∙◌, subst, arith, ⊎_elim}

@@ -10,8 +10,9 @@ use lib.ListN.{get_elem?}
 use Rattle.crossbeam_deque.specs.Tasks.{Pushes, Takes, Finds, FindsFew, Forks, Merges}
 use Rattle.crossbeam_deque.proofs.Lists.{at_set, at_snoc}
 use Rattle.golf_grey.specs.declared.rule.GreyView.{GreyView}
-use Rattle.golf_grey.specs.Rule.{grey, all_parts, unbound, first_view, AllBelow, count, BalancedAt, Balanced, Pushed}
-use Rattle.golf_grey.specs.Rule.{Taken, head_of, second_of, Named, WasEmpty, IsEven, left_view, right_view, both_views}
+use Rattle.golf_grey.specs.Rule.{grey, all_parts, unbound, first_view, PlacesBelow, count, BalancedAt, Balanced, Pushed}
+use Rattle.golf_grey.specs.Rule.{TakesPlaces, head_of, second_of, Named, WasEmpty, IsEven, left_view, right_view}
+use Rattle.golf_grey.specs.Rule.{both_views}
 use Rattle.golf_grey.specs.Rule.{spent_view}
 use Rattle.golf_theory.proofs.Sums.{total_set, total_at, total_alone, total_length}
 
@@ -37,19 +38,19 @@ each_snoc : (P : GreyView → Type 0) (views : List GreyView) (w : GreyView) →
 each_snoc P views w mine all k v e = ⊎_elim (λ (was : get_elem? views k ≡ some v). all k v was)
     (λ (same : w ≡ v). subst P same mine) (at_snoc views w v k e)
 
-below_both : (n : ℕ) (xs ys : List ℕ) → AllBelow n xs → AllBelow n ys → AllBelow n (xs ++ ys)
+below_both : (n : ℕ) (xs ys : List ℕ) → PlacesBelow n xs → PlacesBelow n ys → PlacesBelow n (xs ++ ys)
 below_both n [] ys a b = b
 below_both n (x ∷ xs) ys a b = (a.0, below_both n xs ys a.1 b)
 
-below_left : (n : ℕ) (xs ys : List ℕ) → AllBelow n (xs ++ ys) → AllBelow n xs
+below_left : (n : ℕ) (xs ys : List ℕ) → PlacesBelow n (xs ++ ys) → PlacesBelow n xs
 below_left n [] ys a = tt
 below_left n (x ∷ xs) ys a = (a.0, below_left n xs ys a.1)
 
-below_right : (n : ℕ) (xs ys : List ℕ) → AllBelow n (xs ++ ys) → AllBelow n ys
+below_right : (n : ℕ) (xs ys : List ℕ) → PlacesBelow n (xs ++ ys) → PlacesBelow n ys
 below_right n [] ys a = a
 below_right n (x ∷ xs) ys a = below_right n xs ys a.1
 
-none_below : (n : ℕ) (xs : List ℕ) → length xs ≡ 0 → AllBelow n xs
+none_below : (n : ℕ) (xs : List ℕ) → length xs ≡ 0 → PlacesBelow n xs
 none_below n [] e = tt
 none_below n (x ∷ xs) e = absurd (omega arith)
 
@@ -96,7 +97,7 @@ module _ (places capacity : ℕ) (items more : List ℕ) (views : List GreyView)
   w = grey v.parts v.pushers v.places v.capacity pushed taken
 
   moved : IsSilent w → ((h : ℕ → ℕ) → sum_by h pushed + sum_by h v.taken + sum_by h items ≡ sum_by h v.pushed
-      + sum_by h taken + sum_by h more) → AllBelow places more
+      + sum_by h taken + sum_by h more) → PlacesBelow places more
       → sum_by (λ (u : GreyView). count u.pushed) (set views port w) ≤ capacity
       → BalancedAt places capacity more (set views port w)
   moved silent balance low few = record {
@@ -116,7 +117,7 @@ module _ (places capacity : ℕ) (items more : List ℕ) (views : List GreyView)
     few = few;
   }
 
-pub pushes : (port : ℕ) (v : GreyView) (xs : List ℕ) → 0 < v.parts → v.pushers ≡ 1 → AllBelow v.places xs
+pub pushes : (port : ℕ) (v : GreyView) (xs : List ℕ) → 0 < v.parts → v.pushers ≡ 1 → PlacesBelow v.places xs
     → length v.pushed + length xs ≤ v.capacity → Pushes Balanced port v xs (Pushed v xs)
 pushes port v xs live one below fits items views b at =
     let w : GreyView = grey v.parts v.pushers v.places v.capacity (v.pushed ++ xs) v.taken in
@@ -129,7 +130,7 @@ pushes port v xs live one below fits items views b at =
         moved b.0 b.1 items (items ++ xs) views port v s at live (v.pushed ++ xs) v.taken
             (λ none. absurd (omega arith))
             (λ h. omega (arith, sum_by-append h v.pushed xs, sum_by-append h items xs))
-            (below_both b.0 items xs s.low (subst (λ (n : ℕ). AllBelow n xs) mine.0 below))
+            (below_both b.0 items xs s.low (subst (λ (n : ℕ). PlacesBelow n xs) mine.0 below))
             (omega (
               arith,
               total_set (λ (u : GreyView). count u.pushed) views port v w at,
@@ -161,7 +162,7 @@ pushed_alone h items views port v b at all =
       alone (λ (u : GreyView). sum_by h u.taken) items views port v b at all (λ u p t. ap (sum_by h) t),
     )
 
-pub takes : (port : ℕ) (v : GreyView) → 0 < v.parts → Takes Balanced port v 1 (Taken v)
+pub takes : (port : ℕ) (v : GreyView) → 0 < v.parts → Takes Balanced port v 1 (TakesPlaces v)
 takes port v live xs items views _ _ b at =
     let w : GreyView = grey v.parts v.pushers v.places v.capacity v.pushed (v.taken ++ xs) in
     let s = b.2 in
@@ -178,7 +179,7 @@ takes port v live xs items views _ _ b at =
       ),
       record {
         view = refl;
-        low = subst (λ (n : ℕ). AllBelow n xs) (sym mine.0) (below_left b.0 xs items s.low);
+        low = subst (λ (n : ℕ). PlacesBelow n xs) (sym mine.0) (below_left b.0 xs items s.low);
         few = omega (
           arith,
           s.balance (λ _. 1),

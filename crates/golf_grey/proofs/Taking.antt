@@ -1,5 +1,5 @@
 -- One more hand is taken out of a list, and taken apart.
--- For: `take_apart`, src/drain.rt; `new`, src/opening.rt
+-- For: `take_apart`, src/drain.rt; `new`, src/new_pools.rt
 -- By: cases of whether a hand is the one that is taken apart; of a list without an item, induction over the list
 use Rattle.std.proofs.Common.{◌≡◌, ◌≢◌, ℕ, zero, suc, ◌+◌, ◌-◌, ◌<◌, List, [], ◌∷◌, ◌++◌, length, length-append, get_or}
 use Rattle.std.proofs.Common.{refl, sym, ap, ◌∙◌, subst, arith, ⊎_elim}

@@ -22,8 +22,8 @@ abbrev pub first_view : GreyView
 first_view = grey all_parts 1 unbound unbound [] []
 
 -- all places are below this number
-abbrev pub AllBelow : ℕ → List ℕ → Type 0
-AllBelow places xs = Every (λ x. x < places) xs
+abbrev pub PlacesBelow : ℕ → List ℕ → Type 0
+PlacesBelow places xs = Every (λ x. x < places) xs
 
 -- the number of places
 abbrev pub count : List ℕ → ℕ
@@ -41,7 +41,7 @@ pub record BalancedAt (places capacity : ℕ) (items : List ℕ) (views : List G
   pub silent : (k : ℕ) (v : GreyView) → get_elem? views k ≡ some v → v.pushers ≡ 0 → v.pushed ≡ []
   pub same : (k : ℕ) (v : GreyView) → get_elem? views k ≡ some v → 0 < v.parts → (v.places ≡ places)
       × (v.capacity ≡ capacity)
-  pub low : AllBelow places items
+  pub low : PlacesBelow places items
   pub few : sum_by (λ v. count v.pushed) views ≤ capacity
 
 abbrev pub Balanced : List ℕ → List GreyView → Type 0
@@ -53,9 +53,9 @@ pub record Pushed (v : GreyView) (xs : List ℕ) (w : GreyView) : Type 0 where
 
 -- A take adds its places to those that were taken. They are below the bound, and all takes are at most the capacity. A
 -- view with all parts has taken at most as many places as were pushed.
-pub record Taken (v : GreyView) (xs : List ℕ) (w : GreyView) : Type 0 where
+pub record TakesPlaces (v : GreyView) (xs : List ℕ) (w : GreyView) : Type 0 where
   pub view : w ≡ grey v.parts v.pushers v.places v.capacity v.pushed (v.taken ++ xs)
-  pub low : AllBelow v.places xs
+  pub low : PlacesBelow v.places xs
   pub few : length (v.taken ++ xs) ≤ v.capacity
   pub bound : v.parts ≡ all_parts → length (v.taken ++ xs) ≤ length v.pushed
 

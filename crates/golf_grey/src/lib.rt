@@ -10,7 +10,7 @@ mod hand;
 mod laws;
 mod made;
 mod named;
-mod opening;
+mod new_pools;
 mod pool;
 mod rule;
 mod steal;

@@ -47,9 +47,9 @@ impl Outcome<u32, GreyView> for Push {
 pub struct Take;
 
 impl Outcome<u32, GreyView> for Take {
-    ghost use Rattle.golf_grey.specs.Rule.{Taken, WasEmpty};
+    ghost use Rattle.golf_grey.specs.Rule.{TakesPlaces, WasEmpty};
 
-    ghost then = { λ v xs w. Taken v xs w };
+    ghost then = { λ v xs w. TakesPlaces v xs w };
 
     ghost empty = { WasEmpty };
 }

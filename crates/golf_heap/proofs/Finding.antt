@@ -13,7 +13,7 @@ use Rattle.golf_data.specs.declared.value.Object.{Object}
 use Rattle.golf_theory.specs.Maps.{find, Rises}
 use Rattle.golf_heap.specs.declared.places.ObjectKey.{ObjectKey}
 use Rattle.golf_heap.specs.Objects.{rank}
-use Rattle.golf_heap.specs.Kept.{keyed, gathered, object_in, Holds}
+use Rattle.golf_heap.specs.Kept.{keyed, gathered, object_in, HoldsPlaces}
 use Rattle.golf_heap.proofs.Ranks.{at_key, find-rank}
 use Rattle.golf_heap.proofs.Gathering.{Slots, full, find-gathered, held-at, Rises-keyed}
 
@@ -56,7 +56,7 @@ found-at s ps k key e f g = sym (find-gathered s k ps ∙ ap (option_map (λ n. 
 pub found-none : (s : Slots) (ps : List ObjectKey) (k : ℕ) → None ≡ find k (keyed ps) → None ≡ find k (gathered s ps)
 found-none s ps k f = sym (find-gathered s k ps ∙ ap (option_map (λ n. object_in (get s n))) (sym f))
 
-pub never-empty : (s : Slots) (ps : List ObjectKey) (k key : ℕ) → Holds s ps → Some key ≡ find k (keyed ps)
+pub never-empty : (s : Slots) (ps : List ObjectKey) (k key : ℕ) → HoldsPlaces s ps → Some key ≡ find k (keyed ps)
     → None ≡ get s key → ⊥
 never-empty s ps k key h f g = let q = held-at s k key ps h (sym f) in cc
 
@@ -83,7 +83,7 @@ pub present : (s : Slots) (ps : List ObjectKey) (k i : ℕ) → Rises 1 (keyed p
 present s ps k i r e h = with_key k (slice_get ps i)
     (ap is_some (sym (find-keyed k i ps (slice_get ps i) r e refl)) ∙ some-keyed s ps k h)
 
-pub slot-of : (s : Slots) (ps : List ObjectKey) (i : ℕ) (p : ObjectKey) → Holds s ps → slice_get ps i ≡ Some p
+pub slot-of : (s : Slots) (ps : List ObjectKey) (i : ℕ) (p : ObjectKey) → HoldsPlaces s ps → slice_get ps i ≡ Some p
     → (x : Object)
     × (get s p.key ≡ Some (p.number, x))
 slot-of s [] i p h at = absurd (cc)

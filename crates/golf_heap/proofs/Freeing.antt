@@ -13,7 +13,7 @@ use Rattle.golf_data.specs.declared.value.Object.{Object}
 use Rattle.golf_theory.specs.Maps.{Rises}
 use Rattle.golf_heap.specs.declared.places.ObjectKey.{ObjectKey}
 use Rattle.golf_heap.specs.Objects.{kept}
-use Rattle.golf_heap.specs.Kept.{keyed, gathered, object_in, IsOf, Holds}
+use Rattle.golf_heap.specs.Kept.{keyed, gathered, object_in, IsObjectOf, HoldsPlaces}
 use Rattle.golf_heap.proofs.Gathering.{Slots}
 use Rattle.golf_heap.proofs.Order.{apart}
 
@@ -37,7 +37,7 @@ other keep at i f (inr t) = λ same. cc
 pub record Empties (s now after : Slots) (ps : List ObjectKey) (keep : List Bool) (j at : ℕ)
     (d : ObjectKey) : Type 0 where
   pub rises : Rises j (keyed ps)
-  pub held : Holds s ps
+  pub held : HoldsPlaces s ps
   pub within : at < length ps
   pub flag : get_or keep at false ≡ false
   pub updates : Updates now after (get_or ps at d).key None
@@ -72,15 +72,16 @@ gathered-kept s now (b ∷ bs) (x ∷ ps) p =
       | false ↦ λ t. more
     ] refl
 
-pub Holds-kept : (s now : Slots) (keep : List Bool) (ps : List ObjectKey)
+pub HoldsPlaces-kept : (s now : Slots) (keep : List Bool) (ps : List ObjectKey)
     → ((i : ℕ) (d : ObjectKey) → i < length ps → get_or keep i false ≡ true
-    → get now (get_or ps i d).key ≡ get s (get_or ps i d).key) → Holds s ps → Holds now (kept keep ps)
-Holds-kept s now [] ps p h = tt
-Holds-kept s now (b ∷ bs) [] p h = tt
-Holds-kept s now (b ∷ bs) (x ∷ ps) p h =
-    let more : Holds now (kept bs ps) = Holds-kept s now bs ps (λ i d l t. p (suc i) d (omega arith) t) h.1 in
-    elim b as (λ t. b ≡ t → Holds now (cond t (x ∷ kept bs ps) (kept bs ps))) [
-      | true ↦ λ t. (subst (IsOf x.number) (sym (p 0 x (omega arith) t)) h.0, more)
+    → get now (get_or ps i d).key ≡ get s (get_or ps i d).key) → HoldsPlaces s ps → HoldsPlaces now (kept keep ps)
+HoldsPlaces-kept s now [] ps p h = tt
+HoldsPlaces-kept s now (b ∷ bs) [] p h = tt
+HoldsPlaces-kept s now (b ∷ bs) (x ∷ ps) p h =
+    let more : HoldsPlaces now (kept bs ps) =
+    HoldsPlaces-kept s now bs ps (λ i d l t. p (suc i) d (omega arith) t) h.1 in
+    elim b as (λ t. b ≡ t → HoldsPlaces now (cond t (x ∷ kept bs ps) (kept bs ps))) [
+      | true ↦ λ t. (subst (IsObjectOf x.number) (sym (p 0 x (omega arith) t)) h.0, more)
       | false ↦ λ t. more
     ] refl
 
@@ -146,7 +147,7 @@ skipped_more {X} keep now all count at l same f e =
     ∙ ap (λ (z : List X). take count now ++ z) (sym (kept_more keep now at false d l (sym same) f))
     ∙ e
 
-pub is-filled : (k : ℕ) (o : Option (ℕ × Object)) → IsOf k o → IsSome o
+pub is-filled : (k : ℕ) (o : Option (ℕ × Object)) → IsObjectOf k o → IsSome o
 is-filled k None h = absurd h
 is-filled k (Some e) h = refl
 

@@ -1,5 +1,5 @@
 -- The objects of a slab as a map by number, by the places of their numbers.
--- For: `gathered`, `Holds` (golf_heap/specs/Kept.antt)
+-- For: `gathered`, `HoldsPlaces` (golf_heap/specs/Kept.antt)
 -- By: induction over the list of places
 use Rattle.std.proofs.Common.{◌≡◌, ◌≢◌, ℕ, suc, true, false, cond, List, [], ◌∷◌, ◌++◌, length, Option, Some, None}
 use Rattle.std.proofs.Common.{◌==◌, nat_lt, refl, sym, ap, ◌∙◌, option_map, subst}
@@ -9,7 +9,7 @@ use Rattle.golf_data.specs.declared.value.Object.{Object}
 use Rattle.golf_theory.specs.Maps.{find, Rises}
 use Rattle.golf_heap.specs.declared.places.ObjectKey.{ObjectKey}
 use Rattle.golf_heap.specs.Objects.{rank}
-use Rattle.golf_heap.specs.Kept.{keyed, gathered, object_in, IsOf, Holds}
+use Rattle.golf_heap.specs.Kept.{keyed, gathered, object_in, IsObjectOf, HoldsPlaces}
 
 abbrev pub Slots : Type 0
 Slots = Slab (ℕ × Object)
@@ -44,12 +44,13 @@ find-gathered s k (p ∷ ps) = elim (k == p.number) as (λ b. cond b (Some (obje
       | false ↦ find-gathered s k ps
     ]
 
-pub full : (k : ℕ) (o : Option (ℕ × Object)) → IsOf k o → (x : Object) × (o ≡ Some (k, x))
+pub full : (k : ℕ) (o : Option (ℕ × Object)) → IsObjectOf k o → (x : Object) × (o ≡ Some (k, x))
 full k None h = absurd h
 full k (Some e) h = (e.1, ap (λ n. Some (n, e.1)) h)
 
 -- the slot of a number that has a key
-pub held-at : (s : Slots) (k key : ℕ) (ps : List ObjectKey) → Holds s ps → find k (keyed ps) ≡ Some key → (x : Object)
+pub held-at : (s : Slots) (k key : ℕ) (ps : List ObjectKey) → HoldsPlaces s ps → find k (keyed ps) ≡ Some key
+    → (x : Object)
     × (get s key ≡ Some (k, x))
 held-at s k key [] h f = absurd (cc)
 held-at s k key (p ∷ ps) h f = elim (k == p.number) as (λ b. k == p.number ≡ b
@@ -62,11 +63,12 @@ held-at s k key (p ∷ ps) h f = elim (k == p.number) as (λ b. k == p.number �
       | false ↦ λ t e. held-at s k key ps h.1 e
     ] refl f
 
-vacant : (s : Slots) (k key at : ℕ) → IsOf k (get s at) → get s key ≡ None → at ≢ key
-vacant s k key at h n = λ same. subst (IsOf k) (ap (get s) same ∙ n) h
+vacant : (s : Slots) (k key at : ℕ) → IsObjectOf k (get s at) → get s key ≡ None → at ≢ key
+vacant s k key at h n = λ same. subst (IsObjectOf k) (ap (get s) same ∙ n) h
 
 -- one more place, whose key was vacant
-pub gathered-added : (s after : Slots) (key n : ℕ) (x : Object) (ps : List ObjectKey) → Holds s ps → get s key ≡ None
+pub gathered-added : (s after : Slots) (key n : ℕ) (x : Object) (ps : List ObjectKey) → HoldsPlaces s ps
+    → get s key ≡ None
     → Updates s after key (Some (n, x)) → gathered after (ps ++ record { number = n; key = key } ∷ []) ≡ gathered s ps
     ++ (n, x) ∷ []
 gathered-added s after key n x [] h v u = ap (λ o. (n, object_in o) ∷ []) u.changed
@@ -76,12 +78,13 @@ gathered-added s after key n x (p ∷ ps) h v u =
     ∙ ap (λ (es : List (ℕ × Object)). (p.number, object_in (get s p.key)) ∷ es)
     (gathered-added s after key n x ps h.1 v u)
 
-pub Holds-added : (s after : Slots) (key n : ℕ) (x : Object) (ps : List ObjectKey) → Holds s ps → get s key ≡ None
-    → Updates s after key (Some (n, x)) → Holds after (ps ++ record { number = n; key = key } ∷ [])
-Holds-added s after key n x [] h v u = (subst (IsOf n) (sym u.changed) refl, tt)
-Holds-added s after key n x (p ∷ ps) h v u = (
-  subst (IsOf p.number) (sym (u.others p.key (vacant s p.number key p.key h.0 v))) h.0,
-  Holds-added s after key n x ps h.1 v u,
+pub HoldsPlaces-added : (s after : Slots) (key n : ℕ) (x : Object) (ps : List ObjectKey) → HoldsPlaces s ps
+    → get s key ≡ None
+    → Updates s after key (Some (n, x)) → HoldsPlaces after (ps ++ record { number = n; key = key } ∷ [])
+HoldsPlaces-added s after key n x [] h v u = (subst (IsObjectOf n) (sym u.changed) refl, tt)
+HoldsPlaces-added s after key n x (p ∷ ps) h v u = (
+  subst (IsObjectOf p.number) (sym (u.others p.key (vacant s p.number key p.key h.0 v))) h.0,
+  HoldsPlaces-added s after key n x ps h.1 v u,
 )
 
 -- slabs with the same values hold the same objects
@@ -92,7 +95,9 @@ gathered-same s after (p ∷ ps) same =
     ap (λ o. (p.number, object_in o) ∷ gathered after ps) (same p.key)
     ∙ ap (λ (es : List (ℕ × Object)). (p.number, object_in (get s p.key)) ∷ es) (gathered-same s after ps same)
 
-pub Holds-same : (s after : Slots) (ps : List ObjectKey) → ((key : ℕ) → get after key ≡ get s key) → Holds s ps
-    → Holds after ps
-Holds-same s after [] same h = tt
-Holds-same s after (p ∷ ps) same h = (subst (IsOf p.number) (sym (same p.key)) h.0, Holds-same s after ps same h.1)
+pub HoldsPlaces-same : (s after : Slots) (ps : List ObjectKey) → ((key : ℕ) → get after key ≡ get s key)
+    → HoldsPlaces s ps
+    → HoldsPlaces after ps
+HoldsPlaces-same s after [] same h = tt
+HoldsPlaces-same s after (p ∷ ps) same h =
+    (subst (IsObjectOf p.number) (sym (same p.key)) h.0, HoldsPlaces-same s after ps same h.1)

@@ -9,7 +9,7 @@ use Rattle.slab.specs.Slab.{get}
 use Rattle.golf_data.specs.declared.value.Object.{Object}
 use Rattle.golf_theory.specs.Maps.{Rises, keys}
 use Rattle.golf_heap.specs.declared.places.ObjectKey.{ObjectKey}
-use Rattle.golf_heap.specs.Kept.{keyed, gathered, IsOf, Holds}
+use Rattle.golf_heap.specs.Kept.{keyed, gathered, IsObjectOf, HoldsPlaces}
 use Rattle.golf_heap.specs.Objects.{rank}
 use Rattle.golf_heap.proofs.Ranks.{sorted, rank-is}
 use Rattle.golf_heap.proofs.Gathering.{Slots, length-keyed}
@@ -40,23 +40,23 @@ strict j (p ∷ ps) zero (suc n) d r l h = let a = above (suc p.number) ps n d r
 strict j (p ∷ ps) (suc m) (suc n) d r l h = strict (suc p.number) ps m n d r.1 (omega arith) (omega arith)
 
 -- the slot of the place has its number
-pub held-index : (s : Slots) (ps : List ObjectKey) (i : ℕ) (d : ObjectKey) → Holds s ps → i < length ps
-    → IsOf (get_or ps i d).number (get s (get_or ps i d).key)
+pub held-index : (s : Slots) (ps : List ObjectKey) (i : ℕ) (d : ObjectKey) → HoldsPlaces s ps → i < length ps
+    → IsObjectOf (get_or ps i d).number (get s (get_or ps i d).key)
 held-index s [] i d h l = absurd (omega arith)
 held-index s (p ∷ ps) zero d h l = h.0
 held-index s (p ∷ ps) (suc i) d h l = held-index s ps i d h.1 (omega arith)
 
-one_number : (m n : ℕ) (o : Option (ℕ × Object)) → IsOf m o → IsOf n o → m ≡ n
+one_number : (m n : ℕ) (o : Option (ℕ × Object)) → IsObjectOf m o → IsObjectOf n o → m ≡ n
 one_number m n None a b = absurd a
 one_number m n (Some e) a b = sym a ∙ b
 
 -- different places have different keys
-pub apart : (s : Slots) (j : ℕ) (ps : List ObjectKey) (m n : ℕ) (d : ObjectKey) → Rises j (keyed ps) → Holds s ps
+pub apart : (s : Slots) (j : ℕ) (ps : List ObjectKey) (m n : ℕ) (d : ObjectKey) → Rises j (keyed ps) → HoldsPlaces s ps
     → m < length ps → n < length ps → m ≢ n → (get_or ps m d).key ≢ (get_or ps n d).key
 apart s j ps m n d r h a b differ = λ same.
     let one : (get_or ps m d).number ≡ (get_or ps n d).number =
     one_number (get_or ps m d).number (get_or ps n d).number (get s (get_or ps m d).key) (held-index s ps m d h a)
-    (subst (λ (k : ℕ). IsOf (get_or ps n d).number (get s k)) (sym same) (held-index s ps n d h b)) in
+    (subst (λ (k : ℕ). IsObjectOf (get_or ps n d).number (get s k)) (sym same) (held-index s ps n d h b)) in
     elim (less m n differ) [
       | inl l ↦ let t = strict j ps m n d r l b in omega (arith, t, one)
       | inr l ↦ let t = strict j ps n m d r l a in omega (arith, t, one)

@@ -6,8 +6,8 @@ use Rattle.slab.specs.Slab.{get, Updates, slab_len}
 use Rattle.golf_data.specs.declared.value.Object.{Object}
 use Rattle.golf_heap.specs.declared.places.ObjectKey.{ObjectKey}
 use Rattle.golf_heap.specs.Objects.{IsNumbered, made}
-use Rattle.golf_heap.specs.Kept.{gathered, Holds, IsStored}
-use Rattle.golf_heap.proofs.Gathering.{Slots, gathered-same, Holds-same, gathered-added, Holds-added}
+use Rattle.golf_heap.specs.Kept.{gathered, HoldsPlaces, IsStored}
+use Rattle.golf_heap.proofs.Gathering.{Slots, gathered-same, HoldsPlaces-same, gathered-added, HoldsPlaces-added}
 use Rattle.golf_heap.proofs.Numbers.{IsNumbered-made}
 
 pub IsStored-room : (s after : Slots) (ps : List ObjectKey) (last : ℕ) → after ≡ record s { capacity = after.capacity }
@@ -17,7 +17,7 @@ IsStored-room s after ps last e i =
     record {
       numbers = subst (λ (es : List (ℕ × Object)). IsNumbered (record { objects = es; last = last }))
           (sym (gathered-same s after ps same)) i.numbers;
-      held = Holds-same s after ps same i.held;
+      held = HoldsPlaces-same s after ps same i.held;
       only = ap (λ (z : Slots). slab_len z) e ∙ i.only;
     }
 
@@ -36,12 +36,12 @@ IsStored-made s after key n last x ps i put l = record {
       (sym (gathered-added s after key n x ps i.held put.vacant put.updates))
       (subst (λ (m : ℕ). IsNumbered (record { objects = gathered s ps ++ (m, x) ∷ []; last = m })) (sym put.number)
       (IsNumbered-made (record { objects = gathered s ps; last = last }) x i.numbers));
-  held = Holds-added s after key n x ps i.held put.vacant put.updates;
+  held = HoldsPlaces-added s after key n x ps i.held put.vacant put.updates;
   only = l ∙ omega (arith, i.only, length-append ps (record { number = n; key = key } ∷ []));
 }
 
 pub view-made : (s mid after : Slots) (key n last : ℕ) (x : Object) (ps : List ObjectKey)
-    → mid ≡ record s { capacity = mid.capacity } → Holds mid ps → IsPut mid after key n last x
+    → mid ≡ record s { capacity = mid.capacity } → HoldsPlaces mid ps → IsPut mid after key n last x
     → record { objects = gathered after (ps ++ record { number = n; key = key } ∷ []); last = n } ≡ made x
     (record { objects = gathered s ps; last = last })
 view-made s mid after key n last x ps room h put =

@@ -12,12 +12,12 @@ use Rattle.golf_theory.specs.Maps.{put, Rises}
 use Rattle.golf_theory.proofs.Placing.{put_below}
 use Rattle.golf_heap.specs.declared.places.ObjectKey.{ObjectKey}
 use Rattle.golf_heap.specs.Objects.{IsNumbered}
-use Rattle.golf_heap.specs.Kept.{keyed, gathered, object_in, IsOf, Holds, IsStored}
+use Rattle.golf_heap.specs.Kept.{keyed, gathered, object_in, IsObjectOf, HoldsPlaces, IsStored}
 use Rattle.golf_heap.proofs.Numbers.{IsNumbered-replaced}
 use Rattle.golf_heap.proofs.Gathering.{Slots, Rises-keyed, Rises-gathered}
 
-of : (k : ℕ) (o : Option (ℕ × Object)) (e : ℕ × Object) → IsOf k o → o ≡ Some e → e.0 ≡ k
-of k o e h g = subst (IsOf k) g h
+of : (k : ℕ) (o : Option (ℕ × Object)) (e : ℕ × Object) → IsObjectOf k o → o ≡ Some e → e.0 ≡ k
+of k o e h g = subst (IsObjectOf k) g h
 
 abbrev amount : {X : Type 0} → Option X → ℕ
 amount o = cond (is_some o) 1 0
@@ -50,7 +50,7 @@ pub record IsChanged (s after : Slots) (key : ℕ) (e : ℕ × Object) (slot : O
 -- places of greater numbers have other slots
 gathered-elsewhere : (j : ℕ) (s after : Slots) (key : ℕ) (e : ℕ × Object) (slot : Option (ℕ × Object))
     (ps : List ObjectKey)
-    → Rises j (keyed ps) → e.0 < j → Holds s ps → IsChanged s after key e slot → gathered after ps ≡ gathered s ps
+    → Rises j (keyed ps) → e.0 < j → HoldsPlaces s ps → IsChanged s after key e slot → gathered after ps ≡ gathered s ps
 gathered-elsewhere j s after key e slot [] r l h c = refl
 gathered-elsewhere j s after key e slot (q ∷ ps) r l h c =
     let differ : q.key ≢ key = λ same. let n =
@@ -61,7 +61,7 @@ gathered-elsewhere j s after key e slot (q ∷ ps) r l h c =
 
 -- the object of the place becomes another one
 pub gathered-written : {s after : Slots} {p : ObjectKey} {e : ℕ × Object} {w : Object} (j i : ℕ) (ps : List ObjectKey)
-    → Rises j (keyed ps) → Holds s ps → slice_get ps i ≡ Some p → IsChanged s after p.key e (Some (e.0, w))
+    → Rises j (keyed ps) → HoldsPlaces s ps → slice_get ps i ≡ Some p → IsChanged s after p.key e (Some (e.0, w))
     → gathered after ps ≡ put p.number w (gathered s ps)
 gathered-written j i [] r h at c = absurd (cc)
 gathered-written {s} {after} {p} {e} {w} j zero (q ∷ ps) r h at c =
@@ -88,10 +88,10 @@ gathered-written {s} {after} {p} {e} {w} j (suc i) (q ∷ ps) r h at c =
     ∙ ap (λ b. (q.number, cond b w (object_in (get s q.key))) ∷ put p.number w (gathered s ps))
     (sym (ne_eqb p.number q.number (λ t. omega (arith, t, l))))
   where
-    number_at : (i : ℕ) (ps : List ObjectKey) → Holds s ps → slice_get ps i ≡ Some p → e.0 ≡ p.number
+    number_at : (i : ℕ) (ps : List ObjectKey) → HoldsPlaces s ps → slice_get ps i ≡ Some p → e.0 ≡ p.number
     number_at i [] h at = absurd (cc)
     number_at zero (q ∷ ps) h at = let same : q ≡ p =
-        cc in of p.number (get s p.key) e (subst (λ (z : ObjectKey). IsOf z.number (get s z.key)) same h.0) c.was
+        cc in of p.number (get s p.key) e (subst (λ (z : ObjectKey). IsObjectOf z.number (get s z.key)) same h.0) c.was
     number_at (suc i) (q ∷ ps) h at = number_at i ps h.1 at
 
     less : (j i : ℕ) (ps : List ObjectKey) → Rises j (keyed ps) → slice_get ps i ≡ Some p → j ≤ p.number
@@ -99,14 +99,14 @@ gathered-written {s} {after} {p} {e} {w} j (suc i) (q ∷ ps) r h at c =
     less j zero (q ∷ ps) r at = let same : q ≡ p = cc in omega (arith, r.0, ap (λ (z : ObjectKey). z.number) same)
     less j (suc i) (q ∷ ps) r at = let t = less (suc q.number) i ps r.1 at in omega (arith, t, r.0)
 
-Holds-written : (s after : Slots) (key : ℕ) (e : ℕ × Object) (w : Object) (ps : List ObjectKey) → Holds s ps
-    → IsChanged s after key e (Some (e.0, w)) → Holds after ps
+Holds-written : (s after : Slots) (key : ℕ) (e : ℕ × Object) (w : Object) (ps : List ObjectKey) → HoldsPlaces s ps
+    → IsChanged s after key e (Some (e.0, w)) → HoldsPlaces after ps
 Holds-written s after key e w [] h c = tt
 Holds-written s after key e w (q ∷ ps) h c = (
   elim (cases_eq q.key key) [
-    | inl same ↦ subst (IsOf q.number) (sym (ap (get after) same ∙ c.updates.changed))
+    | inl same ↦ subst (IsObjectOf q.number) (sym (ap (get after) same ∙ c.updates.changed))
         (of q.number (get s q.key) e h.0 (ap (get s) same ∙ c.was))
-    | inr differ ↦ subst (IsOf q.number) (sym (c.updates.others q.key differ)) h.0
+    | inr differ ↦ subst (IsObjectOf q.number) (sym (c.updates.others q.key differ)) h.0
   ],
   Holds-written s after key e w ps h.1 c,
 )

@@ -20,17 +20,17 @@ gathered s [] = []
 gathered s (p ∷ ps) = (p.number, object_in (get s p.key)) ∷ gathered s ps
 
 -- the slot has an object of this number
-abbrev pub IsOf : ℕ → Option (ℕ × Object) → Type 0
-IsOf k None = ⊥
-IsOf k (Some e) = e.0 ≡ k
+abbrev pub IsObjectOf : ℕ → Option (ℕ × Object) → Type 0
+IsObjectOf k None = ⊥
+IsObjectOf k (Some e) = e.0 ≡ k
 
 -- the slot of each place has the place's number
-abbrev pub Holds : Slab (ℕ × Object) → List ObjectKey → Type 0
-Holds s [] = Unit {0}
-Holds s (p ∷ ps) = IsOf p.number (get s p.key) × Holds s ps
+abbrev pub HoldsPlaces : Slab (ℕ × Object) → List ObjectKey → Type 0
+HoldsPlaces s [] = Unit {0}
+HoldsPlaces s (p ∷ ps) = IsObjectOf p.number (get s p.key) × HoldsPlaces s ps
 
 -- the slab has the objects of these places, and no others
 pub record IsStored (s : Slab (ℕ × Object)) (ps : List ObjectKey) (last : ℕ) : Type 0 where
   pub numbers : IsNumbered (record { objects = gathered s ps; last = last })
-  pub held : Holds s ps
+  pub held : HoldsPlaces s ps
   pub only : slab_len s ≡ length ps

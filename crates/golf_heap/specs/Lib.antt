@@ -1,3 +1,3 @@
 pub mod Objects
 pub mod Kept
-pub mod Lending
+pub mod Loans

@@ -8,7 +8,7 @@ ghost use Rattle.std.specs.Prelude.{OnOk, OnErr};
 ghost use Rattle.std.specs.Borrow.{sem};
 ghost use Rattle.golf_theory.specs.Maps.{find, keys};
 ghost use Rattle.golf_heap.specs.Objects.{IsNumbered, made, replaced, kept, rank};
-ghost use Rattle.golf_heap.specs.Lending.{LendsObject};
+ghost use Rattle.golf_heap.specs.Loans.{LendsObject};
 
 use crate::places::{ObjectKey, close_up, free, key_of, rank_of};
 use golf_base::{Memory, ObjectId};

@@ -6,7 +6,7 @@ ghost use Rattle.std.specs.Prelude.{◌≡◌, ◌+◌, length, None, IfSome};
 ghost use Rattle.slab.specs.Slab.{slab_len, ContainsKey, Updates};
 ghost use Rattle.golf_theory.specs.Maps.{find, Rises};
 ghost use Rattle.golf_heap.specs.Objects.{kept, rank};
-ghost use Rattle.golf_heap.specs.Kept.{Holds, gathered, keyed};
+ghost use Rattle.golf_heap.specs.Kept.{HoldsPlaces, gathered, keyed};
 
 use golf_data::Object;
 use slab::Slab;
@@ -63,10 +63,10 @@ pub fn key_of(places: &[ObjectKey], number: u32) -> Option<usize>
 pub fn free(slots: &mut Slab<(u32, Object)>, places: &[ObjectKey], keep: &[bool])
     requires flags { length keep.now ≡ length places.now }
     requires rises { Rises 1 (keyed places.now) }
-    requires held { Holds slots.old places.now }
+    requires held { HoldsPlaces slots.old places.now }
     requires only { slab_len slots.old ≡ length places.now }
     ensures same { gathered slots.new (kept keep.now places.now) ≡ kept keep.now (gathered slots.old places.now) }
-    ensures held { Holds slots.new (kept keep.now places.now) }
+    ensures held { HoldsPlaces slots.new (kept keep.now places.now) }
     ensures only { slab_len slots.new ≡ length (kept keep.now places.now) }
 {
     let mut at = places.len();

@@ -13,7 +13,7 @@ use Rattle.golf_lex_tokens.specs.declared.token.TokenKind.TheVariants.{Punctuati
 use Rattle.golf_lex_tokens.specs.declared.token.Keyword.{Keyword}
 use Rattle.golf_lex_tokens.specs.declared.token.Punctuation.{Punctuation}
 use Rattle.golf_lex_tokens.specs.Bytes.{is_letter, is_digit, is_word_byte, is_blank, is_ordinary}
-use Rattle.golf_lex_tokens.specs.Spelling.{Part, Itself, Newline, Tab, Backslash, Quote, is_part, parts_text}
+use Rattle.golf_lex_tokens.specs.Spelling.{StringPart, Itself, Newline, Tab, Backslash, Quote, is_part, parts_text}
 use Rattle.golf_lex_tokens.specs.Spelling.{parts_bytes, keyword_text, punctuation_text, is_integer, Names, Quotes}
 use Rattle.golf_lex_tokens.specs.Lexemes.{Class, Blank, LineComment, GeneralComment, Of, Forms, is_nonzero}
 use Rattle.golf_lex.specs.declared.automaton.State.{State}
@@ -63,7 +63,7 @@ line-again (b ∷ bs) v = at (nat_eq b 0) (nat_eq b 10) v (λ w. line-again bs w
     at false true w again = absurd (cc)
     at false false w again = again w
 
-parts-again : (ps : List Part) → list_all is_part ps ≡ true
+parts-again : (ps : List StringPart) → list_all is_part ps ≡ true
     → grown states.Quoted (parts_text ps ++ 34 ∷ []) ≡ Some states.Text
 parts-again [] v = refl
 parts-again (Itself b ∷ ps) v =

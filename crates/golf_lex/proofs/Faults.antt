@@ -14,7 +14,7 @@ use Rattle.golf_lex.specs.declared.automaton.State.{State}
 use Rattle.golf_lex.specs.declared.automaton.State.TheVariants as states
 use Rattle.golf_lex.specs.declared.lexer.LexFault.{LexFault}
 use Rattle.golf_lex.specs.declared.lexer.LexFault.TheVariants.{At, Memory}
-use Rattle.golf_lex.specs.Answers.{Answers, Accepts, Refuses}
+use Rattle.golf_lex.specs.Answers.{Answers, AcceptsBytes, RefusesBytes}
 use Rattle.golf_lex.specs.Automaton.{is_complete, step, run}
 use Rattle.golf_lex.proofs.Loop.{run-more}
 use Rattle.golf_lex.proofs.Runs.{run-scans, scans-lexes, begins, stuck, fault-at, fault-end}
@@ -99,14 +99,14 @@ answers-fault bytes place fault e f = subst (λ x. Answers bytes (Err x)) (sym e
 
 -- a right answer accepts what lexes
 pub answers-accepts : (bytes : List ℕ) (result : Result (List Token) LexFault) → Answers bytes result
-    → Accepts bytes result
+    → AcceptsBytes bytes result
 answers-accepts bytes (Ok tokens) a = λ others l. inl (ap Ok (lexes-once bytes tokens others a l))
 answers-accepts bytes (Err (At line place)) a = λ tokens l. absurd (a.0.refused tokens l)
 answers-accepts bytes (Err Memory) a = λ tokens l. inr refl
 
 -- and refuses what does not
 pub answers-refuses : (bytes : List ℕ) (result : Result (List Token) LexFault) → Answers bytes result
-    → Refuses bytes result
+    → RefusesBytes bytes result
 answers-refuses bytes (Ok tokens) a = λ place f. absurd (f.refused tokens a)
 answers-refuses bytes (Err (At line place)) a = λ other f. inl (
     ap (λ n. Err (At n place)) a.1 ∙ ap (λ p. Err (At (line_at bytes p) p)) (faults-once bytes place other a.0 f))

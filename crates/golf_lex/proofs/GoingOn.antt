@@ -7,7 +7,8 @@ use Rattle.std.proofs.lemmas.Bool.{eqb-true}
 use Rattle.std.specs.Prelude.{Some, nat_eq}
 use Rattle.std.specs.List.{list_all}
 use Rattle.golf_lex_tokens.specs.Bytes.{is_letter, is_digit, is_word_byte, is_ordinary}
-use Rattle.golf_lex_tokens.specs.Spelling.{Part, Itself, Newline, Tab, Backslash, Quote, is_part, part_text, parts_text}
+use Rattle.golf_lex_tokens.specs.Spelling.{StringPart, Itself, Newline, Tab, Backslash, Quote, is_part, part_text}
+use Rattle.golf_lex_tokens.specs.Spelling.{parts_text}
 use Rattle.golf_lex_tokens.specs.Lexemes.{is_nonzero}
 use Rattle.golf_lex.specs.declared.automaton.State.{State}
 use Rattle.golf_lex.specs.declared.automaton.State.TheVariants as states
@@ -73,12 +74,13 @@ line_comments (b ∷ bs) last e = at (nat_eq b 0) (nat_eq b 10) (λ f. line_comm
 
 -- what a string goes on with, up to its closing quote
 pub record Closes (bs : List ℕ) : Type 0 where
-  pub parts : List Part
+  pub parts : List StringPart
   pub valid : list_all is_part parts ≡ true
   pub spelled : bs ≡ parts_text parts ++ 34 ∷ []
 
 -- a part in front
-closes-more : (p : Part) (front : List ℕ) (bs all : List ℕ) → is_part p ≡ true → all ≡ front ++ bs → front ≡ part_text p
+closes-more : (p : StringPart) (front : List ℕ) (bs all : List ℕ) → is_part p ≡ true → all ≡ front ++ bs
+    → front ≡ part_text p
     → Closes bs → Closes all
 closes-more p front bs all good e f c = record {
   parts = p ∷ c.parts;
@@ -88,11 +90,11 @@ closes-more p front bs all good e f c = record {
 }
 
 -- the part that a backslash and a byte are
-escape-part : (e : ℕ) → is_escape e ≡ true → (p : Part) × (part_text p ≡ 92 ∷ e ∷ []) × (is_part p ≡ true)
+escape-part : (e : ℕ) → is_escape e ≡ true → (p : StringPart) × (part_text p ≡ 92 ∷ e ∷ []) × (is_part p ≡ true)
 escape-part e h = at (nat_eq e 110) (nat_eq e 116) (nat_eq e 92) (nat_eq e 34) refl refl refl refl h
   where
     at : (n t s q : Bool) → nat_eq e 110 ≡ n → nat_eq e 116 ≡ t → nat_eq e 92 ≡ s → nat_eq e 34 ≡ q
-        → (n || t || s || q) ≡ true → (p : Part) × (part_text p ≡ 92 ∷ e ∷ []) × (is_part p ≡ true)
+        → (n || t || s || q) ≡ true → (p : StringPart) × (part_text p ≡ 92 ∷ e ∷ []) × (is_part p ≡ true)
     at true t s q en et es eq h = (Newline, ap (λ x. 92 ∷ x ∷ []) (sym (eqb-true e 110 en)), refl)
     at false true s q en et es eq h = (Tab, ap (λ x. 92 ∷ x ∷ []) (sym (eqb-true e 116 et)), refl)
     at false false true q en et es eq h = (Backslash, ap (λ x. 92 ∷ x ∷ []) (sym (eqb-true e 92 es)), refl)

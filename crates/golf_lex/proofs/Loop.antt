@@ -20,7 +20,7 @@ use Rattle.golf_lex.specs.declared.output.Output.{Output}
 use Rattle.golf_lex.specs.Automaton.{growth, begun, is_complete, step, run}
 use Rattle.golf_lex.specs.Output.{empty, read, moved, with_class, with_space, line_ended, line_ended_by, with_lexemes}
 use Rattle.golf_lex.specs.Output.{finished}
-use Rattle.golf_lex.specs.Scanning.{ended, behind, scan_by, scan}
+use Rattle.golf_lex.specs.LexemeScan.{ended, behind, scan_by, scan}
 use Rattle.golf_lex.proofs.Runs.{run-append, scans-lexes}
 use Rattle.golf_lex.proofs.Scans.{map-some}
 use Rattle.golf_lex.proofs.Whole.{class_at}

@@ -1,5 +1,5 @@
 -- Where the automaton stops is the fault.
--- For: `run`, golf_lex/specs/Automaton.antt; `scan`, golf_lex/specs/Scanning.antt.
+-- For: `run`, golf_lex/specs/Automaton.antt; `scan`, golf_lex/specs/LexemeScan.antt.
 -- By: induction over the bytes of the file.
 use Rattle.std.proofs.Common.{◌≡◌, ℕ, suc, ◌<◌, Bool, true, false, cond, List, [], ◌∷◌, ◌++◌, length, take, drop}
 use Rattle.std.proofs.Common.{get_or, refl, sym, ap, subst, ◌∙◌, arith}
@@ -10,14 +10,14 @@ use Rattle.std.proofs.lemmas.List.{take-append-drop}
 use Rattle.golf_lex_tokens.specs.declared.token.Token.{Token}
 use Rattle.golf_lex_tokens.specs.Lexemes.{Lexeme}
 use Rattle.golf_lex_tokens.specs.Semicolons.{tokens_of}
-use Rattle.golf_lex_tokens.specs.Lexes.{Lexes, Begins, IsFault}
+use Rattle.golf_lex_tokens.specs.Lexes.{Lexes, CanGoOn, IsFault}
 use Rattle.golf_lex_tokens.specs.declared.token.Punctuation.TheVariants as punctuations
 use Rattle.golf_lex.specs.declared.automaton.State.{State}
 use Rattle.golf_lex.specs.declared.automaton.State.TheVariants as states
 use Rattle.golf_lex.specs.declared.automaton.Growth.{Growth}
 use Rattle.golf_lex.specs.declared.automaton.Growth.TheVariants.{To, Over, Fault}
 use Rattle.golf_lex.specs.Automaton.{growth, begun, is_complete, step, step_by, run}
-use Rattle.golf_lex.specs.Scanning.{ended, behind, scan_by, scan}
+use Rattle.golf_lex.specs.LexemeScan.{ended, behind, scan_by, scan}
 use Rattle.golf_lex.proofs.Scans.{scan-cuts, cut-scans}
 
 pub run-append : (state : State) (xs ys : List ℕ)
@@ -135,7 +135,7 @@ lexes-runs : (bytes : List ℕ) (tokens : List Token) → Lexes bytes tokens →
 lexes-runs bytes tokens l = let s = lexes-scans bytes tokens l in scan-runs states.Blank [] bytes s.0 s.1
 
 -- bytes that run begin a text that lexes
-pub begins : (bytes : List ℕ) (state : State) → run states.Blank bytes ≡ Some state → Begins bytes
+pub begins : (bytes : List ℕ) (state : State) → run states.Blank bytes ≡ Some state → CanGoOn bytes
 begins bytes state e =
     let c = completes state in
     let more = completion state in

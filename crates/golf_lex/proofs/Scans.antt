@@ -1,5 +1,5 @@
 -- What is scanned is what lexes.
--- For: `scan`, golf_lex/specs/Scanning.antt; the law `lexes_once`, src/laws.rt.
+-- For: `scan`, golf_lex/specs/LexemeScan.antt; the law `lexes_once`, src/laws.rt.
 -- By: induction over the bytes, and over the list of lexemes.
 use Rattle.std.proofs.Common.{◌≡◌, ℕ, Bool, true, false, cond, List, [], ◌∷◌, ◌++◌, refl, sym, ap, subst, ◌∙◌}
 use Rattle.std.proofs.Common.{append_assoc, append-nil}
@@ -14,7 +14,7 @@ use Rattle.golf_lex.specs.declared.automaton.State.TheVariants as states
 use Rattle.golf_lex.specs.declared.automaton.Growth.{Growth}
 use Rattle.golf_lex.specs.declared.automaton.Growth.TheVariants.{To, Over, Fault}
 use Rattle.golf_lex.specs.Automaton.{growth, begun, is_complete}
-use Rattle.golf_lex.specs.Scanning.{ended, behind, scan_by, scan}
+use Rattle.golf_lex.specs.LexemeScan.{ended, behind, scan_by, scan}
 use Rattle.golf_lex.proofs.Growing.{to_only, grown, reached, reached-more}
 use Rattle.golf_lex.proofs.Whole.{class_at, ended-class, whole}
 use Rattle.golf_lex.proofs.Again.{IsRead, again}

@@ -13,7 +13,7 @@ use Rattle.golf_lex.specs.declared.words.TheConstants.{KEYWORDS}
 use Rattle.golf_lex.specs.declared.automaton.State.TheVariants as states
 use Rattle.golf_lex.proofs.Growing.{reached}
 
--- what is found passes the test
+-- what is found satisfies the test
 find-passes : {X : Type 0} (test : X → Bool) (xs : List X) (x : X) → find test xs ≡ Some x → test x ≡ true
 find-passes test [] x e = absurd (cc)
 find-passes test (y ∷ ys) x e = at (test y) refl (find-passes test ys x) e

@@ -1,5 +1,5 @@
 -- What the bytes of a whole lexeme are, by the state that they end in.
--- For: `Forms`, golf_lex_tokens/specs/Lexemes.antt; `ended`, golf_lex/specs/Scanning.antt.
+-- For: `Forms`, golf_lex_tokens/specs/Lexemes.antt; `ended`, golf_lex/specs/LexemeScan.antt.
 -- By: cases of the first byte and of the last state; induction over the parts of a string.
 use Rattle.std.proofs.Common.{◌≡◌, ℕ, Bool, true, false, cond, not, ◌&&◌, ◌||◌, List, [], ◌∷◌, ◌++◌, refl, sym, ap, ◌∙◌}
 use Rattle.std.proofs.Common.{subst, append-nil, arith}
@@ -13,7 +13,7 @@ use Rattle.golf_lex_tokens.specs.declared.token.Keyword.{Keyword}
 use Rattle.golf_lex_tokens.specs.declared.token.Punctuation.{Punctuation}
 use Rattle.golf_lex_tokens.specs.declared.token.Punctuation.TheVariants as punctuations
 use Rattle.golf_lex_tokens.specs.Bytes.{is_letter, is_digit, is_word_byte, is_blank, is_ordinary}
-use Rattle.golf_lex_tokens.specs.Spelling.{Part, Itself, Newline, Tab, Backslash, Quote, is_part, parts_text}
+use Rattle.golf_lex_tokens.specs.Spelling.{StringPart, Itself, Newline, Tab, Backslash, Quote, is_part, parts_text}
 use Rattle.golf_lex_tokens.specs.Spelling.{parts_bytes, punctuation_text, is_word, is_integer, Spells}
 use Rattle.golf_lex_tokens.specs.Lexemes.{Class, Blank, LineComment, GeneralComment, Of, Forms}
 use Rattle.golf_lex.specs.declared.automaton.State.{State}
@@ -23,7 +23,7 @@ use Rattle.golf_lex.specs.declared.automaton.Growth.TheVariants.{To, Over, Fault
 use Rattle.golf_lex.specs.Automaton.{growth, begun, begun_punctuation, is_complete, to_punctuation}
 use Rattle.golf_lex.specs.Words.{keyword_of, word_kind, word_kind_by}
 use Rattle.golf_lex.specs.Strings.{content_from}
-use Rattle.golf_lex.specs.Scanning.{ended}
+use Rattle.golf_lex.specs.LexemeScan.{ended}
 use Rattle.golf_lex.proofs.Growing.{to_only, grown, reached}
 use Rattle.golf_lex.proofs.GoingOn.{stays, words, digits, zeros, line_comments, strings, Closes}
 use Rattle.golf_lex.proofs.Comments.{comments}
@@ -100,7 +100,7 @@ ordinary-other b = at (nat_eq b 0) (nat_eq b 10) (nat_eq b 34) (nat_eq b 92)
     at false false false false e = (refl, refl)
 
 -- parts stand for their bytes
-pub content_from-parts : (ps : List Part) (rest : List ℕ) → list_all is_part ps ≡ true
+pub content_from-parts : (ps : List StringPart) (rest : List ℕ) → list_all is_part ps ≡ true
     → content_from false (parts_text ps ++ rest) ≡ parts_bytes ps ++ content_from false rest
 content_from-parts [] rest v = refl
 content_from-parts (Itself b ∷ ps) rest v =

@@ -12,10 +12,10 @@ Answers bytes (Err (At line byte)) = IsFault bytes byte × (line ≡ line_at byt
 Answers bytes (Err Memory) = Unit {0}
 
 -- if the bytes lex, the answer is their tokens, unless memory runs out
-abbrev pub Accepts : List ℕ → Result (List Token) LexFault → Type 0
-Accepts bytes result = (tokens : List Token) → Lexes bytes tokens → (result ≡ Ok tokens) ⊎ (result ≡ Err Memory)
+abbrev pub AcceptsBytes : List ℕ → Result (List Token) LexFault → Type 0
+AcceptsBytes bytes result = (tokens : List Token) → Lexes bytes tokens → (result ≡ Ok tokens) ⊎ (result ≡ Err Memory)
 
 -- if the bytes are at fault, the answer is the place with its line, unless memory runs out
-abbrev pub Refuses : List ℕ → Result (List Token) LexFault → Type 0
-Refuses bytes result = (place : ℕ) → IsFault bytes place → (result ≡ Err (At (line_at bytes place) place))
+abbrev pub RefusesBytes : List ℕ → Result (List Token) LexFault → Type 0
+RefusesBytes bytes result = (place : ℕ) → IsFault bytes place → (result ≡ Err (At (line_at bytes place) place))
     ⊎ (result ≡ Err Memory)

@@ -1,7 +1,7 @@
 pub mod Automaton
 pub mod Words
 pub mod Strings
-pub mod Scanning
+pub mod LexemeScan
 pub mod Output
 pub mod Answers
 pub mod Laws

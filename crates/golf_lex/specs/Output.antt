@@ -8,7 +8,7 @@ use Rattle.golf_lex_tokens.specs.Lexemes.{Class, Of, Lexeme}
 use Rattle.golf_lex_tokens.specs.Semicolons.{may_end, semicolon, is_separator, is_closing}
 use Rattle.golf_lex.specs.declared.automaton.State.{State}
 use Rattle.golf_lex.specs.declared.output.Output.{Output}
-use Rattle.golf_lex.specs.Scanning.{scan}
+use Rattle.golf_lex.specs.LexemeScan.{scan}
 
 abbrev pub empty : Output
 empty = record { tokens = []; held = None; line = 1; semicolon = None }

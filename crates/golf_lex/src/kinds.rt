@@ -4,7 +4,7 @@
 
 ghost use Rattle.std.specs.Prelude.{◌≡◌, IfOk};
 ghost use Rattle.golf_lex_tokens.specs.Semicolons as semicolons_spec;
-ghost use Rattle.golf_lex.specs.Scanning.{kind_at};
+ghost use Rattle.golf_lex.specs.LexemeScan.{kind_at};
 ghost use Rattle.golf_lex.specs.Words.{word_kind};
 
 use crate::automaton::State;

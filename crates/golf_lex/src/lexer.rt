@@ -1,11 +1,11 @@
-//! Reads the tokens of a file in one pass over its bytes.
+//! Reads the tokens of a file in one walk over its bytes.
 //!
 //! The automaton cuts the bytes into lexemes. `Output` keeps the tokens, inserts semicolons, and drops optional
 //! separators. A fault is the first byte that can follow in no text that lexes.
 
 ghost use Rattle.std.specs.Prelude.{◌≡◌, ◌<◌, ◌≤◌, ◌-◌, ◌^◌, length};
 ghost use Rattle.golf_lex_tokens.specs.Lexes.{line_at};
-ghost use Rattle.golf_lex.specs.Answers.{Accepts, Answers, Refuses};
+ghost use Rattle.golf_lex.specs.Answers.{AcceptsBytes, Answers, RefusesBytes};
 
 use crate::automaton::{Growth, State, begin, extend, is_complete};
 use crate::bytes::newlines;
@@ -58,8 +58,8 @@ pub fn tokens(alloc: Global, bytes: &[u8]) -> Result<List<Token>, LexFault>
     ensures answer { Answers bytes.now result }
 
     // If the bytes lex, the answer is their tokens. If they do not, it is the place of the fault.
-    ensures accepts { Accepts bytes.now result }
-    ensures refuses { Refuses bytes.now result }
+    ensures accepts { AcceptsBytes bytes.now result }
+    ensures refuses { RefusesBytes bytes.now result }
 {
     let mut output = Output::new(alloc);
     let mut state = State::Blank;

@@ -27,7 +27,7 @@ impl Output {
     ghost use Rattle.golf_lex.specs.Output as output_spec;
     ghost use Rattle.golf_lex.specs.Output.{empty, pushed, with_token, with_lexemes, finished};
     ghost use Rattle.golf_lex.specs.Automaton.{is_complete};
-    ghost use Rattle.golf_lex.specs.Scanning.{ended};
+    ghost use Rattle.golf_lex.specs.LexemeScan.{ended};
 
     pub(crate) fn new(alloc: Global) -> Output
         ensures { result ≡ empty }

@@ -59,7 +59,7 @@ IsLongest bytes rest =
     (longer behind : List ℕ) → bytes ++ rest ≡ longer ++ behind → length bytes < length longer → (kind : TokenKind)
     → Spells kind longer → ⊥
 
--- whether the bytes begin with a byte that passes the test
+-- whether the bytes begin with a byte that satisfies the test
 abbrev pub begins : (ℕ → Bool) → List ℕ → Bool
 begins test [] = false
 begins test (b ∷ bs) = test b

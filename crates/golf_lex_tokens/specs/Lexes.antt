@@ -14,7 +14,7 @@ pub record Lexes (bytes : List ℕ) (tokens : List Token) : Type 0 where
   pub are : tokens ≡ tokens_of lexemes
 
 -- the bytes are a prefix of some text that lexes
-pub record Begins (bytes : List ℕ) : Type 0 where
+pub record CanGoOn (bytes : List ℕ) : Type 0 where
   pub more : List ℕ
   pub small : list_all (λ b. nat_lt b 256) more ≡ true
   pub tokens : List Token
@@ -29,5 +29,5 @@ line_at bytes place = 1 + newlines (take place bytes)
 pub record IsFault (bytes : List ℕ) (place : ℕ) : Type 0 where
   pub refused : (tokens : List Token) → Lexes bytes tokens → ⊥
   pub within : place ≤ length bytes
-  pub before : Begins (take place bytes)
-  pub behind : place < length bytes → Begins (take (suc place) bytes) → ⊥
+  pub before : CanGoOn (take place bytes)
+  pub behind : place < length bytes → CanGoOn (take (suc place) bytes) → ⊥

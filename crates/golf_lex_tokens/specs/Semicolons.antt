@@ -78,7 +78,7 @@ abbrev pub closes : List Token → Bool
 closes [] = false
 closes (token ∷ rest) = is_closing token.kind
 
--- one pass that drops each `;` and `,` right before a `)` or a `}`
+-- one walk that drops each `;` and `,` right before a `)` or a `}`
 abbrev pub without_optional : List Token → List Token
 without_optional [] = []
 without_optional (token ∷ rest) =

@@ -88,14 +88,14 @@ is_integer (b ∷ []) = is_digit b
 is_integer (b ∷ bs) = (nat_le 49 b && nat_le b 57) && list_all is_digit bs
 
 -- a part of a string between its quotes: a byte for itself, or an escape
-pub data Part : Type 0 where
-  Itself : ℕ → Part
-  Newline : Part
-  Tab : Part
-  Backslash : Part
-  Quote : Part
+pub data StringPart : Type 0 where
+  Itself : ℕ → StringPart
+  Newline : StringPart
+  Tab : StringPart
+  Backslash : StringPart
+  Quote : StringPart
 
-abbrev pub part_text : Part → List ℕ
+abbrev pub part_text : StringPart → List ℕ
 part_text (Itself b) = b ∷ []
 part_text Newline = codes "\\n"
 part_text Tab = codes "\\t"
@@ -103,29 +103,29 @@ part_text Backslash = codes "\\\\"
 part_text Quote = codes "\\\""
 
 -- the byte for which a part stands
-abbrev pub part_byte : Part → ℕ
+abbrev pub part_byte : StringPart → ℕ
 part_byte (Itself b) = b
 part_byte Newline = 10
 part_byte Tab = 9
 part_byte Backslash = 92
 part_byte Quote = 34
 
-abbrev pub is_part : Part → Bool
+abbrev pub is_part : StringPart → Bool
 is_part (Itself b) = is_ordinary b
 is_part _ = true
 
 -- the parts, one after another
-abbrev pub parts_text : List Part → List ℕ
+abbrev pub parts_text : List StringPart → List ℕ
 parts_text [] = []
 parts_text (p ∷ ps) = part_text p ++ parts_text ps
 
-abbrev pub parts_bytes : List Part → List ℕ
+abbrev pub parts_bytes : List StringPart → List ℕ
 parts_bytes [] = []
 parts_bytes (p ∷ ps) = part_byte p ∷ parts_bytes ps
 
 -- the bytes are parts between quotes, and the content is the bytes for which the parts stand
 pub record Quotes (content bytes : List ℕ) : Type 0 where
-  pub parts : List Part
+  pub parts : List StringPart
   pub valid : list_all is_part parts ≡ true
   pub spelled : bytes ≡ codes "\"" ++ (parts_text parts ++ codes "\"")
   pub stands : content ≡ parts_bytes parts

@@ -30,7 +30,7 @@ not-stores slot (Instr.Store j) n = not_from_false (slot == j)
     (false_from_ne_true (slot == j) (λ t. n (ap Instr.Store (sym (eqb-true slot j t)))))
 not-stores slot _ n = refl
 
--- if what comes next passes a test that tells the needed
+-- if what comes next satisfies a test that tells the needed
 pub wants-needed : (body : List CodeLine) (slot k : ℕ) (l : CodeLine) (test : ℕ → Bool) → slice_get body k ≡ Some l
     → ((j : ℕ) → test j ≡ true → Needed body slot j) → wants slot test k l.instr ≡ true → Needed body slot k
 wants-needed body slot k l test e h w = elim (or_cases (loads slot l.instr) _ w) [

@@ -1,5 +1,5 @@
 -- What the outcomes of instructions come to.
--- For: `Fits` (golf_machine/specs/Fits.antt) and `perform`, `perform_on_frame` (src/performing.rt)
+-- For: `Fits` (golf_machine/specs/Fits.antt) and `perform`, `perform_on_frame` (src/instructions.rt)
 -- By: cases of the outcome, and induction over the list of changes
 use Rattle.std.proofs.Common.{◌≡◌, ℕ, Bool, true, false, cond, List, [], ◌∷◌, inl, inr, refl, sym, ◌∙◌}
 use Rattle.std.proofs.lemmas.Bool.{cases_Bool}
@@ -11,9 +11,9 @@ use Rattle.golf_data.specs.Fatal.{is_fatal}
 use Rattle.golf_model.specs.Views.{FrameView}
 use Rattle.golf_model.specs.State.{State, not_empty}
 use Rattle.golf_model.specs.Changes.{Change}
-use Rattle.golf_model.specs.Acting.{Actor}
+use Rattle.golf_model.specs.Actors.{Actor}
 use Rattle.golf_state.specs.declared.outcome.Outcome.{Outcome}
-use Rattle.golf_state.specs.Doing.{does, does_by, Stands}
+use Rattle.golf_state.specs.ActorChanges.{does, does_by, Stands}
 use Rattle.golf_state.specs.Looked.{frames_of}
 use Rattle.golf_state.specs.Outcomes.{Comes, StaysIn, StandsToFault, carries, faults, outcome_of, goes_as, has_block}
 use Rattle.golf_state.specs.Outcomes.{ending_outcome, frame_outcome, frames_outcome}

@@ -1,5 +1,5 @@
 -- Frames that are entered and left, and goroutines that end, as the definitions have them.
--- For: `call`, `defer_call` (src/entering.rt) and `return_to`, `unwind_to` (src/leaving.rt)
+-- For: `call`, `defer_call` (src/new_frames.rt) and `return_to`, `unwind_to` (src/frame_ends.rt)
 -- By: cases of the operands, the deferred calls and the callers; no induction
 use Rattle.std.proofs.Common.{◌≡◌, ℕ, ◌+◌, ◌<◌, ◌≤◌, Bool, true, false, List, [], ◌∷◌, length, Option, Some}
 use Rattle.std.proofs.Common.{None, ◌==◌, refl, sym, ap, ◌∙◌, arith, inl, inr}
@@ -16,20 +16,20 @@ use Rattle.golf_theory.specs.Maps.{find}
 use Rattle.golf_model.specs.Views.{FrameView}
 use Rattle.golf_model.specs.State.{State, call_frame, not_empty}
 use Rattle.golf_model.specs.Changes.{Change, apply_all, finish, spawn}
-use Rattle.golf_model.specs.Waking.{on_top}
-use Rattle.golf_model.specs.Acting.{Actor, next, stands, goes, on_some, choose}
+use Rattle.golf_model.specs.Wakes.{on_top}
+use Rattle.golf_model.specs.Actors.{Actor, next, stands, goes, on_some, choose}
 use Rattle.golf_model.specs.Calls.{is_full, enters, calls, spawns, defers, ends, returns_to}
 use Rattle.golf_model.specs.Calls.{unwinds_to, leaves_returning, leaves_unwinding}
 use Rattle.golf_state.specs.Looked.{frames_of, reframed}
-use Rattle.golf_state.specs.Going.{went, has_deferred, undeferred}
+use Rattle.golf_state.specs.FrameChanges.{went, has_deferred, undeferred}
 use Rattle.golf_state.specs.Operands.{operands_of}
-use Rattle.golf_state.specs.Doing.{does, does_by, Stands}
+use Rattle.golf_state.specs.ActorChanges.{does, does_by, Stands}
 use Rattle.golf_state.proofs.Doings.{actor_of, apply_all-append}
 use Rattle.golf_machine.specs.Acts.{last_of, begins_latest, deferred_of}
 use Rattle.golf_machine.specs.Fits.{Fits}
 use Rattle.golf_machine.proofs.Fits.{none_left}
 use Rattle.golf_machine.proofs.Takings.{taking-is}
-use Rattle.golf_machine.proofs.Turns.{first-is}
+use Rattle.golf_machine.proofs.TurnLaws.{first-is}
 use Rattle.golf_state.specs.declared.outcome.Outcome.{Outcome}
 
 -- frames that are as they were

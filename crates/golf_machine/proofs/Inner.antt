@@ -7,18 +7,18 @@ use Rattle.std.specs.Prelude.{slice_get, slice_set}
 use Rattle.golf_data.specs.declared.value.Value.{Value}
 use Rattle.golf_model.specs.Views.{FrameView}
 use Rattle.golf_model.specs.Changes.{Change}
-use Rattle.golf_model.specs.Acting.{Actor, stands, next, goes, taking_two}
-use Rattle.golf_model.specs.Calculating.{stores, drops, doubles_two}
+use Rattle.golf_model.specs.Actors.{Actor, stands, next, goes, taking_two}
+use Rattle.golf_model.specs.Arithmetic.{stores, drops, doubles_two}
 use Rattle.golf_model.specs.Turn.{acting}
-use Rattle.golf_state.specs.Going.{went}
+use Rattle.golf_state.specs.FrameChanges.{went}
 use Rattle.golf_state.specs.Operands.{two_of}
-use Rattle.golf_machine.proofs.Turns.{first-is}
-use Rattle.golf_machine.specs.Within.{Becomes, ActsAs, HasGone}
+use Rattle.golf_machine.proofs.TurnLaws.{first-is}
+use Rattle.golf_machine.specs.Within.{Becomes, ActsAs, HasTriedWithin}
 use Rattle.golf_machine.specs.declared.within.Within.{Within}
 
 -- an act that gives the same changes is done alike
 pub done-same : (b : Bool) (came : Within) (act other : Actor → List Change) (f h : FrameView) → ActsAs other act f
-    → HasGone b came act f h → HasGone b came other f h
+    → HasTriedWithin b came act f h → HasTriedWithin b came other f h
 done-same b Within.Done act other f h same d =
     record {
       stands = λ g r callers line. same g r callers line ∙ d.stands g r callers line;

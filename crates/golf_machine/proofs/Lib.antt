@@ -1,3 +1,4 @@
+pub mod Among
 pub mod Lone
 pub mod Inner
 pub mod Sequence
@@ -6,6 +7,6 @@ pub mod Fits
 pub mod Frames
 pub mod Lines
 pub mod OnFrame
-pub mod Passes
+pub mod Moves
 pub mod Prints
-pub mod Turns
+pub mod TurnLaws

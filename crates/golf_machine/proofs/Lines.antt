@@ -1,5 +1,5 @@
 -- A printed line, value by value; zero values, one by one.
--- For: `line_bytes` (golf_model/specs/Values.antt) and `line_of` (src/printing.rt), `zeros_of` (src/structures.rt)
+-- For: `line_bytes` (golf_model/specs/Values.antt) and `line_of` (src/printed_lines.rt), `zeros_of` (src/structures.rt)
 -- By: induction over the list of values for the zeros; otherwise what one more value adds
 use Rattle.std.specs.Prelude.{MatchOption}
 use Rattle.std.proofs.Common.{◌≡◌, ℕ, zero, suc, ◌+◌, ◌<◌, ◌≤◌, Bool, true, false, List, [], ◌∷◌, ◌++◌, length, take}

@@ -1,5 +1,5 @@
 -- Turns of the one goroutine that can run.
--- For: `HasKeptOn` (golf_machine/specs/Taking.antt) and `keep_on`, `go_on_alone` (src/alone.rt)
+-- For: `HasKeptOn` (golf_machine/specs/Batches.antt) and `keep_on`, `go_on_inside` (src/inner_batches.rt)
 -- By: induction over the list of choices, one for each turn
 use Rattle.std.proofs.Common.{◌≡◌, ℕ, ◌+◌, ◌/◌, true, false, List, [], ◌∷◌, ◌++◌, length, Option, Some, None, refl}
 use Rattle.std.proofs.Common.{sym, ap, ◌∙◌, arith}
@@ -15,27 +15,27 @@ use Rattle.golf_model.specs.Views.{FrameView, GoroutineView}
 use Rattle.golf_model.specs.State.{State, runnable, ending}
 use Rattle.golf_model.specs.Changes.{become}
 use Rattle.golf_model.specs.Turn.{step, whose_turn, wants_collection}
-use Rattle.golf_model.specs.Running.{Event}
+use Rattle.golf_model.specs.Runs.{Event}
 use Rattle.golf_state.specs.Looked.{reframed, frames_of, frames_in, runs}
-use Rattle.golf_state.specs.Doing.{Runs}
-use Rattle.golf_machine.specs.Passing.{PassesOnTop, PassEach, HasPassedOnTop}
-use Rattle.golf_machine.specs.declared.passing.Passed.{Passed}
-use Rattle.golf_machine.specs.Taking.{stops_after, steps, GoOn, HasGoneOn, HasKeptOn}
-use Rattle.golf_machine.specs.Taking.{HasAsked, IsLone}
-use Rattle.golf_machine.proofs.Passes.{found, runnable-same, ending-same, reframed-is, turn-taken, collects-not}
+use Rattle.golf_state.specs.ActorChanges.{Runs}
+use Rattle.golf_machine.specs.InnermostTurns.{MovesOnTop, MoveEach, HasTurnedOnTop}
+use Rattle.golf_machine.specs.declared.innermost_turns.InnerTurn.{InnerTurn}
+use Rattle.golf_machine.specs.Batches.{stops_after, steps, GoOn, HasGoneOn, HasKeptOn}
+use Rattle.golf_machine.specs.Batches.{HasAsked, IsLone}
+use Rattle.golf_machine.proofs.Moves.{found, runnable-same, ending-same, reframed-is, turn-taken, collects-not}
 use Rattle.golf_machine.proofs.Sequence.{events-after}
-use Rattle.golf_machine.proofs.Turns.{step-taken as taken-is, wants-is, frames-are, turn-runs}
+use Rattle.golf_machine.proofs.TurnLaws.{step-taken as taken-is, wants-is, frames-are, turn-runs}
 
 -- ---- the frames
 
-passes-more : (code : Code) (globals : List Value) (cs : List ℕ) (c : ℕ) (fs ks hs : List FrameView)
-    → PassEach code globals cs fs ks → PassesOnTop code globals ks hs → PassEach code globals (cs ++ c ∷ []) fs hs
-passes-more code globals [] c fs ks hs e p = (hs, rw (← e) p, refl)
-passes-more code globals (d ∷ cs) c fs ks hs e p = (e.0, e.1, passes-more code globals cs c e.0 ks hs e.2 p)
+moves-more : (code : Code) (globals : List Value) (cs : List ℕ) (c : ℕ) (fs ks hs : List FrameView)
+    → MoveEach code globals cs fs ks → MovesOnTop code globals ks hs → MoveEach code globals (cs ++ c ∷ []) fs hs
+moves-more code globals [] c fs ks hs e p = (hs, rw (← e) p, refl)
+moves-more code globals (d ∷ cs) c fs ks hs e p = (e.0, e.1, moves-more code globals cs c e.0 ks hs e.2 p)
 
-pub one-kept : {passed : Passed} {code : Code} {globals : List Value} {fs ks hs : List FrameView}
-    {es later rest : List Event} {n k m c : ℕ} → passed ≡ Passed.Over → HasKeptOn code globals fs ks es later n k
-    → later ≡ Event.Turn c ∷ rest → m ≡ k + 1 → HasPassedOnTop passed code globals ks hs
+pub one-kept : {passed : InnerTurn} {code : Code} {globals : List Value} {fs ks hs : List FrameView}
+    {es later rest : List Event} {n k m c : ℕ} → passed ≡ InnerTurn.Over → HasKeptOn code globals fs ks es later n k
+    → later ≡ Event.Turn c ∷ rest → m ≡ k + 1 → HasTurnedOnTop passed code globals ks hs
     → HasKeptOn code globals fs hs es rest n m
 one-kept {code = code} {globals} {fs} {ks} {hs} {rest = rest} {c = c} t w next more p =
     let size = length-append w.taken (c ∷ []) in
@@ -44,7 +44,7 @@ one-kept {code = code} {globals} {fs} {ks} {hs} {rest = rest} {c = c} t w next m
       taken = w.taken ++ c ∷ [];
       order = rw (w.order, next) (events-after w.taken (c ∷ []) rest);
       count = omega (arith, size, count, more);
-      passes = passes-more code globals w.taken c fs ks hs w.passes (rw t at p);
+      moves = moves-more code globals w.taken c fs ks hs w.moves (rw t at p);
     }
 
 -- ---- the state
@@ -59,7 +59,7 @@ pub record IsAlone (g : ℕ) (s : State) : Type 0 where
   pub same : reframed g (frames_of g s) s ≡ s
 
 module _ {code : Code} {g : ℕ} {s : State} (a : IsAlone g s) {ks : List FrameView}
-    (p : PassesOnTop code s.globals (frames_of g s) ks) where
+    (p : MovesOnTop code s.globals (frames_of g s) ks) where
   are : a.runs.frames ≡ p.first ∷ p.callers
   are = sym (frames-are a.runs) ∙ p.were
 
@@ -70,37 +70,37 @@ module _ {code : Code} {g : ℕ} {s : State} (a : IsAlone g s) {ks : List FrameV
   stepped = become g (with p.next) s
 
   after-is : reframed g ks s ≡ stepped
-  after-is = ap (λ (xs : List FrameView). reframed g xs s) p.are ∙ reframed-is a.runs are p.passes
+  after-is = ap (λ (xs : List FrameView). reframed g xs s) p.are ∙ reframed-is a.runs are p.moves
 
   turn-is : (c : ℕ) → whose_turn s c ≡ Some g
   turn-is c = rw (a.alone, mod-one c)
 
   step-taken : (c : ℕ) → reframed g ks s ≡ step code s c
   step-taken c = taken-is code s c g (turn-is c) _ _ _ refl refl
-      (ap (λ (xs : List FrameView). reframed g xs s) p.are ∙ turn-taken a.runs are p.passes (c / length (runnable s)))
+      (ap (λ (xs : List FrameView). reframed g xs s) p.are ∙ turn-taken a.runs are p.moves (c / length (runnable s)))
 
   ending-is : ending (reframed g ks s) ≡ None
-  ending-is = rw (after-is, ending-same a.runs are p.passes a.rises) a.goes
+  ending-is = rw (after-is, ending-same a.runs are p.moves a.rises) a.goes
 
   wants-not : (c : ℕ) → wants_collection code s c ≡ false
-  wants-not c = rw (wants-is code s c g (turn-is c)) (collects-not a.runs are p.passes)
+  wants-not c = rw (wants-is code s c g (turn-is c)) (collects-not a.runs are p.moves)
 
   stops-not : (c : ℕ) → stops_after code s c ≡ false
   stops-not c = rw (← (step-taken c), ending-is, wants-not c, after-is, a.quiet)
 
   found-after : find g stepped.goroutines ≡ Some (with p.next)
-  found-after = find-put g (with p.next) s.goroutines (with p.first) (found a.runs are p.passes)
+  found-after = find-put g (with p.next) s.goroutines (with p.first) (found a.runs are p.moves)
 
   frames-after : frames_of g stepped ≡ ks
   frames-after = ap frames_in found-after ∙ sym p.are
 
   reframed-after : (hs : List FrameView) → reframed g hs stepped ≡ reframed g hs s
-  reframed-after hs = rw (found-after, found a.runs are p.passes, put-put g _ (with p.next) s.goroutines)
+  reframed-after hs = rw (found-after, found a.runs are p.moves, put-put g _ (with p.next) s.goroutines)
 
   alone-after : IsAlone g stepped
   alone-after = record {
     runs = record { frames = p.next ∷ p.callers; started = a.runs.started; found = found-after };
-    alone = rw (runnable-same a.runs are p.passes a.rises) a.alone;
+    alone = rw (runnable-same a.runs are p.moves a.rises) a.alone;
     goes = ap ending (sym after-is) ∙ ending-is;
     quiet = a.quiet;
     rises = Rises-put 0 g (with p.next) s.goroutines a.rises;
@@ -109,7 +109,7 @@ module _ {code : Code} {g : ℕ} {s : State} (a : IsAlone g s) {ks : List FrameV
 
 -- each turn is the goroutine's, and after none the outside is needed
 pub alone-steps : (code : Code) (g : ℕ) (s : State) (a : IsAlone g s) (cs : List ℕ) (hs : List FrameView)
-    → PassEach code s.globals cs (frames_of g s) hs
+    → MoveEach code s.globals cs (frames_of g s) hs
     → (reframed g hs s ≡ steps code s cs) × GoOn code s cs × (ending (reframed g hs s) ≡ None)
 alone-steps code g s a [] hs e = rw e (a.same, tt, rw a.same a.goes)
 alone-steps code g s a (c ∷ cs) hs e =
@@ -140,7 +140,7 @@ module _ (code : Code) {g : ℕ} {s : State} (rises : IsRising s.goroutines) (lo
         quiet = lone.quiet;
         rises = rises;
         same = same;
-      }) w.taken hs (rw (← are-those, ← value) w.passes) in
+      }) w.taken hs (rw (← are-those, ← value) w.moves) in
       (record { taken = w.taken; order = w.order; count = w.count; silent = r.1; state = r.0 }, r.2)
 
   pub lone-asked : (o : Option ℕ) (before after : List Event) (given now : ℕ)

@@ -1,5 +1,5 @@
 -- Instructions that touch the innermost frame alone, on the frame of a goroutine.
--- For: `HasGone` (golf_machine/specs/Within.antt) and `perform_on_frame` (src/performing.rt)
+-- For: `HasTriedWithin` (golf_machine/specs/Within.antt) and `perform_on_frame` (src/instructions.rt)
 -- By: cases of what came of the instruction; no induction
 use Rattle.std.proofs.Common.{◌≡◌, ℕ, ◌-◌, Bool, true, false, List, [], ◌∷◌, length, Some, refl, ap}
 use Rattle.std.proofs.Common.{arith}
@@ -10,14 +10,14 @@ use Rattle.golf_data.specs.declared.goroutine.PanicKind.{PanicKind}
 use Rattle.golf_model.specs.Views.{FrameView, GoroutineView, frame_view, frame_views}
 use Rattle.golf_model.specs.State.{State}
 use Rattle.golf_model.specs.Changes.{Change, behind_first}
-use Rattle.golf_model.specs.Acting.{Actor}
+use Rattle.golf_model.specs.Actors.{Actor}
 use Rattle.golf_state.specs.Looked.{reframed, frames_of}
-use Rattle.golf_state.specs.Doing.{Stands}
+use Rattle.golf_state.specs.ActorChanges.{Stands}
 use Rattle.golf_machine.specs.Fits.{Fits, outcome_in}
-use Rattle.golf_machine.specs.Within.{HasGone}
+use Rattle.golf_machine.specs.Within.{HasTriedWithin}
 use Rattle.golf_machine.specs.declared.within.Within.{Within}
 use Rattle.golf_machine.proofs.Fits.{fits-panic}
-use Rattle.golf_machine.proofs.Passes.{below, views-are, views-after, on-top-same}
+use Rattle.golf_machine.proofs.Moves.{below, views-are, views-after, on-top-same}
 
 pub no-frames : {g after : ℕ} {s : State} → Stands g after s → (fs : List Frame) (n : ℕ) → n ≡ length fs
     → frame_views fs ≡ frames_of g s → n ≡ 0 → true ≡ false
@@ -42,7 +42,7 @@ module _ {g after : ℕ} {s : State} (st : Stands g after s) (fs : List Frame) (
     view = record { frames = []; mode = Mode.Running; started = st.started }
 
     pub frame-fits : (came : Within) (on_frame : Bool) → on_frame ≡ true
-        → HasGone on_frame came act (frame_view f) (frame_view w)
+        → HasTriedWithin on_frame came act (frame_view f) (frame_view w)
         → Fits (outcome_in came) act g line s (reframed g (frame_views (slice_set fs (n - 1) w)) s)
     frame-fits Within.Done on_frame t d =
         rw (st.found, ← were.0, ← were.1, views-after fs f w n size there, d.stands g view _ line) (refl, refl)

@@ -1,5 +1,5 @@
 -- A line that is printed.
--- For: `print` (src/printing.rt)
+-- For: `print` (src/printed_lines.rt)
 -- By: cases of whether there are operands enough; no induction
 use Rattle.std.proofs.Common.{◌≡◌, ℕ, List, [], ◌∷◌, Some, None, refl}
 use Rattle.golf_data.specs.declared.value.Value.{Value}
@@ -7,11 +7,11 @@ use Rattle.golf_data.specs.declared.code.Code.{Code}
 use Rattle.golf_model.specs.State.{State}
 use Rattle.golf_model.specs.Values.{line_bytes}
 use Rattle.golf_model.specs.Changes.{Change, output}
-use Rattle.golf_model.specs.Acting.{Actor, stands, goes, on_some}
+use Rattle.golf_model.specs.Actors.{Actor, stands, goes, on_some}
 use Rattle.golf_model.specs.Turn.{prints}
-use Rattle.golf_state.specs.Going.{went}
+use Rattle.golf_state.specs.FrameChanges.{went}
 use Rattle.golf_state.specs.Operands.{operands_of}
-use Rattle.golf_state.specs.Doing.{does, Stands}
+use Rattle.golf_state.specs.ActorChanges.{does, Stands}
 use Rattle.golf_state.proofs.Doings.{actor_of}
 use Rattle.golf_machine.specs.Acts.{last_of}
 use Rattle.golf_machine.specs.Fits.{Fits}

@@ -1,5 +1,5 @@
 -- Turns that were taken in one go, and one turn more.
--- For: `HasGoneOn` (golf_machine/specs/Taking.antt) and `take_turns` (src/taking.rt)
+-- For: `HasGoneOn` (golf_machine/specs/Batches.antt) and `take_turns` (src/batches.rt)
 -- By: induction over the list of choices, one for each turn
 use Rattle.std.proofs.Common.{◌≡◌, ℕ, ◌+◌, Bool, true, false, List, [], ◌∷◌, ◌++◌, Option, Some, None, refl, sym, ap}
 use Rattle.std.proofs.Common.{◌∙◌, arith}
@@ -9,11 +9,11 @@ use Rattle.golf_data.specs.declared.code.Code.{Code}
 use Rattle.golf_data.specs.declared.goroutine.Ending.{Ending}
 use Rattle.golf_model.specs.State.{State, ending}
 use Rattle.golf_model.specs.Turn.{step, wants_collection}
-use Rattle.golf_model.specs.Running.{Event}
+use Rattle.golf_model.specs.Runs.{Event}
 use Rattle.golf_machine.specs.Turns.{turned_of}
-use Rattle.golf_machine.specs.Taking.{turn_events, needs_outside, stops_after, steps, GoOn, HasGoneOn}
-use Rattle.golf_machine.specs.Taking.{HasCome, HasAsked, is_turn_next}
-use Rattle.golf_machine.specs.declared.turning.Turned.{Turned}
+use Rattle.golf_machine.specs.Batches.{turn_events, needs_outside, stops_after, steps, GoOn, HasGoneOn}
+use Rattle.golf_machine.specs.Batches.{HasCome, HasAsked, is_turn_next}
+use Rattle.golf_machine.specs.declared.turns.Turned.{Turned}
 
 steps-after : (code : Code) (s : State) (cs ds : List ℕ) → steps code s (cs ++ ds) ≡ steps code (steps code s cs) ds
 steps-after code s [] ds = refl

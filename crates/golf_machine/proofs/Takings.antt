@@ -1,5 +1,5 @@
 -- Operands that are taken from the top.
--- For: `last_of` (golf_machine/specs/Acts.antt) and `taking` (golf_model/specs/Acting.antt)
+-- For: `last_of` (golf_machine/specs/Acts.antt) and `taking` (golf_model/specs/Actors.antt)
 -- By: cases of whether there are operands enough; no induction
 use Rattle.std.proofs.Common.{◌≡◌, ℕ, List, ◌++◌, length, take, drop, None, ◌∙◌, refl}
 use Rattle.std.proofs.Common.{inl, inr}
@@ -8,12 +8,12 @@ use Rattle.std.proofs.lemmas.Bool.{lt-ltb, le-ltb, cases_lt}
 use Rattle.std.proofs.lemmas.List.{reverse-append, reverse-reverse, length-reverse, take-append-drop, length-take-le}
 use Rattle.golf_data.specs.declared.value.Value.{Value}
 use Rattle.golf_model.specs.Changes.{Change}
-use Rattle.golf_model.specs.Acting.{Actor, on_some, taking}
+use Rattle.golf_model.specs.Actors.{Actor, on_some, taking}
 use Rattle.golf_model.proofs.ViewForms.{taking-last, taking-short}
 use Rattle.golf_model.specs.State.{State}
 use Rattle.golf_state.specs.declared.outcome.Outcome.{Outcome}
 use Rattle.golf_state.specs.Operands.{operands_of}
-use Rattle.golf_state.specs.Doing.{Stands}
+use Rattle.golf_state.specs.ActorChanges.{Stands}
 use Rattle.golf_state.proofs.Doings.{actor_of}
 use Rattle.golf_machine.specs.Acts.{last_of}
 use Rattle.golf_machine.specs.Fits.{Fits}

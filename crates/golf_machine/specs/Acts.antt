@@ -7,11 +7,11 @@ use Rattle.golf_data.specs.declared.goroutine.Deferred.{Deferred}
 use Rattle.golf_data.specs.declared.goroutine.Mode.{Mode}
 use Rattle.golf_model.specs.State.{State}
 use Rattle.golf_model.specs.Changes.{Change}
-use Rattle.golf_model.specs.Acting.{Actor}
+use Rattle.golf_model.specs.Actors.{Actor}
 use Rattle.golf_model.specs.Calls.{begins_deferred}
 use Rattle.golf_model.specs.Views.{FrameView}
 use Rattle.golf_state.specs.Looked.{frames_of}
-use Rattle.golf_state.specs.Doing.{Stands}
+use Rattle.golf_state.specs.ActorChanges.{Stands}
 
 -- the goroutine runs and has a frame
 abbrev pub Acts : ℕ → State → Type 0

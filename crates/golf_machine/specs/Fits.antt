@@ -4,9 +4,9 @@ use Rattle.golf_theory.specs.Maps.{find}
 use Rattle.golf_data.specs.declared.goroutine.PanicKind.{PanicKind}
 use Rattle.golf_model.specs.State.{State, not_empty}
 use Rattle.golf_model.specs.Changes.{Change}
-use Rattle.golf_model.specs.Acting.{Actor}
+use Rattle.golf_model.specs.Actors.{Actor}
 use Rattle.golf_state.specs.declared.outcome.Outcome.{Outcome}
-use Rattle.golf_state.specs.Doing.{does, does_by}
+use Rattle.golf_state.specs.ActorChanges.{does, does_by}
 use Rattle.golf_state.specs.Outcomes.{faults}
 use Rattle.golf_machine.specs.declared.within.Within.{Within}
 

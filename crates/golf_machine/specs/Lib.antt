@@ -2,8 +2,8 @@ pub mod Acts
 pub mod Fits
 pub mod Objects
 pub mod Operations
-pub mod Passing
-pub mod Stepping
-pub mod Taking
+pub mod InnermostTurns
+pub mod TurnResults
+pub mod Batches
 pub mod Turns
 pub mod Within

@@ -2,10 +2,10 @@
 use Rattle.std.specs.Prelude.{Bool, List, [], ◌∷◌, Option, None, ℤ, int_lt, int_le, option_and_then, option_map}
 use Rattle.golf_data.specs.declared.value.Value.{Value}
 use Rattle.golf_model.specs.Values.{int_of, bool_of}
-use Rattle.golf_model.specs.Calculating.{sum, difference, product, quotient, remainder}
-use Rattle.golf_machine.specs.declared.calculating.Operation.{Operation}
-use Rattle.golf_machine.specs.declared.calculating.Division.{Division}
-use Rattle.golf_machine.specs.declared.calculating.Comparison.{Comparison}
+use Rattle.golf_model.specs.Arithmetic.{sum, difference, product, quotient, remainder}
+use Rattle.golf_machine.specs.declared.arithmetic.Operation.{Operation}
+use Rattle.golf_machine.specs.declared.arithmetic.Division.{Division}
+use Rattle.golf_machine.specs.declared.arithmetic.Comparison.{Comparison}
 
 -- the top operand, if it is an integer
 abbrev pub int_in : List Value → Option ℤ

@@ -4,7 +4,7 @@ use Rattle.golf_data.specs.declared.code.Instr.{Instr}
 use Rattle.golf_data.specs.declared.goroutine.PanicKind.{PanicKind}
 use Rattle.golf_model.specs.Views.{FrameView, GoroutineView}
 use Rattle.golf_model.specs.Changes.{Change}
-use Rattle.golf_model.specs.Acting.{Actor, stands, panics}
+use Rattle.golf_model.specs.Actors.{Actor, stands, panics}
 use Rattle.golf_model.specs.Turn.{acting}
 use Rattle.golf_machine.specs.declared.within.Within.{Within}
 
@@ -49,8 +49,8 @@ ActsAs act other f = (g : ℕ) (r : GoroutineView) (callers : List FrameView) (l
 
 -- The result of an instruction with these changes that is tried on the frame alone. `Done`: it is done. Otherwise the
 -- frame is unchanged, and the instruction panics, or no rule fits, or it touches more than the frame.
-abbrev pub HasGone : Bool → Within → (Actor → List Change) → FrameView → FrameView → Type 0
-HasGone on_frame Within.Done act f h = Becomes act f h
-HasGone on_frame Within.ZeroDivisor act f h = (h ≡ f) × ActsAs act (λ a. panics a PanicKind.DivideByZero) f
-HasGone on_frame Within.Stuck act f h = (h ≡ f) × ActsAs act (λ a. []) f
-HasGone on_frame Within.Beyond act f h = (h ≡ f) × (on_frame ≡ false)
+abbrev pub HasTriedWithin : Bool → Within → (Actor → List Change) → FrameView → FrameView → Type 0
+HasTriedWithin on_frame Within.Done act f h = Becomes act f h
+HasTriedWithin on_frame Within.ZeroDivisor act f h = (h ≡ f) × ActsAs act (λ a. panics a PanicKind.DivideByZero) f
+HasTriedWithin on_frame Within.Stuck act f h = (h ≡ f) × ActsAs act (λ a. []) f
+HasTriedWithin on_frame Within.Beyond act f h = (h ≡ f) × (on_frame ≡ false)

@@ -5,23 +5,23 @@
 //! - `take_turns`: turns until the program prints, collects or ends.
 #![tactic(auto)]
 
-mod alone;
-mod calculating;
-mod entering;
-mod finalising;
-mod leaving;
+mod arithmetic;
+mod batches;
+mod finalisers;
+mod frame_ends;
+mod goroutine_turn;
+mod inner_batches;
+mod innermost_turns;
+mod instructions;
+mod new_frames;
 mod numbers;
-mod passing;
-mod performing;
-mod printing;
-mod stepping;
+mod printed_lines;
 mod structures;
-mod taking;
-mod turning;
+mod turns;
 mod values;
 mod within;
 
+pub use batches::take_turns;
+pub use goroutine_turn::{line_at, return_line};
 pub use numbers::Numbers;
-pub use stepping::{line_at, return_line};
-pub use taking::take_turns;
-pub use turning::{Turned, start, turn, whose_turn};
+pub use turns::{Turned, start, turn, whose_turn};

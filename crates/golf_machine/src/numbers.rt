@@ -3,8 +3,8 @@
 //! `take_turns` asks for one number before each turn.
 
 ghost use Rattle.std.specs.Prelude.{◌≡◌, ◌+◌, ◌∷◌, ℕ, List, false, MatchOption};
-ghost use Rattle.golf_model.specs.Running.{Event};
-ghost use Rattle.golf_machine.specs.Taking.{is_turn_next};
+ghost use Rattle.golf_model.specs.Runs.{Event};
+ghost use Rattle.golf_machine.specs.Batches.{is_turn_next};
 
 /// The source of the numbers of turns.
 pub trait Numbers {

@@ -3,8 +3,8 @@
 
 ghost use Rattle.std.specs.Prelude.{◌≡◌, ◌∷◌, IfOk, OnErr, is_some, length, drop, slice_get, option_map, pos, false};
 ghost use Rattle.golf_theory.specs.Maps.{find};
-ghost use Rattle.golf_model.specs.Acting.{goes, leaves, panics, at_condition, at_reference, at_reference_or, at_struct};
-ghost use Rattle.golf_model.specs.Acting.{at_slice};
+ghost use Rattle.golf_model.specs.Actors.{goes, leaves, panics, at_condition, at_reference, at_reference_or, at_struct};
+ghost use Rattle.golf_model.specs.Actors.{at_slice};
 ghost use Rattle.golf_model.specs.Conditions.{makes_condition, gets_mutex};
 ghost use Rattle.golf_model.specs.Structures.{makes, makes_struct, gets_field, sets_field, field_set, makes_slice};
 ghost use Rattle.golf_model.specs.Structures.{makes_channel, gets_element, sets_element, element_set, element, within};
@@ -14,7 +14,7 @@ ghost use Rattle.golf_state.specs.Operands.{operands_of};
 ghost use Rattle.golf_machine.specs.Operations.{int_in};
 ghost use Rattle.golf_data.specs.declared.goroutine.PanicKind.{PanicKind};
 ghost use Rattle.golf_data.specs.declared.value.Object.{Object};
-ghost use Rattle.golf_state.specs.Doing.{Stands};
+ghost use Rattle.golf_state.specs.ActorChanges.{Stands};
 ghost use Rattle.golf_machine.specs.Fits.{Fits};
 ghost use Rattle.golf_machine.specs.Objects.{struct_of, slice_of, has_place, is_nil_or_mutex, field_changed};
 ghost use Rattle.golf_machine.specs.Objects.{element_changed, measured};

@@ -3,10 +3,10 @@
 //! None of these takes memory.
 
 ghost use Rattle.std.specs.Prelude.{◌≡◌, IfOk, OnErr};
-ghost use Rattle.golf_model.specs.Acting.{goes};
-ghost use Rattle.golf_model.specs.Calculating.{stores_global};
+ghost use Rattle.golf_model.specs.Actors.{goes};
+ghost use Rattle.golf_model.specs.Arithmetic.{stores_global};
 ghost use Rattle.golf_model.specs.Turn.{panics_with};
-ghost use Rattle.golf_state.specs.Doing.{Stands};
+ghost use Rattle.golf_state.specs.ActorChanges.{Stands};
 ghost use Rattle.golf_machine.specs.Fits.{Fits};
 
 use golf_base::Memory;

@@ -4,19 +4,19 @@
 ghost use Rattle.std.specs.Prelude.{◌≡◌, ◌<◌, ◌≤◌, ◌+◌, ◌^◌, ◌∷◌, [], ℕ, length, drop, IfOk, OnErr, slice_get, true};
 ghost use Rattle.std.specs.Prelude.{false};
 ghost use Rattle.golf_data.specs.declared.code.Code.{Code};
-ghost use Rattle.golf_model.specs.Acting.{next, jumps};
-ghost use Rattle.golf_model.specs.Calculating.{pushes, loads, stores, loads_global, drops, doubles, doubles_two};
-ghost use Rattle.golf_model.specs.Calculating.{negates, inverts, computes, divides, compares, equates, jumps_unless};
+ghost use Rattle.golf_model.specs.Actors.{next, jumps};
+ghost use Rattle.golf_model.specs.Arithmetic.{pushes, loads, stores, loads_global, drops, doubles, doubles_two};
+ghost use Rattle.golf_model.specs.Arithmetic.{negates, inverts, computes, divides, compares, equates, jumps_unless};
 ghost use Rattle.golf_model.specs.State.{State};
 ghost use Rattle.golf_model.specs.Turn.{changes, is_collection};
 ghost use Rattle.golf_model.specs.Views.{frame_view};
-ghost use Rattle.golf_state.specs.Going.{went};
+ghost use Rattle.golf_state.specs.FrameChanges.{went};
 ghost use Rattle.golf_state.specs.Operands.{two_of};
 ghost use Rattle.golf_machine.specs.Operations.{int_in, ints_in, bool_in, operation_of, division_of, comparison_of};
-ghost use Rattle.golf_machine.specs.Within.{HasGone, is_on_frame};
+ghost use Rattle.golf_machine.specs.Within.{HasTriedWithin, is_on_frame};
 ghost use Rattle.golf_machine.specs.declared.within.Within.TheVariants as within;
 
-use crate::calculating::{Comparison, Division, Operation, are_equal, holds, part_of, result_of};
+use crate::arithmetic::{Comparison, Division, Operation, are_equal, holds, part_of, result_of};
 use golf_base::{List, Memory};
 use golf_data::{Frame, Instr, Value};
 use golf_state::{bool_in, int_in};
@@ -110,7 +110,7 @@ fn put(frame: &mut Frame, taken: usize, value: Value)
 #[inline(always)]
 fn push(frame: &mut Frame, value: Value) -> Result<Within, Memory>
     requires place { frame.old.at + 1 < 2 ^ 32 }
-    ensures ok { IfOk result (λ came. HasGone true came (λ a. pushes a value) (frame_view frame.old) (frame_view frame.new)) }
+    ensures ok { IfOk result (λ came. HasTriedWithin true came (λ a. pushes a value) (frame_view frame.old) (frame_view frame.new)) }
     ensures err { OnErr result (frame_view frame.new ≡ frame_view frame.old) }
 {
     frame.operands.push(value)?;
@@ -130,7 +130,7 @@ fn slot_of(frame: &Frame, slot: u32) -> Option<Value>
 #[inline(always)]
 fn load(frame: &mut Frame, slot: u32) -> Result<Within, Memory>
     requires place { frame.old.at + 1 < 2 ^ 32 }
-    ensures ok { IfOk result (λ came. HasGone true came (λ a. loads a slot) (frame_view frame.old) (frame_view frame.new)) }
+    ensures ok { IfOk result (λ came. HasTriedWithin true came (λ a. loads a slot) (frame_view frame.old) (frame_view frame.new)) }
     ensures err { OnErr result (frame_view frame.new ≡ frame_view frame.old) }
 {
     match slot_of(frame, slot) {
@@ -143,7 +143,7 @@ fn load(frame: &mut Frame, slot: u32) -> Result<Within, Memory>
 #[inline(always)]
 fn store(frame: &mut Frame, slot: u32) -> Within
     requires place { frame.old.at + 1 < 2 ^ 32 }
-    ensures { HasGone true result (λ a. stores a slot) (frame_view frame.old) (frame_view frame.new) }
+    ensures { HasTriedWithin true result (λ a. stores a slot) (frame_view frame.old) (frame_view frame.new) }
 {
     if slot as usize >= frame.slots.len() {
         return Within::Stuck;
@@ -168,7 +168,7 @@ fn global_of(globals: &[Value], global: u32) -> Option<Value>
 #[inline(always)]
 fn load_global(frame: &mut Frame, globals: &[Value], global: u32) -> Result<Within, Memory>
     requires place { frame.old.at + 1 < 2 ^ 32 }
-    ensures ok { IfOk result (λ came. (s : State) → s.globals ≡ globals.now → HasGone true came (λ a. loads_global a global s) (frame_view frame.old) (frame_view frame.new)) }
+    ensures ok { IfOk result (λ came. (s : State) → s.globals ≡ globals.now → HasTriedWithin true came (λ a. loads_global a global s) (frame_view frame.old) (frame_view frame.new)) }
     ensures err { OnErr result (frame_view frame.new ≡ frame_view frame.old) }
 {
     match global_of(globals, global) {
@@ -180,7 +180,7 @@ fn load_global(frame: &mut Frame, globals: &[Value], global: u32) -> Result<With
 // Drops the last operand, if there is one.
 fn drop_last(frame: &mut Frame) -> Within
     requires place { frame.old.at + 1 < 2 ^ 32 }
-    ensures { HasGone true result drops (frame_view frame.old) (frame_view frame.new) }
+    ensures { HasTriedWithin true result drops (frame_view frame.old) (frame_view frame.new) }
 {
     let Some(_) = last(frame) else {
         return Within::Stuck;
@@ -193,7 +193,7 @@ fn drop_last(frame: &mut Frame) -> Within
 // Pushes the last operand once more, if there is one.
 fn double(frame: &mut Frame) -> Result<Within, Memory>
     requires place { frame.old.at + 1 < 2 ^ 32 }
-    ensures ok { IfOk result (λ came. HasGone true came doubles (frame_view frame.old) (frame_view frame.new)) }
+    ensures ok { IfOk result (λ came. HasTriedWithin true came doubles (frame_view frame.old) (frame_view frame.new)) }
     ensures err { OnErr result (frame_view frame.new ≡ frame_view frame.old) }
 {
     match last(frame) {
@@ -205,7 +205,7 @@ fn double(frame: &mut Frame) -> Result<Within, Memory>
 // Pushes the last two operands once more, if there are two.
 fn double_two(frame: &mut Frame) -> Result<Within, Memory>
     requires place { frame.old.at + 1 < 2 ^ 32 }
-    ensures ok { IfOk result (λ came. HasGone true came doubles_two (frame_view frame.old) (frame_view frame.new)) }
+    ensures ok { IfOk result (λ came. HasTriedWithin true came doubles_two (frame_view frame.old) (frame_view frame.new)) }
     ensures err { OnErr result (frame_view frame.new ≡ frame_view frame.old) }
 {
     let Some((first, second)) = last_two(frame) else {
@@ -221,7 +221,7 @@ fn double_two(frame: &mut Frame) -> Result<Within, Memory>
 // Negates an integer.
 fn negate(frame: &mut Frame) -> Within
     requires place { frame.old.at + 1 < 2 ^ 32 }
-    ensures { HasGone true result negates (frame_view frame.old) (frame_view frame.new) }
+    ensures { HasTriedWithin true result negates (frame_view frame.old) (frame_view frame.new) }
 {
     let Some(n) = last_int(frame) else {
         return Within::Stuck;
@@ -233,7 +233,7 @@ fn negate(frame: &mut Frame) -> Within
 // Inverts a truth value.
 fn invert(frame: &mut Frame) -> Within
     requires place { frame.old.at + 1 < 2 ^ 32 }
-    ensures { HasGone true result inverts (frame_view frame.old) (frame_view frame.new) }
+    ensures { HasTriedWithin true result inverts (frame_view frame.old) (frame_view frame.new) }
 {
     let Some(b) = last_bool(frame) else {
         return Within::Stuck;
@@ -246,7 +246,7 @@ fn invert(frame: &mut Frame) -> Within
 #[inline(always)]
 fn compute(frame: &mut Frame, operation: Operation) -> Within
     requires place { frame.old.at + 1 < 2 ^ 32 }
-    ensures { HasGone true result (computes (operation_of operation)) (frame_view frame.old) (frame_view frame.new) }
+    ensures { HasTriedWithin true result (computes (operation_of operation)) (frame_view frame.old) (frame_view frame.new) }
 {
     let Some((m, n)) = last_ints(frame) else {
         return Within::Stuck;
@@ -258,7 +258,7 @@ fn compute(frame: &mut Frame, operation: Operation) -> Within
 // Divides the operand before the last one by the last one. It panics if the divisor is 0.
 fn divide(frame: &mut Frame, division: Division) -> Within
     requires place { frame.old.at + 1 < 2 ^ 32 }
-    ensures { HasGone true result (divides (division_of division)) (frame_view frame.old) (frame_view frame.new) }
+    ensures { HasTriedWithin true result (divides (division_of division)) (frame_view frame.old) (frame_view frame.new) }
 {
     let Some((m, n)) = last_ints(frame) else {
         return Within::Stuck;
@@ -274,7 +274,7 @@ fn divide(frame: &mut Frame, division: Division) -> Within
 #[inline(always)]
 fn compare(frame: &mut Frame, comparison: Comparison) -> Within
     requires place { frame.old.at + 1 < 2 ^ 32 }
-    ensures { HasGone true result (compares (comparison_of comparison)) (frame_view frame.old) (frame_view frame.new) }
+    ensures { HasTriedWithin true result (compares (comparison_of comparison)) (frame_view frame.old) (frame_view frame.new) }
 {
     let Some((m, n)) = last_ints(frame) else {
         return Within::Stuck;
@@ -286,7 +286,7 @@ fn compare(frame: &mut Frame, comparison: Comparison) -> Within
 // Whether the last two operands, which are of one kind, are equal.
 fn equate(frame: &mut Frame) -> Within
     requires place { frame.old.at + 1 < 2 ^ 32 }
-    ensures { HasGone true result equates (frame_view frame.old) (frame_view frame.new) }
+    ensures { HasTriedWithin true result equates (frame_view frame.old) (frame_view frame.new) }
 {
     let Some((x, y)) = last_two(frame) else {
         return Within::Stuck;
@@ -302,7 +302,7 @@ fn equate(frame: &mut Frame) -> Within
 #[inline(always)]
 fn jump_unless(frame: &mut Frame, target: u32) -> Within
     requires place { frame.old.at + 1 < 2 ^ 32 }
-    ensures { HasGone true result (λ a. jumps_unless a target) (frame_view frame.old) (frame_view frame.new) }
+    ensures { HasTriedWithin true result (λ a. jumps_unless a target) (frame_view frame.old) (frame_view frame.new) }
 {
     let Some(b) = last_bool(frame) else {
         return Within::Stuck;
@@ -320,7 +320,7 @@ pub(crate) fn perform_within(
     instr: &Instr,
 ) -> Result<Within, Memory>
     requires place { frame.old.at + 1 < 2 ^ 32 }
-    ensures ok { IfOk result (λ came. (code : Code) (choice : ℕ) (s : State) → s.globals ≡ globals.now → HasGone (is_on_frame instr.now) came (λ a. changes code instr.now a choice s) (frame_view frame.old) (frame_view frame.new)) }
+    ensures ok { IfOk result (λ came. (code : Code) (choice : ℕ) (s : State) → s.globals ≡ globals.now → HasTriedWithin (is_on_frame instr.now) came (λ a. changes code instr.now a choice s) (frame_view frame.old) (frame_view frame.new)) }
     ensures plain { IfOk result (λ came. came ≡ within.Done → is_collection instr.now ≡ false) }
     ensures err { OnErr result (frame_view frame.new ≡ frame_view frame.old) }
 {

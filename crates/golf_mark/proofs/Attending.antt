@@ -1,5 +1,5 @@
 -- A place that was taken is scanned, or deferred.
--- For: `scan_or_defer`, src/marker.rt; `Attends`, specs/Turning.antt
+-- For: `scan_or_defer`, src/marker.rt; `Attends`, specs/MarkerTurns.antt
 -- By: one part of what is to be shown after the other; no induction
 use Rattle.std.proofs.Common.{◌≡◌, ℕ, inl, inr, List, Bool, length, refl, ◌∙◌}
 use Rattle.golf_theory.specs.Membership.{In}
@@ -11,9 +11,9 @@ use Rattle.golf_grey.specs.declared.pool.GreyPool.{GreyPool}
 use Rattle.golf_grey.specs.Hands.{pushed}
 use Rattle.golf_mark.specs.declared.marker.Marker.{Marker}
 use Rattle.golf_mark.specs.declared.scanner.Scanner.{Scanner}
-use Rattle.golf_mark.specs.Scanning.{Wins, with_seat}
-use Rattle.golf_mark.specs.Turning.{IsMarkerOf, Attends}
-use Rattle.golf_mark.specs.Working.{IsScanned}
+use Rattle.golf_mark.specs.ScannerState.{Wins, with_seat}
+use Rattle.golf_mark.specs.MarkerTurns.{IsMarkerOf, Attends}
+use Rattle.golf_mark.specs.UnderWay.{IsScanned}
 use Rattle.golf_mark.proofs.Winning.{HasLooked, Wins-looked}
 use Rattle.golf_mark.proofs.Covering.{own_wins, own_less, covered_wins, covered_same}
 

@@ -1,5 +1,5 @@
 -- What each place that was claimed comes to.
--- For: `IsCovered` and `KnowsWon`, specs/Scanning.antt
+-- For: `IsCovered` and `KnowsWon`, specs/ScannerState.antt
 -- By: cases of which list a place is in; no induction
 use Rattle.std.proofs.Common.{◌≡◌, ℕ, ◌⊎◌, inl, inr, List, [], ◌∷◌, ◌++◌, refl, sym, subst}
 use Rattle.golf_theory.specs.Membership.{In}
@@ -8,8 +8,8 @@ use Rattle.golf_base.specs.Roomy.{Roomy}
 use Rattle.golf_marks.specs.declared.marks.Marks.{Marks}
 use Rattle.golf_marks.specs.Seats.{graph_in, claimed, known}
 use Rattle.golf_mark.specs.declared.scanner.Scanner.{Scanner}
-use Rattle.golf_mark.specs.Scanning.{IsCovered, KnowsWon, Wins, with_won}
-use Rattle.golf_mark.specs.Working.{IsScanned, IsTaken}
+use Rattle.golf_mark.specs.ScannerState.{IsCovered, KnowsWon, Wins, with_won}
+use Rattle.golf_mark.specs.UnderWay.{IsScanned, IsTaken}
 
 -- what it wins it knows
 pub own_wins : (marks : Marks) (a b : Scanner) → Wins marks a b → KnowsWon marks a → KnowsWon marks b

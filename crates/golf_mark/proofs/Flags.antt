@@ -1,5 +1,5 @@
 -- One more flag is set.
--- For: `claim`, src/work.rt; `IsWorking`, specs/Working.antt
+-- For: `claim`, src/work.rt; `IsWorking`, specs/UnderWay.antt
 -- By: cases of whether a place is the new one, and arithmetic; no induction
 use Rattle.std.proofs.Common.{◌≡◌, ℕ, ◌+◌, ◌<◌, inl, inr, List, [], ◌∷◌, ◌++◌, length, get_or, set, Bool, true, false}
 use Rattle.std.proofs.Common.{sym, ap, subst, arith}
@@ -8,7 +8,7 @@ use Rattle.golf_theory.specs.Membership.{In}
 use Rattle.golf_theory.proofs.Lists.{In-left, In-cases, In-push}
 use Rattle.golf_base.specs.Roomy.{Roomy}
 use Rattle.golf_marks.proofs.Flags.{IsSet-set, set-IsSet, unset_one}
-use Rattle.golf_mark.specs.Working.{IsWorking}
+use Rattle.golf_mark.specs.UnderWay.{IsWorking}
 
 -- one more place is marked
 pub IsWorking-more : (bits : List Bool) (old new : Roomy ℕ) (p : ℕ) → p < length bits → get_or bits p false ≡ false

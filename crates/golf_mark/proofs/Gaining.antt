@@ -1,11 +1,11 @@
 -- Marking one place after another.
--- For: `Gains`, specs/Working.antt; `claim_all`, src/work.rt
+-- For: `Gains`, specs/UnderWay.antt; `claim_all`, src/work.rt
 -- By: cases of which list a place is in; for its index, induction over the list of places
 use Rattle.std.proofs.Common.{◌≡◌, ℕ, zero, suc, ◌<◌, ◌≤◌, ◌⊎◌, inl, inr, List, [], ◌∷◌, ◌++◌, length, get_or, arith}
 use Rattle.std.proofs.Common.{sym, ap, ◌∙◌, subst, append_assoc}
 use Rattle.golf_theory.specs.Membership.{In}
 use Rattle.golf_theory.proofs.Lists.{In-left, In-cases}
-use Rattle.golf_mark.specs.Working.{Working, Gains}
+use Rattle.golf_mark.specs.UnderWay.{Working, Gains}
 
 pub Gains-trans : (Kind : ℕ → Type 0) (a b c : Working) → Gains Kind a b → Gains Kind b c → Gains Kind a c
 Gains-trans Kind a b c f g = record {

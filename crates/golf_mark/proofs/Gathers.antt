@@ -1,5 +1,5 @@
 -- Taking the markers together, and what follows at the end.
--- For: `conclude`, src/conclude.rt; `IsGathered`, specs/Gathering.antt
+-- For: `conclude`, src/conclude.rt; `IsGathered`, specs/MergedMarkers.antt
 -- By: induction over the list of markers, and over the list of places that are left
 use Rattle.std.proofs.Common.{◌≡◌, ◌≢◌, ℕ, zero, suc, ◌+◌, ◌<◌, ◌≤◌, ◌⊎◌, List, [], ◌∷◌, ◌++◌, Bool, cond, ne_eqb}
 use Rattle.std.proofs.Common.{length, length-append, refl, sym, ap, ◌∙◌, subst, inl, inr, ⊎_elim, arith}
@@ -12,7 +12,7 @@ use native.Mathlib.Decide.{ℕ_discrete}
 use lib.ListN.{get_elem?}
 use Rattle.atomic_table.proofs.Lists.{at_longer, at_last}
 use Rattle.golf_theory.specs.Membership.{In}
-use Rattle.golf_theory.specs.Counting.{times}
+use Rattle.golf_theory.specs.Counts.{times}
 use Rattle.golf_theory.proofs.Times.{times-In, In-times}
 use Rattle.golf_marks.specs.declared.marks.Marks.{Marks}
 use Rattle.golf_marks.specs.Flags.{IsSet}
@@ -24,9 +24,9 @@ use Rattle.golf_grey.specs.declared.hand.GreyHand.{GreyHand}
 use Rattle.golf_grey.specs.declared.pool.GreyPool.{GreyPool}
 use Rattle.golf_grey.proofs.Stages.{push_cases, at_end}
 use Rattle.golf_mark.specs.declared.marker.Marker.{Marker}
-use Rattle.golf_mark.specs.Turning.{is_one}
-use Rattle.golf_mark.specs.Working.{IsScanned}
-use Rattle.golf_mark.specs.Gathering.{AllRun, IsEvenWith, IsGathered, IsNoted, Finisher, IsFinisherOf, IsHandedOver}
+use Rattle.golf_mark.specs.MarkerTurns.{is_one}
+use Rattle.golf_mark.specs.UnderWay.{IsScanned}
+use Rattle.golf_mark.specs.MergedMarkers.{AllRun, IsEvenWith, IsGathered, IsNoted, Finisher, IsFinisherOf, IsHandedOver}
 
 pub gathered_first : (marks : Marks) (ms rest : List Marker) (m : Marker) (todo : List Bool) → ms ≡ rest ++ m ∷ []
     → IsSeatOf marks m.scanner.seat → length todo ≡ place_count (graph_in marks)

@@ -1,5 +1,5 @@
 -- The markers before and after their run.
--- For: `equip` and `deal`, src/deal.rt; `EachRuns`, specs/Turning.antt
+-- For: `equip` and `deal`, src/deal.rt; `EachRuns`, specs/MarkerTurns.antt
 -- By: induction over the list of markers
 use Rattle.std.proofs.Common.{◌≡◌, ◌≢◌, ℕ, zero, suc, ◌+◌, ◌<◌, ◌≤◌, inl, inr, List, [], ◌∷◌, ◌++◌, All, length, set}
 use Rattle.std.proofs.Common.{refl, sym, ap, ◌∙◌, subst, ⊎_elim, arith}
@@ -21,29 +21,29 @@ use Rattle.golf_grey.specs.declared.pool.GreyPool.{GreyPool}
 use Rattle.golf_grey.specs.Hands.{capacity_of, places_of, hand_count, IsHandOf, IsNewHand}
 use Rattle.golf_grey.proofs.Stages.{exists_at, push_cases, at_end, longer}
 use Rattle.golf_mark.specs.declared.marker.Marker.{Marker}
-use Rattle.golf_mark.specs.Gathering.{AllRun, IsRooted, marker_parts}
-use Rattle.golf_mark.specs.Ready.{IsFresh, AllFresh, Seeds}
-use Rattle.golf_mark.specs.Turning.{IsMarkerOf, Runs, EachRuns, is_one}
+use Rattle.golf_mark.specs.MergedMarkers.{AllRun, IsRooted, marker_parts}
+use Rattle.golf_mark.specs.Ready.{IsFreshMarker, AreFreshMarkers, Seeds}
+use Rattle.golf_mark.specs.MarkerTurns.{IsMarkerOf, TakesTurns, EachRuns, is_one}
 
 -- each marker of the one list, and its mate in the other
 pub mate_before : (marks : Marks) (pool : GreyPool) (before after : List Marker) → EachRuns marks pool before after
     → (k : ℕ) (b : Marker) → get_elem? after k ≡ some b → (a : Marker) × (get_elem? before k ≡ some a)
-    × Runs marks pool a b
+    × TakesTurns marks pool a b
 mate_before marks pool [] [] e k b at = absurd (some-ne-none b (sym at))
 mate_before marks pool [] (y ∷ after) e k b at = absurd e
 mate_before marks pool (x ∷ xs) [] e k b at = absurd e
 mate_before marks pool (x ∷ xs) (y ∷ after) e zero b at =
-    (x, refl, subst (λ (m : Marker). Runs marks pool x m) (some-injective y b at) e.0)
+    (x, refl, subst (λ (m : Marker). TakesTurns marks pool x m) (some-injective y b at) e.0)
 mate_before marks pool (x ∷ xs) (y ∷ after) e (suc k) b at = mate_before marks pool xs after e.1 k b at
 
 pub mate_after : (marks : Marks) (pool : GreyPool) (before after : List Marker) → EachRuns marks pool before after
     → (k : ℕ) (a : Marker) → get_elem? before k ≡ some a → (b : Marker) × (get_elem? after k ≡ some b)
-    × Runs marks pool a b
+    × TakesTurns marks pool a b
 mate_after marks pool [] [] e k a at = absurd (some-ne-none a (sym at))
 mate_after marks pool [] (y ∷ after) e k a at = absurd e
 mate_after marks pool (x ∷ xs) [] e k a at = absurd e
 mate_after marks pool (x ∷ xs) (y ∷ after) e zero a at =
-    (y, refl, subst (λ (m : Marker). Runs marks pool m y) (some-injective x a at) e.0)
+    (y, refl, subst (λ (m : Marker). TakesTurns marks pool m y) (some-injective x a at) e.0)
 mate_after marks pool (x ∷ xs) (y ∷ after) e (suc k) a at = mate_after marks pool xs after e.1 k a at
 
 pub runs_length : (marks : Marks) (pool : GreyPool) (before after : List Marker) → EachRuns marks pool before after
@@ -69,7 +69,7 @@ runs_parts marks pool (x ∷ xs) (y ∷ after) e =
 
 -- markers that had taken nothing have attended all that they took
 pub all_run : (marks : Marks) (pool : GreyPool) (before after : List Marker) → EachRuns marks pool before after
-    → AllFresh marks pool before → AllRun marks pool after
+    → AreFreshMarkers marks pool before → AllRun marks pool after
 all_run marks pool before after e fresh k b at =
     let m = mate_before marks pool before after e k b at in
     let f = fresh k m.0 m.1 in
@@ -86,7 +86,7 @@ still_rooted marks pool roots before after e rooted p h =
     let m = mate_after marks pool before after e r.0 r.1 r.2 in
     (r.0, m.0, m.1, m.2.keeps.known p r.3)
 
-pub all_fit : (marks : Marks) (pool : GreyPool) (ms : List Marker) → AllFresh marks pool ms
+pub all_fit : (marks : Marks) (pool : GreyPool) (ms : List Marker) → AreFreshMarkers marks pool ms
     → All (IsMarkerOf marks pool) ms
 all_fit marks pool ms fresh k d low =
     let m = exists_at ms k low in
@@ -94,9 +94,10 @@ all_fit marks pool ms fresh k d low =
 
 -- one marker has claimed a root
 pub all_fresh_set : (marks : Marks) (pool : GreyPool) (ms : List Marker) (root j : ℕ) (a b : Marker)
-    → get_elem? ms j ≡ some a → Seeds marks pool root a b → AllFresh marks pool ms → AllFresh marks pool (set ms j b)
+    → get_elem? ms j ≡ some a → Seeds marks pool root a b → AreFreshMarkers marks pool ms
+    → AreFreshMarkers marks pool (set ms j b)
 all_fresh_set marks pool ms root j a b at s fresh k m e = ⊎_elim
-    (λ (t : (k ≡ j) × (b ≡ m)). subst (λ (x : ℕ × Marker). IsFresh marks pool x.0 x.1) (λ i. (sym t.0 i, t.1 i))
+    (λ (t : (k ≡ j) × (b ≡ m)). subst (λ (x : ℕ × Marker). IsFreshMarker marks pool x.0 x.1) (λ i. (sym t.0 i, t.1 i))
     (record {
       fits = s.fits;
       none = λ f. s.took f ∙ (fresh j a at).none f;
@@ -152,7 +153,7 @@ pub record IsEquipping (marks : Marks) (pool : GreyPool) (total : ℕ) (seats : 
   pub new_hands : Every IsNewHand hands
   pub count : length ms + length hands ≡ hand_count pool
   pub parts : marker_parts ms + length hands ≡ total
-  pub fresh : AllFresh marks pool ms
+  pub fresh : AreFreshMarkers marks pool ms
 
 -- besides its seat and its hand the marker has nothing, and room for all places
 pub record HasRoom (marks : Marks) (pool : GreyPool) (m : Marker) : Type 0 where
@@ -185,7 +186,7 @@ equipped {total} {seats} {hands} marks pool some_seats some_hands ms m q seat_is
       parts = omega (arith, q.parts, hands_long, sum_by_push (λ (x : Marker). parts x.scanner.seat) ms m, seat.parts);
       fresh = λ k x at. ⊎_elim
           (λ (t : (k < length ms) × (get_elem? ms k ≡ some x)). q.fresh k x t.1)
-          (λ (t : (k ≡ length ms) × (m ≡ x)). subst (IsFresh marks pool k) t.1 (record {
+          (λ (t : (k ≡ length ms) × (m ≡ x)). subst (IsFreshMarker marks pool k) t.1 (record {
             fits = record {
               scanner = record {
                 seat = seat.seat;

@@ -1,5 +1,5 @@
 -- One run after another, and what a turn does to the places that were taken.
--- For: `step` and `run`, src/marker.rt; `Runs`, specs/Turning.antt
+-- For: `step` and `run`, src/marker.rt; `TakesTurns`, specs/MarkerTurns.antt
 -- By: cases of what a turn does; for all markers, induction over their list
 use Rattle.std.proofs.Common.{◌≡◌, ℕ, ◌+◌, ◌<◌, ◌⊎◌, List, [], ◌∷◌, ◌++◌, Bool, false, cond, ne_eqb, length, get_or}
 use Rattle.std.proofs.Common.{refl, sym, ap, ◌∙◌, subst, inl, inr, arith}
@@ -16,32 +16,33 @@ use Rattle.golf_grey.specs.declared.hand.GreyHand.{GreyHand}
 use Rattle.golf_grey.specs.Hands.{pushed, took, IsHandOf}
 use Rattle.golf_mark.specs.declared.marker.Marker.{Marker}
 use Rattle.golf_mark.specs.declared.scanner.Scanner.{Scanner}
-use Rattle.golf_mark.specs.Turning.{IsMarkerOf, Keeps, Attends, Runs, EachRuns, is_one}
-use Rattle.golf_mark.specs.Scanning.{IsCovered, Wins, with_won}
-use Rattle.golf_mark.specs.Working.{IsScanned, IsTaken}
+use Rattle.golf_mark.specs.MarkerTurns.{IsMarkerOf, KnowsStill, Attends, TakesTurns, EachRuns, is_one}
+use Rattle.golf_mark.specs.ScannerState.{IsCovered, Wins, with_won}
+use Rattle.golf_mark.specs.UnderWay.{IsScanned, IsTaken}
 use Rattle.golf_mark.proofs.Covering.{own_wins, own_less, covered_same, covered_scan, covered_share}
 
-pub Keeps-trans : (a b c : Marker) → Keeps a b → Keeps b c → Keeps a c
-Keeps-trans a b c f g = record {
+pub KnowsStill-trans : (a b c : Marker) → KnowsStill a b → KnowsStill b c → KnowsStill a c
+KnowsStill-trans a b c f g = record {
   known = λ p h. g.known p (f.known p h);
   parts = g.parts ∙ f.parts;
   number = g.number
       ∙ f.number;
 }
 
-pub Runs-trans : (marks : Marks) (pool : GreyPool) (a b c : Marker) → Runs marks pool a b → Runs marks pool b c
-    → Runs marks pool a c
-Runs-trans marks pool a b c f g = record {
+pub TakesTurns-trans : (marks : Marks) (pool : GreyPool) (a b c : Marker) → TakesTurns marks pool a b
+    → TakesTurns marks pool b c
+    → TakesTurns marks pool a c
+TakesTurns-trans marks pool a b c f g = record {
   fits = g.fits;
-  keeps = Keeps-trans a b c f.keeps g.keeps;
+  keeps = KnowsStill-trans a b c f.keeps g.keeps;
   attended = λ t. g.attended (f.attended t);
 }
 
 -- a turn that took a place
-pub Runs-turn : (marks : Marks) (pool : GreyPool) (place : ℕ) (a b c : Marker) → b.scanner ≡ a.scanner
+pub TakesTurns-turn : (marks : Marks) (pool : GreyPool) (place : ℕ) (a b c : Marker) → b.scanner ≡ a.scanner
     → b.deferred ≡ a.deferred → b.hand.number ≡ a.hand.number → ((f : ℕ → ℕ) → took f b.hand ≡ took f a.hand + f place)
-    → Attends marks pool place b c → Runs marks pool a c
-Runs-turn marks pool place a b c scanner deferred number one t = record {
+    → Attends marks pool place b c → TakesTurns marks pool a c
+TakesTurns-turn marks pool place a b c scanner deferred number one t = record {
   fits = t.fits;
   keeps = record {
     known = keep;
@@ -64,9 +65,9 @@ Runs-turn marks pool place a b c scanner deferred number one t = record {
     keep p h = t.keeps.known p (subst (λ (l : List ℕ). In p l) (sym (ap (λ (s : Scanner). known s.seat) scanner)) h)
 
 -- nothing is taken or deferred, and what is known stays known
-pub Runs-still : (marks : Marks) (pool : GreyPool) (a b : Marker) → IsMarkerOf marks pool b → Keeps a b
-    → ((f : ℕ → ℕ) → took f b.hand ≡ took f a.hand) → b.deferred ≡ a.deferred → Runs marks pool a b
-Runs-still marks pool a b fits keeps same deferred = record {
+pub TakesTurns-still : (marks : Marks) (pool : GreyPool) (a b : Marker) → IsMarkerOf marks pool b → KnowsStill a b
+    → ((f : ℕ → ℕ) → took f b.hand ≡ took f a.hand) → b.deferred ≡ a.deferred → TakesTurns marks pool a b
+TakesTurns-still marks pool a b fits keeps same deferred = record {
   fits = fits;
   keeps = keeps;
   attended = λ old p low pos. elim (old p low (omega (arith, same (is_one p)))) [
@@ -96,13 +97,13 @@ pub record HasPushed (pool : GreyPool) (old hand : GreyHand) (places : List ℕ)
   pub number : hand.number ≡ old.number
 
 -- its own list is the same, and so is what its hand pushed and took
-pub Runs-idle : (marks : Marks) (pool : GreyPool) (a : Marker) (won : Roomy ℕ) (hand : GreyHand)
+pub TakesTurns-idle : (marks : Marks) (pool : GreyPool) (a : Marker) (won : Roomy ℕ) (hand : GreyHand)
     → IsMarkerOf marks pool a → won.items ≡ a.scanner.won.items → won.spare ≡ a.scanner.won.spare
     → HasPushed pool a.hand hand (pushed a.hand)
-    → Runs marks pool a (record a { scanner = with_won a.scanner won; hand = hand })
-Runs-idle marks pool a won hand fits items spare same =
+    → TakesTurns marks pool a (record a { scanner = with_won a.scanner won; hand = hand })
+TakesTurns-idle marks pool a won hand fits items spare same =
     let s : Scanner = with_won a.scanner won in
-    Runs-still marks pool a (record a { scanner = s; hand = hand })
+    TakesTurns-still marks pool a (record a { scanner = s; hand = hand })
     (record {
       scanner = record {
         seat = fits.scanner.seat;
@@ -121,13 +122,13 @@ Runs-idle marks pool a won hand fits items spare same =
     same.took refl
 
 -- a place of its own list is scanned
-pub Runs-own : (marks : Marks) (pool : GreyPool) (place : ℕ) (a : Marker) (won : Roomy ℕ) (s : Scanner)
+pub TakesTurns-own : (marks : Marks) (pool : GreyPool) (place : ℕ) (a : Marker) (won : Roomy ℕ) (s : Scanner)
     → IsMarkerOf marks pool a → IsTaken place a.scanner.won.items won.items
     → Wins marks (with_won a.scanner won) s → IsScanned (graph_in marks) (known s.seat) place
-    → Runs marks pool a (record a { scanner = s })
-Runs-own marks pool place a won s fits taken wins scanned =
+    → TakesTurns marks pool a (record a { scanner = s })
+TakesTurns-own marks pool place a won s fits taken wins scanned =
     let rest : Scanner = with_won a.scanner won in
-    Runs-still marks pool a (record a { scanner = s })
+    TakesTurns-still marks pool a (record a { scanner = s })
     (record {
       scanner = wins.fits;
       own = own_wins marks rest s wins (own_less marks a.scanner rest (λ p h. h)
@@ -143,14 +144,14 @@ Runs-own marks pool place a won s fits taken wins scanned =
     (λ f. refl) refl
 
 -- the first place of its own list is shared
-pub Runs-shared : {place : ℕ} (marks : Marks) (pool : GreyPool) (budget : ℕ) (a : Marker) (won : Roomy ℕ)
+pub TakesTurns-shared : {place : ℕ} (marks : Marks) (pool : GreyPool) (budget : ℕ) (a : Marker) (won : Roomy ℕ)
     (hand : GreyHand) → IsMarkerOf marks pool a → a.scanner.won.items ≡ place ∷ won.items
     → won.spare ≡ a.scanner.won.spare
     → HasPushed pool a.hand hand (pushed a.hand ++ place ∷ []) → budget + 1 ≡ a.budget
-    → Runs marks pool a (record a { scanner = with_won a.scanner won; hand = hand; budget = budget })
-Runs-shared {place} marks pool budget a won hand fits items spare more less =
+    → TakesTurns marks pool a (record a { scanner = with_won a.scanner won; hand = hand; budget = budget })
+TakesTurns-shared {place} marks pool budget a won hand fits items spare more less =
     let s : Scanner = with_won a.scanner won in
-    Runs-still marks pool a (record a { scanner = s; hand = hand; budget = budget })
+    TakesTurns-still marks pool a (record a { scanner = s; hand = hand; budget = budget })
     (record {
       scanner = record {
         seat = fits.scanner.seat;

@@ -1,12 +1,12 @@
 -- A place is scanned once all that it justifies is in the list.
--- For: `scan`, src/work.rt; `IsScanned`, specs/Working.antt
+-- For: `scan`, src/work.rt; `IsScanned`, specs/UnderWay.antt
 -- By: cases of why a place is justified; no induction
 use Rattle.std.proofs.Common.{◌≡◌, ℕ, ◌+◌, ◌<◌, List, subst, sym, arith}
 use Rattle.golf_theory.specs.Membership.{In}
 use Rattle.golf_theory.proofs.Lists.{Every-at}
 use Rattle.golf_model.specs.declared.graph.GraphParts.{GraphParts}
 use Rattle.golf_model.specs.Graph.{node_count, children_of, sleeper_waits, sleeper_references, Justifies, IsInRange}
-use Rattle.golf_mark.specs.Working.{IsScanned}
+use Rattle.golf_mark.specs.UnderWay.{IsScanned}
 use Rattle.golf_mark.proofs.Ranges.{row_past, waits-nodes}
 
 pub scanned_node : (g : GraphParts) (marked : List ℕ) (p : ℕ) → p < node_count g

@@ -1,5 +1,5 @@
 -- A turn of the finishing scan.
--- For: `settle`, src/finish.rt; `IsCovered`, specs/Scanning.antt
+-- For: `settle`, src/finish.rt; `IsCovered`, specs/ScannerState.antt
 -- By: cases of where a place stands; arithmetic of what is left to do; no induction
 use Rattle.std.proofs.Common.{◌≡◌, ℕ, ◌+◌, ◌-◌, ◌*◌, ◌<◌, ◌≤◌, inl, inr, List, [], ◌∷◌, ◌++◌, Bool, length}
 use Rattle.std.proofs.Common.{length-append, sym, ap, ◌∙◌, subst, arith}
@@ -14,9 +14,9 @@ use Rattle.golf_marks.specs.Flags.{IsSet}
 use Rattle.golf_marks.specs.Places.{place_count}
 use Rattle.golf_marks.specs.Seats.{graph_in, claimed, known, IsSameSeat}
 use Rattle.golf_mark.specs.declared.scanner.Scanner.{Scanner}
-use Rattle.golf_mark.specs.Finishing.{IsIdle, IsPending, KeepsSeat}
-use Rattle.golf_mark.specs.Scanning.{IsScannerOf, IsCovered, KnowsWon, Wins, with_won, with_seat}
-use Rattle.golf_mark.specs.Working.{IsScanned}
+use Rattle.golf_mark.specs.FinishingScan.{IsIdle, IsPending, KeepsSeat}
+use Rattle.golf_mark.specs.ScannerState.{IsScannerOf, IsCovered, KnowsWon, Wins, with_won, with_seat}
+use Rattle.golf_mark.specs.UnderWay.{IsScanned}
 use Rattle.golf_mark.proofs.Winning.{HasLooked}
 use Rattle.golf_mark.proofs.Covering.{own_wins, own_less, last_or, covered_scan}
 

@@ -1,5 +1,5 @@
 -- The turns of a marking that goes through its own list.
--- For: `mark`, src/alone.rt; `IsUnderWay`, specs/Working.antt
+-- For: `mark`, src/alone.rt; `IsMarkingUnderWay`, specs/UnderWay.antt
 -- By: induction over how a place is reached from the roots, and over the list of marked places
 use Rattle.std.proofs.Common.{◌≡◌, ℕ, zero, suc, ◌+◌, ◌<◌, ◌≤◌, inl, inr, List, [], ◌∷◌, length, length-append, get_or}
 use Rattle.std.proofs.Common.{Some, None, sym, ap, ◌∙◌, subst, arith, below_more}
@@ -10,7 +10,7 @@ use Rattle.golf_theory.proofs.Lists.{In-get_or}
 use Rattle.golf_theory.proofs.Derivations.{Reached-root, Reached-step, Reached-least}
 use Rattle.golf_model.specs.declared.graph.GraphParts.{GraphParts}
 use Rattle.golf_model.specs.Graph.{node_count, sleeper_count, Justifies, Least}
-use Rattle.golf_mark.specs.Working.{Working, Gains, IsScanned, IsUnderWay}
+use Rattle.golf_mark.specs.UnderWay.{Working, Gains, IsScanned, IsMarkingUnderWay}
 use Rattle.golf_mark.proofs.Gaining.{place_of, Gains-keeps, Gains-cases}
 
 pub slice_get-some : (xs : List ℕ) (k p : ℕ) → slice_get xs k ≡ Some p → (k < length xs) × (get_or xs k 0 ≡ p)
@@ -25,7 +25,7 @@ slice_get-none (x ∷ xs) (suc k) e = omega (arith, slice_get-none xs k e)
 
 -- the roots are marked, and nothing is scanned
 pub begins : (g : GraphParts) (a b : Working) → a.places ≡ node_count g + sleeper_count g → a.order ≡ []
-    → Gains (λ p. In p g.roots) a b → ((p : ℕ) → In p g.roots → In p b.order) → IsUnderWay g b 0
+    → Gains (λ p. In p g.roots) a b → ((p : ℕ) → In p g.roots → In p b.order) → IsMarkingUnderWay g b 0
 begins g a b places empty gains roots = record {
   places = gains.places ∙ places;
   within = omega arith;
@@ -39,7 +39,7 @@ begins g a b places empty gains roots = record {
 
 -- the next place is scanned
 pub goes_on : (g : GraphParts) (a b : Working) (turn p : ℕ) → turn < length a.order → get_or a.order turn 0 ≡ p
-    → IsUnderWay g a turn → Gains (Justifies g p) a b → IsScanned g b.order p → IsUnderWay g b (turn + 1)
+    → IsMarkingUnderWay g a turn → Gains (Justifies g p) a b → IsScanned g b.order p → IsMarkingUnderWay g b (turn + 1)
 goes_on g a b turn p low at u gains scanned =
     let here : In p a.order = subst (λ (x : ℕ). In x a.order) at (In-get_or a.order turn 0 low) in
     let kept : (k : ℕ) → k < length a.order → get_or b.order k 0 ≡ get_or a.order k 0 =
@@ -60,7 +60,8 @@ goes_on g a b turn p low at u gains scanned =
     }
 
 -- all marked places are scanned
-pub ends : (g : GraphParts) (w : Working) (turn : ℕ) → length w.order ≤ turn → IsUnderWay g w turn → (p : ℕ) → Least g p
+pub ends : (g : GraphParts) (w : Working) (turn : ℕ) → length w.order ≤ turn → IsMarkingUnderWay g w turn → (p : ℕ)
+    → Least g p
     → In p w.order
 ends g w turn all u p d = Reached-least (λ x. In x g.roots) (Justifies g) (λ x. In x w.order) u.roots
     (λ q x h j. let r = place_of w.order q h in

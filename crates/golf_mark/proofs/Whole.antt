@@ -5,7 +5,7 @@ use Rattle.std.proofs.Common.{◌≡◌, ℕ, ◌<◌, inl, inr, List, [], ◌�
 use Rattle.std.specs.Prelude.{◌↔◌}
 use Rattle.std.proofs.lemmas.List.Sums.{sum_by-cons}
 use Rattle.golf_theory.specs.Membership.{In, Every}
-use Rattle.golf_theory.specs.Counting.{times}
+use Rattle.golf_theory.specs.Counts.{times}
 use Rattle.golf_theory.proofs.Derivations.{Reached-least}
 use Rattle.golf_theory.proofs.Times.{In-times}
 use Rattle.golf_model.specs.declared.graph.GraphParts.{GraphParts}
@@ -15,8 +15,8 @@ use Rattle.golf_marks.specs.declared.marks.MarkSeat.{MarkSeat}
 use Rattle.golf_marks.specs.Places.{place_count}
 use Rattle.golf_marks.specs.Seats.{graph_in, claimed, known, claim_count}
 use Rattle.golf_mark.specs.declared.scanner.Scanner.{Scanner}
-use Rattle.golf_mark.specs.Finishing.{IsPending}
-use Rattle.golf_mark.specs.Scanning.{IsCovered}
+use Rattle.golf_mark.specs.FinishingScan.{IsPending}
+use Rattle.golf_mark.specs.ScannerState.{IsCovered}
 use Rattle.golf_mark.proofs.Ranges.{Least-below}
 
 -- the only seat is that of the scanner: what it claimed is of the least closed set and scanned, and it knows the roots

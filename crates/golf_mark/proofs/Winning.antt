@@ -1,5 +1,5 @@
 -- One claim after another.
--- For: `Wins`, specs/Scanning.antt; `claim`, src/scanner.rt
+-- For: `Wins`, specs/ScannerState.antt; `claim`, src/scanner.rt
 -- By: one clause after the other; no induction
 use Rattle.std.proofs.Common.{◌≡◌, ℕ, ◌+◌, ◌<◌, ◌≤◌, inl, inr, List, [], ◌∷◌, ◌++◌, length, sym, ap, ◌∙◌, subst}
 use Rattle.std.proofs.Common.{refl, append_assoc, append-nil, arith}
@@ -13,7 +13,7 @@ use Rattle.golf_marks.specs.declared.marks.MarkSeat.{MarkSeat}
 use Rattle.golf_marks.specs.Places.{place_count}
 use Rattle.golf_marks.specs.Seats.{graph_in, claimed, known, IsSeatOf, IsSameSeat}
 use Rattle.golf_mark.specs.declared.scanner.Scanner.{Scanner}
-use Rattle.golf_mark.specs.Scanning.{AreClaimable, IsScannerOf, Wins, with_seat}
+use Rattle.golf_mark.specs.ScannerState.{AreClaimable, IsScannerOf, Wins, with_seat}
 
 pub Wins-trans : (marks : Marks) (a b c : Scanner) → Wins marks a b → Wins marks b c → Wins marks a c
 Wins-trans marks a b c f g = record {

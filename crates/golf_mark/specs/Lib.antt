@@ -1,10 +1,10 @@
 pub mod Waiters
-pub mod Working
-pub mod Marking
-pub mod Scanning
-pub mod Turning
-pub mod Finishing
-pub mod Gathering
+pub mod UnderWay
+pub mod MarkingResult
+pub mod ScannerState
+pub mod MarkerTurns
+pub mod FinishingScan
+pub mod MergedMarkers
 pub mod Ready
 pub mod Team
 pub mod Sheets

@@ -3,7 +3,7 @@
 //! The list of marked places, in the order of marking, is also the worklist.
 
 ghost use Rattle.std.specs.Prelude.{IfOk};
-ghost use Rattle.golf_mark.specs.Marking.{MarksLeast};
+ghost use Rattle.golf_mark.specs.MarkingResult.{MarksLeast};
 
 use crate::waiters::Waiters;
 use crate::work::{Sheet, Work, scan};

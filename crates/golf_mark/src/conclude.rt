@@ -7,8 +7,8 @@ ghost use lib.ListN.{get_elem?};
 ghost use Rattle.golf_model.specs.Graph.{IsInRange};
 ghost use Rattle.golf_marks.specs.Seats.{graph_in, seat_count};
 ghost use Rattle.golf_grey.specs.Hands.{hand_count};
-ghost use Rattle.golf_mark.specs.Gathering.{AllRun, IsRooted, marker_parts};
-ghost use Rattle.golf_mark.specs.Marking.{MarksLeast};
+ghost use Rattle.golf_mark.specs.MergedMarkers.{AllRun, IsRooted, marker_parts};
+ghost use Rattle.golf_mark.specs.MarkingResult.{MarksLeast};
 ghost use Rattle.golf_mark.specs.Waiters.{IsWaiters};
 
 use crate::finish::settle;

@@ -8,9 +8,9 @@ ghost use Rattle.golf_model.specs.Graph.{IsInRange};
 ghost use Rattle.golf_marks.specs.Places.{place_count};
 ghost use Rattle.golf_marks.specs.Seats.{graph_in, IsNewSeatOf};
 ghost use Rattle.golf_grey.specs.Hands.{AreAllHands, AreNewHands, FallTo0, capacity_of, hand_count, places_of};
-ghost use Rattle.golf_mark.specs.Gathering.{IsRooted, marker_parts};
-ghost use Rattle.golf_mark.specs.Ready.{AllFresh, Seeds};
-ghost use Rattle.golf_mark.specs.Turning.{IsMarkerOf};
+ghost use Rattle.golf_mark.specs.MergedMarkers.{IsRooted, marker_parts};
+ghost use Rattle.golf_mark.specs.Ready.{AreFreshMarkers, Seeds};
+ghost use Rattle.golf_mark.specs.MarkerTurns.{IsMarkerOf};
 
 use crate::marker::Marker;
 use crate::notes::Notes;
@@ -42,7 +42,7 @@ pub(crate) fn equip(
     requires new { AreNewHands hands }
     ensures count { IfOk result (λ markers. length markers.items ≡ hand_count pool.now) }
     ensures parts { IfOk result (λ markers. marker_parts markers.items ≡ length seats) }
-    ensures fresh { IfOk result (λ markers. AllFresh marks.now pool.now markers.items) }
+    ensures fresh { IfOk result (λ markers. AreFreshMarkers marks.now pool.now markers.items) }
 {
     let mut seats = seats;
     let mut hands = hands;
@@ -84,10 +84,10 @@ pub(crate) fn deal(
 ) -> Vec<Marker>
     requires graph { graph_in marks.now ≡ graph.now }
     requires some { 0 < length markers.items }
-    requires fresh { AllFresh marks.now pool.now markers.items }
+    requires fresh { AreFreshMarkers marks.now pool.now markers.items }
     ensures count { length result.items ≡ length markers.items }
     ensures parts { marker_parts result.items ≡ marker_parts markers.items }
-    ensures fresh { AllFresh marks.now pool.now result.items }
+    ensures fresh { AreFreshMarkers marks.now pool.now result.items }
     ensures rooted { IsRooted graph.now.roots result.items }
     ensures in_range { IsInRange graph.now }
 {

@@ -5,8 +5,8 @@
 ghost use Rattle.std.specs.Prelude.{◌^◌, ◌≡◌, ◌+◌, ◌<◌, ℕ, Bool, List, length};
 ghost use Rattle.golf_marks.specs.Places.{place_count};
 ghost use Rattle.golf_marks.specs.Seats.{graph_in};
-ghost use Rattle.golf_mark.specs.Finishing.{IsIdle, IsPending, KeepsSeat};
-ghost use Rattle.golf_mark.specs.Scanning.{IsScannerOf, IsCovered, KnowsWon};
+ghost use Rattle.golf_mark.specs.FinishingScan.{IsIdle, IsPending, KeepsSeat};
+ghost use Rattle.golf_mark.specs.ScannerState.{IsScannerOf, IsCovered, KnowsWon};
 ghost use Rattle.golf_mark.specs.Waiters.{IsWaiters};
 
 use crate::notes::Notes;

@@ -8,7 +8,7 @@ ghost use Rattle.std.specs.Thread.{IsSync};
 ghost use Rattle.golf_marks.specs.Places.{place_count};
 ghost use Rattle.golf_marks.specs.Seats.{graph_in};
 ghost use Rattle.golf_grey.specs.Hands.{option_weight, places_of, pushed, took, IsHandOf};
-ghost use Rattle.golf_mark.specs.Turning.{IsMarkerOf, Attends, Runs, EachRuns};
+ghost use Rattle.golf_mark.specs.MarkerTurns.{IsMarkerOf, Attends, TakesTurns, EachRuns};
 ghost use Rattle.golf_mark.specs.Waiters.{IsWaiters};
 
 use crate::notes::Notes;
@@ -65,7 +65,7 @@ fn scan_own(shared: &Shared, marker: &mut Marker) -> bool
     requires fits { IsMarkerOf shared.now.marks.now shared.now.pool.now marker.old }
     requires graph { graph_in shared.now.marks.now ≡ shared.now.graph.now }
     requires waiters { IsWaiters shared.now.graph.now shared.now.waiters.now }
-    ensures { Runs shared.now.marks.now shared.now.pool.now marker.old marker.new }
+    ensures { TakesTurns shared.now.marks.now shared.now.pool.now marker.old marker.new }
 {
     let Some(place) = marker.scanner.won.take() else {
         return false;
@@ -105,7 +105,7 @@ fn scan_or_defer(shared: &Shared, marker: &mut Marker, place: u32)
 // most turns it does not look.
 fn share(shared: &Shared, marker: &mut Marker, turn: u64)
     requires { IsMarkerOf shared.now.marks.now shared.now.pool.now marker.old }
-    ensures { Runs shared.now.marks.now shared.now.pool.now marker.old marker.new }
+    ensures { TakesTurns shared.now.marks.now shared.now.pool.now marker.old marker.new }
 {
     if marker.budget == 0 || turn % LOOK_EVERY != 0 || marker.scanner.won.len() < 2 {
         return;
@@ -175,7 +175,7 @@ fn step(shared: &Shared, marker: &mut Marker, turn: u64) -> bool
     requires fits { IsMarkerOf shared.now.marks.now shared.now.pool.now marker.old }
     requires graph { graph_in shared.now.marks.now ≡ shared.now.graph.now }
     requires waiters { IsWaiters shared.now.graph.now shared.now.waiters.now }
-    ensures { Runs shared.now.marks.now shared.now.pool.now marker.old marker.new }
+    ensures { TakesTurns shared.now.marks.now shared.now.pool.now marker.old marker.new }
 {
     if scan_own(shared, marker) {
         share(shared, marker, turn);
@@ -194,7 +194,7 @@ fn run<G: Gate>(gate: &G, number: u32, shared: &Shared, marker: &mut Marker)
     requires fits { IsMarkerOf shared.now.marks.now shared.now.pool.now marker.old }
     requires graph { graph_in shared.now.marks.now ≡ shared.now.graph.now }
     requires waiters { IsWaiters shared.now.graph.now shared.now.waiters.now }
-    ensures { Runs shared.now.marks.now shared.now.pool.now marker.old marker.new }
+    ensures { TakesTurns shared.now.marks.now shared.now.pool.now marker.old marker.new }
 {
     let _ = shared.begun.fetch_add(1, Ordering::SeqCst);
     for turn in 0..u64::MAX {

@@ -4,9 +4,9 @@
 
 ghost use Rattle.std.specs.Prelude.{◌≡◌, ◌<◌, ◌≤◌, length, IfOk};
 ghost use Rattle.golf_marks.specs.Seats.{graph_in};
-ghost use Rattle.golf_mark.specs.Marking.{MarksLeast};
-ghost use Rattle.golf_mark.specs.Ready.{AllFresh, IsReady};
-ghost use Rattle.golf_mark.specs.Turning.{EachRuns};
+ghost use Rattle.golf_mark.specs.MarkingResult.{MarksLeast};
+ghost use Rattle.golf_mark.specs.Ready.{AreFreshMarkers, IsReady};
+ghost use Rattle.golf_mark.specs.MarkerTurns.{EachRuns};
 ghost use Rattle.golf_mark.specs.Waiters.{IsWaiters};
 
 use crate::conclude::conclude;
@@ -37,7 +37,7 @@ fn run_markers<G: Gate + Sync, R: Threads + Sync>(
     requires graph { graph_in shared.now.marks.now ≡ shared.now.graph.now }
     requires waiters { IsWaiters shared.now.graph.now shared.now.waiters.now }
     requires few { length markers.items ≤ 16 }
-    requires fresh { AllFresh shared.now.marks.now shared.now.pool.now markers.items }
+    requires fresh { AreFreshMarkers shared.now.marks.now shared.now.pool.now markers.items }
     ensures { EachRuns shared.now.marks.now shared.now.pool.now markers.items result.items }
 {
     let mut markers = markers;

@@ -7,9 +7,9 @@ ghost use Rattle.golf_theory.specs.Membership.{In, Every};
 ghost use Rattle.golf_marks.specs.Batches.{batched};
 ghost use Rattle.golf_marks.specs.Places.{place_count, IsJustified};
 ghost use Rattle.golf_marks.specs.Seats.{graph_in, known};
-ghost use Rattle.golf_mark.specs.Scanning.{AreClaimable, IsScannerOf, Wins};
+ghost use Rattle.golf_mark.specs.ScannerState.{AreClaimable, IsScannerOf, Wins};
 ghost use Rattle.golf_mark.specs.Waiters.{IsWaiters};
-ghost use Rattle.golf_mark.specs.Working.{IsScanned};
+ghost use Rattle.golf_mark.specs.UnderWay.{IsScanned};
 
 use crate::waiters::Waiters;
 use crate::worklist::Worklist;

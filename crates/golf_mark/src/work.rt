@@ -7,7 +7,7 @@ ghost use Rattle.golf_theory.specs.Membership.{In, Every};
 ghost use Rattle.golf_model.specs.Graph.{node_count, sleeper_count, Justifies};
 ghost use Rattle.golf_marks.specs.Flags.{HasMarked};
 ghost use Rattle.golf_mark.specs.Waiters.{IsWaiters};
-ghost use Rattle.golf_mark.specs.Working.{Gains, IsScanned, Working};
+ghost use Rattle.golf_mark.specs.UnderWay.{Gains, IsScanned, Working};
 
 use crate::waiters::Waiters;
 use golf_base::{List, Memory, Room};
@@ -25,7 +25,7 @@ pub(crate) struct Work {
 
 impl Model for Work {
     ghost use Rattle.std.specs.Prelude.{length};
-    ghost use Rattle.golf_mark.specs.Working.{Working, IsWorking};
+    ghost use Rattle.golf_mark.specs.UnderWay.{Working, IsWorking};
 
     ghost Value = { Working };
 
@@ -35,7 +35,7 @@ impl Model for Work {
 }
 
 impl Work {
-    ghost use Rattle.golf_mark.specs.Working.{Gains};
+    ghost use Rattle.golf_mark.specs.UnderWay.{Gains};
 
     /// Returns the work before the first claim, with room for all places.
     pub(crate) fn new(alloc: Global, places: u32) -> Result<Work, Memory>

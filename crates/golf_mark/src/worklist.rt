@@ -4,7 +4,7 @@
 
 ghost use Rattle.std.specs.Prelude.{◌≡◌, ◌+◌, ◌<◌, ◌≤◌, ◌∷◌, ◌++◌, [], IfOk, MatchOption, length};
 ghost use Rattle.golf_marks.specs.Batches.{batched};
-ghost use Rattle.golf_mark.specs.Working.{IsTaken};
+ghost use Rattle.golf_mark.specs.UnderWay.{IsTaken};
 
 use golf_base::Memory;
 use golf_marks::Batch;

@@ -16,7 +16,8 @@ use Rattle.golf_theory.specs.Membership.{In}
 use Rattle.golf_marks.specs.declared.batch.Batch.{Batch}
 use Rattle.golf_marks.specs.Batches.{batched}
 use Rattle.golf_marks.specs.Bits.{word_of, mask_of, bit_in, marked_in, unset_in}
-use Rattle.golf_marks.proofs.BitLaws.{bit_small, or_bit, unset_bit, mask_same, mask_other, one_place, marked_set, set_marked}
+use Rattle.golf_marks.proofs.BitLaws.{bit_small, or_bit, unset_bit, mask_same, mask_other, one_place, marked_set}
+use Rattle.golf_marks.proofs.BitLaws.{set_marked}
 use Rattle.golf_marks.proofs.BitLaws.{none_marked, lowest_marked}
 
 pub batched_is : (b : Batch) → batched b ≡ marked_in b.word b.bits
@@ -92,7 +93,8 @@ lowest_first w n some small =
       set = t.1;
       gone = bit_left k ∙ bit_at_cat_low a (suc k) 0 k (omega arith) ∙ bit_at-zero k;
       same = λ i low other. elim (cases_lt i k) [
-        | inl below ↦ bit_left i ∙ bit_at_cat_low a (suc k) 0 i (omega (arith, below)) ∙ bit_at-zero i ∙ sym (t.2 i below)
+        | inl below ↦ bit_left i ∙ bit_at_cat_low a (suc k) 0 i (omega (arith, below)) ∙ bit_at-zero i
+            ∙ sym (t.2 i below)
         | inr above ↦ bit_left i ∙ bit_at_cat_high a (suc k) 0 i (omega (arith, less)) (omega (arith, above, other))
             ∙ sym (bit_at_cat_high a (suc k) (2 ^ k) i less (omega (arith, above, other)))
             ∙ ap (λ (x : ℕ). x / 2 ^ i % 2) (sym parts)
@@ -126,7 +128,8 @@ added_place w n p x here = (
   ],
 )
 
-pub adds : (old new : Batch) (p x : ℕ) → new.word ≡ old.word → new.bits ≡ bit_or old.bits (mask_of p) → p / 64 ≡ old.word
+pub adds : (old new : Batch) (p x : ℕ) → new.word ≡ old.word → new.bits ≡ bit_or old.bits (mask_of p)
+    → p / 64 ≡ old.word
     → In x (batched new) ↔ (In x (batched old) ⊎ (x ≡ p))
 unfolding batched
 adds old new p x word bits here =

@@ -9,10 +9,11 @@ use Rattle.std.specs.Int.{bit_not}
 use Rattle.std.proofs.lemmas.Bool.{cases_eq, cases_lt}
 use Rattle.std.proofs.lemmas.List.{get_or-set_same, get_or-set_other, get_or-replicate, get_or_past}
 use Rattle.std.proofs.lemmas.Nat.{and_le_l, and_le_r, pow_below, bit_set_by_shift}
-use Rattle.std.proofs.lemmas.Nat.Bits.{shr_and_one, bit_at_and, bit_at_or, bit_at_not, bit_at-pow_same, bit_at-pow_other}
+use Rattle.std.proofs.lemmas.Nat.Bits.{shr_and_one, bit_at_and, bit_at_or, bit_at_not, bit_at-pow_same}
+use Rattle.std.proofs.lemmas.Nat.Bits.{bit_at-pow_other}
 use Rattle.std.proofs.Math.ListN.{length-replicate}
 use Rattle.golf_theory.specs.Membership.{In}
-use Rattle.golf_theory.specs.Counting.{times}
+use Rattle.golf_theory.specs.Counts.{times}
 use Rattle.golf_theory.proofs.Lists.{In-cases}
 use Rattle.golf_theory.proofs.Times.{times-push, times-none, In-times}
 use Rattle.golf_marks.specs.Bits.{word_of, mask_of, bit_in, bit_at, marked_below, marked_in, unset_in}
@@ -104,7 +105,8 @@ no_bit n p = ap (bit_in p) (zeros_at n (word_of p)) ∙ bit_clear p 0 (let l = a
 -- one more place is told if its bit is set
 told_more : (word n k : ℕ) → bit_in (64 * word + k) n ≡ 1
     → marked_below word n (suc k) ≡ marked_below word n k ++ (64 * word + k) ∷ []
-told_more word n k one = ap (λ (b : Bool). cond b (marked_below word n k ++ (64 * word + k) ∷ []) (marked_below word n k))
+told_more word n k one = ap (λ (b : Bool). cond b (marked_below word n k ++ (64 * word + k) ∷ [])
+    (marked_below word n k))
     (eq-eqb (bit_in (64 * word + k) n) 1 one)
 
 told_same : (word n k : ℕ) → bit_in (64 * word + k) n ≢ 1 → marked_below word n (suc k) ≡ marked_below word n k

@@ -8,7 +8,7 @@ use Rattle.std.specs.List.Sorted.{IsStrictlyIncreasing}
 use Rattle.std.proofs.lemmas.Bool.{eqb-true, eq-eqb}
 use Rattle.std.proofs.lemmas.List.Sums.{sum_by_push}
 use Rattle.golf_theory.specs.Membership.{In, Every}
-use Rattle.golf_theory.specs.Counting.{times}
+use Rattle.golf_theory.specs.Counts.{times}
 use Rattle.golf_theory.proofs.Lists.{In-left, In-right, In-cases, Every-left, Every-right}
 use Rattle.golf_theory.proofs.Times.{times-append}
 use Rattle.golf_model.specs.declared.graph.Marked.{Marked}

@@ -1,7 +1,8 @@
 -- Each step of the mark words keeps their rule.
 -- For: `Holds`, golf_marks/specs/Rule.antt; `claim`, `find_bit` and `glance`, src/marks.rt.
 -- By: cases of the step; induction over the list of views only for the view that was set.
-use Rattle.std.proofs.Common.{◌≡◌, ◌≢◌, ℕ, zero, suc, ◌+◌, ◌==◌, ◌^◌, ◌<◌, ◌≤◌, ◌⊎◌, List, [], ◌∷◌, ◌++◌, length, set, Bool, cond}
+use Rattle.std.proofs.Common.{◌≡◌, ◌≢◌, ℕ, zero, suc, ◌+◌, ◌==◌, ◌^◌, ◌<◌, ◌≤◌, ◌⊎◌, List, [], ◌∷◌, ◌++◌, length, set}
+use Rattle.std.proofs.Common.{Bool, cond}
 use Rattle.std.proofs.Common.{refl, sym, ap, ◌∙◌, subst, arith, ⊎_elim, inl, inr, eq-eqb, ne_eqb}
 use Rattle.std.specs.Prelude.{bit_or, replicate, slice_index}
 use Rattle.std.proofs.lemmas.List.{get_or-replicate, get_or_past, get_or_default}
@@ -14,7 +15,7 @@ use lib.ListN.{get_elem?}
 use Rattle.atomic_table.specs.Table.{State, Allows, Splits, Joins, opening, keeps, step}
 use Rattle.atomic_table.proofs.Lists.{at_set, at_snoc, at_index, set_again, exchanged}
 use Rattle.golf_theory.specs.Membership.{In}
-use Rattle.golf_theory.specs.Counting.{times}
+use Rattle.golf_theory.specs.Counts.{times}
 use Rattle.golf_theory.specs.Reached.{Follows}
 use Rattle.golf_theory.proofs.Lists.{In-left, In-right, In-cases, Every-from}
 use Rattle.golf_theory.proofs.Derivations.{Follows-grows, Derived-closed}
@@ -26,7 +27,8 @@ use Rattle.golf_marks.specs.declared.rule.View.{View}
 use Rattle.golf_marks.specs.declared.rule.Plan.{Plan}
 use Rattle.golf_marks.specs.Bits.{word_of, mask_of, bit_in, bit_at, marked_in, unset_in}
 use Rattle.golf_marks.specs.Places.{place_count, word_count, IsJustified}
-use Rattle.golf_marks.specs.Rule.{view_of, graph_of, Fits, Holds, first_view, Claims, Looks, Glances, ClaimTells}
+use Rattle.golf_marks.specs.Rule.{view_of, graph_of, MarkViewFits, Holds, first_view, Claims, Looks, Glances}
+use Rattle.golf_marks.specs.Rule.{ClaimTells}
 use Rattle.golf_marks.specs.Rule.{LookTells, GlanceTells, left_view, right_view, both_views, spent_view}
 use Rattle.golf_marks.proofs.BitLaws.{bit_small, one_bit, no_bit, or_bit, unset_bit, gained_bit, with_bits, bits_there}
 use Rattle.golf_marks.proofs.BitLaws.{bits_elsewhere, marked_set, set_marked, marked_times, marked_elsewhere}
@@ -41,14 +43,14 @@ abbrev WithWords : State (Unit {0}) View → List ℕ → ℕ → View → State
 WithWords s words id w = record { words = words; homes = s.homes; views = set s.views id w }
 
 abbrev AllFit : GraphParts → List ℕ → List View → Type 0
-AllFit g words views = (k : ℕ) (v : View) → get_elem? views k ≡ some v → Fits g words v
+AllFit g words views = (k : ℕ) (v : View) → get_elem? views k ≡ some v → MarkViewFits g words v
 
 -- a view that is changed fits, and the others still do
 views_set : (g : GraphParts) (old words : List ℕ) (views : List View) (id : ℕ) (w : View)
-    → ((x : ℕ) → bit_at old x ≡ 1 → bit_at words x ≡ 1) → AllFit g old views → Fits g words w
+    → ((x : ℕ) → bit_at old x ≡ 1 → bit_at words x ≡ 1) → AllFit g old views → MarkViewFits g words w
     → AllFit g words (set views id w)
 views_set g old words views id w grows all mine k v e = ⊎_elim
-    (λ (t : (k ≡ id) × (w ≡ v)). subst (Fits g words) t.1 mine)
+    (λ (t : (k ≡ id) × (w ≡ v)). subst (MarkViewFits g words) t.1 mine)
     (λ (t : (k ≢ id) × (get_elem? views k ≡ some v)). let f = all k v
     t.1 in record {
       idle = f.idle;
@@ -65,7 +67,7 @@ record MayFollow (plan : Plan) (s : State (Unit {0}) View) (v w : View) (words :
   parts : w.parts ≡ v.parts
   claims : (x : ℕ) → times x w.claimed + bit_at s.words x ≡ times x v.claimed + bit_at words x
   grows : (x : ℕ) → bit_at s.words x ≡ 1 → bit_at words x ≡ 1
-  fits : Fits (graph_of plan) words w
+  fits : MarkViewFits (graph_of plan) words w
   low : (x : ℕ) → bit_at words x ≡ 1 → x < place_count (graph_of plan)
   sound : (x : ℕ) → bit_at words x ≡ 1 → Least (graph_of plan) x
 
@@ -83,7 +85,7 @@ stepped plan s id v w words h at m = record {
 
 -- a view that has claimed the same may follow with the same words
 words_stay : (plan : Plan) (s : State (Unit {0}) View) (v w : View) → Holds plan s → w.parts ≡ v.parts
-    → w.claimed ≡ v.claimed → Fits (graph_of plan) s.words w → MayFollow plan s v w s.words
+    → w.claimed ≡ v.claimed → MarkViewFits (graph_of plan) s.words w → MayFollow plan s v w s.words
 words_stay plan s v w h parts claimed fits = record {
   long = refl;
   parts = parts;
@@ -284,7 +286,7 @@ module _ (plan : Plan) (s : State (Unit {0}) View) (id : ℕ) (v : View) (w m : 
     )
   ]
 
-  claim_fits : Fits (graph_of plan) after claimer
+  claim_fits : MarkViewFits (graph_of plan) after claimer
   claim_fits =
       let f = h.views id v at in
       record {
@@ -442,7 +444,7 @@ forks plan id v two s h at =
             own = f.own;
             known = f.known;
           }) k u was)
-          (λ (same : right_view v ≡ u). subst (Fits (graph_of plan) s.words) same
+          (λ (same : right_view v ≡ u). subst (MarkViewFits (graph_of plan) s.words) same
           (record {
             idle = λ none. refl;
             ignorant = λ none. absurd (omega arith);
@@ -464,7 +466,7 @@ merges plan id v other u live there s h at apart at' =
     ⊎_elim (λ (t : (other ≡ id) × (both ≡ u)). absurd (apart t.0))
     (λ (t : (other ≢ id) × (get_elem? s.views other ≡ some u)). t.1) (at_set s.views id other both u at') in
     let theirs = h.views other u was in
-    let fits : Fits (graph_of plan) s.words both = record {
+    let fits : MarkViewFits (graph_of plan) s.words both = record {
       idle = λ none. absurd (omega arith);
       ignorant = λ none. absurd (omega arith);
       graph = λ _. mine.graph live;
@@ -475,7 +477,7 @@ merges plan id v other u live there s h at apart at' =
       ];
       known = λ x c. elim (In-cases x v.known u.known c) [ inl k ↦ mine.known x k | inr k ↦ theirs.known x k ];
     } in
-    let gone : Fits (graph_of plan) s.words spent_view =
+    let gone : MarkViewFits (graph_of plan) s.words spent_view =
     record {
       idle = λ _. refl;
       ignorant = λ _. refl;
@@ -515,8 +517,8 @@ begins plan some_seat = record {
 }
   where
     first : (k : ℕ) (v : View) → get_elem? (first_view plan ∷ []) k ≡ some v
-        → Fits (graph_of plan) (replicate (word_count (graph_of plan)) 0) v
-    first zero v e = subst (Fits (graph_of plan) (replicate (word_count (graph_of plan)) 0))
+        → MarkViewFits (graph_of plan) (replicate (word_count (graph_of plan)) 0) v
+    first zero v e = subst (MarkViewFits (graph_of plan) (replicate (word_count (graph_of plan)) 0))
         (some-injective (first_view plan) v e)
         (record {
           idle = λ _. refl;

@@ -4,7 +4,7 @@ use mathlib.Core.Option.{some}
 use lib.ListN.{get_elem?}
 use Rattle.atomic_table.specs.Table.{State, Me, Step}
 use Rattle.golf_theory.specs.Membership.{In}
-use Rattle.golf_theory.specs.Counting.{times}
+use Rattle.golf_theory.specs.Counts.{times}
 use Rattle.golf_model.specs.declared.graph.GraphParts.{GraphParts}
 use Rattle.golf_model.specs.Graph.{Least}
 use Rattle.golf_marks.specs.declared.rule.View.{View}
@@ -20,7 +20,7 @@ graph_of plan = plan.graph.value
 
 -- A view without a part has claimed nothing and knows nothing. Any other view has the graph of the words. It knows the
 -- places that it claimed, and the places that it knows are marked.
-pub record Fits (g : GraphParts) (words : List ℕ) (v : View) : Type 0 where
+pub record MarkViewFits (g : GraphParts) (words : List ℕ) (v : View) : Type 0 where
   pub idle : v.parts ≡ 0 → v.claimed ≡ []
   pub ignorant : v.parts ≡ 0 → v.known ≡ []
   pub graph : 0 < v.parts → v.graph ≡ g
@@ -33,7 +33,7 @@ pub record Holds (plan : Plan) (s : State (Unit {0}) View) : Type 0 where
   pub size : length s.words ≡ word_count (graph_of plan)
   pub claims : (p : ℕ) → sum_by (λ v. times p v.claimed) s.views ≡ bit_at s.words p
   pub parts : sum_by (λ v. v.parts) s.views ≡ plan.seats
-  pub views : (seat : ℕ) (v : View) → get_elem? s.views seat ≡ some v → Fits (graph_of plan) s.words v
+  pub views : (seat : ℕ) (v : View) → get_elem? s.views seat ≡ some v → MarkViewFits (graph_of plan) s.words v
   pub low : (p : ℕ) → bit_at s.words p ≡ 1 → p < place_count (graph_of plan)
   pub sound : (p : ℕ) → bit_at s.words p ≡ 1 → Least (graph_of plan) p
 
@@ -43,7 +43,8 @@ first_view plan = view_of (graph_of plan) plan.seats [] []
 
 -- what a claim of the places in the mask tells that found the word n: it claims those whose bits were not set
 pub record Claims (word mask : ℕ) (v : View) (n : ℕ) (w : View) : Type 0 where
-  pub view : w ≡ view_of v.graph v.parts (v.claimed ++ marked_in word (unset_in mask n)) (v.known ++ marked_in word mask)
+  pub view : w ≡ view_of v.graph v.parts (v.claimed ++ marked_in word (unset_in mask n))
+      (v.known ++ marked_in word mask)
   pub once : (p : ℕ) → In p (marked_in word (unset_in mask n)) → times p v.claimed ≡ 0
   pub bounded : length w.claimed ≤ place_count v.graph
 

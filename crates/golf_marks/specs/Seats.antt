@@ -1,6 +1,6 @@
 -- Words of clauses on the mark words and their seats.
 use Rattle.std.specs.Prelude.{◌≡◌, ℕ, List, [], sum_by}
-use Rattle.golf_theory.specs.Counting.{times}
+use Rattle.golf_theory.specs.Counts.{times}
 use Rattle.golf_model.specs.declared.graph.GraphParts.{GraphParts}
 use Rattle.golf_marks.specs.declared.marks.Marks.{Marks}
 use Rattle.golf_marks.specs.declared.marks.MarkSeat.{MarkSeat}

@@ -47,7 +47,7 @@ pub struct MarkSeat {
 
 impl Marks {
     ghost use Rattle.golf_theory.specs.Membership.{In, Every};
-    ghost use Rattle.golf_theory.specs.Counting.{times};
+    ghost use Rattle.golf_theory.specs.Counts.{times};
     ghost use Rattle.golf_model.specs.Graph.{Least};
     ghost use Rattle.golf_marks.specs.Batches.{batched};
     ghost use Rattle.golf_marks.specs.Flags.{HasMarked};

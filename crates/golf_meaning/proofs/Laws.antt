@@ -1,5 +1,5 @@
 -- Code with the same parameters, slots and body agrees with the source as well.
--- For: `Agrees` (golf_meaning/specs/Judged.antt) and `check_body`, `check_all` (src/judging.rt)
+-- For: `Agrees` (golf_meaning/specs/Judged.antt) and `check_body`, `check_all` (src/comparison.rt)
 -- By: cases of the function that stands at a number; no induction
 use Rattle.std.proofs.Common.{◌≡◌, ◌↔◌, ℕ, zero, suc, ◌+◌, ◌-◌, ◌<◌, pos, Bool, List, [], ◌∷◌, ◌++◌, length, drop}
 use Rattle.std.proofs.Common.{replicate, map, refl, sym, ap, subst, ◌∙◌, slice_get, arith}
@@ -20,15 +20,16 @@ use Rattle.golf_code_of.specs.declared.tables.Tables.{Tables}
 use Rattle.golf_code_of.specs.Files.{CodeOf, function, giving, main_line, main_number, made_function}
 use Rattle.golf_code_facts.specs.Files.{past_const, past_signature, initial_by, body_by, entry_by, decls_by, file_by}
 use Rattle.golf_code_facts.specs.Files.{tables_by}
-use Rattle.golf_code_files.specs.Comparing.{HasSameBody, BeginAs}
+use Rattle.golf_code.specs.Comparison.{HasSameBody, BeginAs}
 use Rattle.golf_meaning_flat.specs.Worlds.{Answer, Told}
 use Rattle.golf_meaning_flat.specs.Flat.{exec}
 use Rattle.golf_meaning_flat.specs.Laws.{Agree}
-use Rattle.golf_meaning_functions.specs.Functions.{CodeMeaning, begins}
-use Rattle.golf_meaning_functions.specs.Files.{function_count, giving_in, MeaningOf}
-use Rattle.golf_meaning_functions.proofs.WholeFiles.{files-agree}
+use Rattle.golf_meaning_statements.specs.Functions.{CodeMeaning, begins}
+use Rattle.golf_meaning_statements.specs.Files.{function_count, giving_in, MeaningOf}
+use Rattle.golf_meaning_statements.proofs.WholeFiles.{files-agree}
 use Rattle.golf_code.proofs.Laws.{code_is}
-use Rattle.golf_meaning.specs.Judged.{AreSame, IsCodeOf, IsNumbered, FunctionAgrees, Agrees, AllAreCodeOf, AllAgree}
+use Rattle.golf_meaning.specs.Judged.{AreSame, IsCodeOf, IsFunctionNumber, FunctionAgrees, Agrees, AllAreCodeOf}
+use Rattle.golf_meaning.specs.Judged.{AllAgree}
 
 -- what code means goes by its slots and its body
 means : List Bool → ℕ → List CodeLine → List Value → List Answer → ℕ → Told
@@ -52,12 +53,13 @@ same-agrees file k (Some f) (Some g) s h =
 same-agrees file k (Some f) None s h = absurd s
 same-agrees file k None y s h = absurd s
 
-file-agrees : (file : File) (k : ℕ) → IsNumbered file k → Agrees file (CodeOf file) k
+file-agrees : (file : File) (k : ℕ) → IsFunctionNumber file k → Agrees file (CodeOf file) k
 file-agrees file k (lt, le) =
     let r = files-agree file k lt le in
     subst (λ o. FunctionAgrees file k o) (sym r.1) r.2
 
-pub body-agrees : (file : File) (code : Code) (k : ℕ) → IsCodeOf file code k → IsNumbered file k → Agrees file code k
+pub body-agrees : (file : File) (code : Code) (k : ℕ) → IsCodeOf file code k → IsFunctionNumber file k
+    → Agrees file code k
 body-agrees file code k s h = same-agrees file k (slice_get code.functions k) (slice_get (CodeOf file).functions k) s
     (file-agrees file k h)
 
@@ -66,7 +68,7 @@ own file k (Some f) h = record { params = refl; slots = refl; body = refl }
 own file k None h = h
 
 -- the functions of a file are there, and so are the same as themselves
-pub same-as-itself : (file : File) (code : Code) (k : ℕ) → code ≡ CodeOf file → IsNumbered file k
+pub same-as-itself : (file : File) (code : Code) (k : ℕ) → code ≡ CodeOf file → IsFunctionNumber file k
     → AreSame (slice_get code.functions k) (slice_get code.functions k)
 same-as-itself file code k e h =
     subst (λ (c : Code). AreSame (slice_get c.functions k) (slice_get c.functions k)) (sym e)
@@ -116,7 +118,7 @@ all-same file code e gs more is count = (
         ↔ ((k : ℕ) → k < length gs → AreSame (slice_get (drop 1 code.functions) k) (slice_get (gs ++ more) k))
     both = by-number (drop 1 code.functions) gs more
 
-    forth : BeginAs (drop 1 code.functions) gs → (k : ℕ) → IsNumbered file k
+    forth : BeginAs (drop 1 code.functions) gs → (k : ℕ) → IsFunctionNumber file k
         → AreSame (slice_get code.functions k) (slice_get (e ∷ (gs ++ more)) k)
     forth t zero n = absurd (omega (arith, n.0))
     forth t (suc k) n = subst (λ o. AreSame o (slice_get (gs ++ more) k)) (past-first code.functions k)

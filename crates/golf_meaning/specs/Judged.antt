@@ -5,11 +5,11 @@ use Rattle.golf_data.specs.declared.value.Value.{Value}
 use Rattle.golf_data.specs.declared.code.Code.{Code}
 use Rattle.golf_data.specs.declared.code.Function.{Function}
 use Rattle.golf_code_of.specs.Files.{CodeOf}
-use Rattle.golf_code_files.specs.Comparing.{HasSameBody}
+use Rattle.golf_code.specs.Comparison.{HasSameBody}
 use Rattle.golf_meaning_flat.specs.Worlds.{Answer}
 use Rattle.golf_meaning_flat.specs.Laws.{Agree, HasRules}
-use Rattle.golf_meaning_functions.specs.Functions.{CodeMeaning}
-use Rattle.golf_meaning_functions.specs.Files.{function_count, giving_in, MeaningOf}
+use Rattle.golf_meaning_statements.specs.Functions.{CodeMeaning}
+use Rattle.golf_meaning_statements.specs.Files.{function_count, giving_in, MeaningOf}
 
 -- both codes have the function, with the same body
 abbrev pub AreSame : Option Function → Option Function → Type 0
@@ -23,8 +23,8 @@ IsCodeOf file code k = AreSame (slice_get code.functions k) (slice_get (CodeOf f
 
 -- The number is that of a function or method of the file. It is not 0, and not the number of a function made for `go`
 -- or `defer`.
-abbrev pub IsNumbered : File → ℕ → Type 0
-IsNumbered file k = (0 < k) × (k ≤ function_count file.declarations)
+abbrev pub IsFunctionNumber : File → ℕ → Type 0
+IsFunctionNumber file k = (0 < k) × (k ≤ function_count file.declarations)
 
 -- Unless the source lacks a rule, the meaning of this source and that of the function agree: for each bound of one
 -- there is a bound of the other. This holds for as many arguments as there are parameters, and for all answers.
@@ -43,8 +43,8 @@ Agrees file code k = FunctionAgrees file k (slice_get code.functions k)
 
 -- the code has each function and method of the file as the code of the file has it
 abbrev pub AllAreCodeOf : File → Code → Type 0
-AllAreCodeOf file code = (k : ℕ) → IsNumbered file k → IsCodeOf file code k
+AllAreCodeOf file code = (k : ℕ) → IsFunctionNumber file k → IsCodeOf file code k
 
 -- each function and method of the file agrees with its source
 abbrev pub AllAgree : File → Code → Type 0
-AllAgree file code = (k : ℕ) → IsNumbered file k → Agrees file code k
+AllAgree file code = (k : ℕ) → IsFunctionNumber file k → Agrees file code k

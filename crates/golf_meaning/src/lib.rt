@@ -5,6 +5,6 @@
 //! - `check_all`: whether each function and method of the file is. It makes them one at a time.
 #![tactic(auto)]
 
-mod judging;
+mod comparison;
 
-pub use judging::{check_all, check_body, function_count};
+pub use comparison::{check_all, check_body, function_count};

@@ -10,16 +10,18 @@ use Rattle.golf_data.specs.declared.code.Instr.{Instr}
 use Rattle.golf_data.specs.declared.code.CodeLine.{CodeLine}
 use Rattle.golf_data.specs.declared.code.SelectCase.{SelectCase}
 use Rattle.golf_model.specs.Values.{int_of, bool_of, equality, is_zero}
-use Rattle.golf_model.specs.Calculating.{sum, difference, product, quotient, remainder}
+use Rattle.golf_model.specs.Arithmetic.{sum, difference, product, quotient, remainder}
 use Rattle.golf_meaning_flat.specs.Worlds.{Misfit, Operation, Answer, Halt, End, Told, World, Part, bind, asks, asked}
 use Rattle.golf_meaning_flat.specs.Worlds.{done}
 use Rattle.golf_meaning_flat.specs.Counts.{is_counted}
-use Rattle.golf_meaning_flat.specs.Doing.{Frame, Act, on_some, on_kind, gets, one, two, some_from, chosen_by, negated}
-use Rattle.golf_meaning_flat.specs.Doing.{inverted, ints, computed, divided, compared, equated, Doing, doing}
-use Rattle.golf_meaning_flat.specs.Doing as D
+use Rattle.golf_meaning_flat.specs.InstructionEffects.{Frame, Act, on_some, on_kind, gets, one, two, some_from}
+use Rattle.golf_meaning_flat.specs.InstructionEffects.{chosen_by, negated}
+use Rattle.golf_meaning_flat.specs.InstructionEffects.{inverted, ints, computed, divided, compared, equated, Doing}
+use Rattle.golf_meaning_flat.specs.InstructionEffects.{doing}
+use Rattle.golf_meaning_flat.specs.InstructionEffects as D
 use Rattle.golf_meaning_flat.specs.Flat.{on_clause, targets, lower, clause_of, picks, tests, Next, ended, does, at_line}
 use Rattle.golf_meaning_flat.specs.Flat.{exec}
-use Rattle.golf_meaning_flat.specs.Laws.{BeginsWith, IsPrefix, Within, Said, Done, IsRuled, BothWays}
+use Rattle.golf_meaning_flat.specs.Laws.{BeginsWith, IsPrefix, IsPartOf, Said, Done, IsRuled, BothWays}
 
 begins-self : (os : List Operation) → BeginsWith os os
 begins-self os = ([], sym (append-nil os))
@@ -201,10 +203,10 @@ exec-keeps gives code (suc n) at c w = line-keeps gives (slice_get code at) (exe
 -- more instructions change nothing of what has ended
 
 abbrev Grows : Next → Next → Type 0
-Grows f g = (at : ℕ) (c : Frame) (w : World) → Within (f at c w) (g at c w)
+Grows f g = (at : ℕ) (c : Frame) (w : World) → IsPartOf (f at c w) (g at c w)
 
-ended-grows : {A : Type 0} (p : Part A) (f g : A → World → Told) → ((a : A) (u : World) → Within (f a u) (g a u))
-    → Within (ended p f) (ended p g)
+ended-grows : {A : Type 0} (p : Part A) (f g : A → World → Told) → ((a : A) (u : World) → IsPartOf (f a u) (g a u))
+    → IsPartOf (ended p f) (ended p g)
 ended-grows (Part.Gives a u) f g h = h a u
 ended-grows (Part.Stops s done) f g h = refl
 
@@ -248,28 +250,29 @@ module _ (gives : List Bool) (code : List CodeLine) (c : Frame) (w : World) wher
   abbrev T : List Operation → End → Told
   T os e = record { operations = os; end = e }
 
-  ahead : (os : List Operation) (e : End) → (j : ℕ) × (G j ≡ T os e) → (m : ℕ) × Within (T os e) (G m)
+  ahead : (os : List Operation) (e : End) → (j : ℕ) × (G j ≡ T os e) → (m : ℕ) × IsPartOf (T os e) (G m)
   ahead os e d = (d.0, subst (λ t. IsPrefix e (T os e) t) (sym d.1) (within-self os e))
 
   forth-from : (n : ℕ) (os : List Operation) (e : End) → Done gives code c w n (T os e) e → IsRuled e → (m : ℕ)
-      × Within (T os e) (G m)
+      × IsPartOf (T os e) (G m)
   forth-from n os (End.Halts h) d ruled = ahead os (End.Halts h) (halts h ruled d)
   forth-from n os End.Short d ruled = ahead os End.Short (d.0, d.2)
 
   -- what has ended after j instructions has ended so after m
-  ended-same : (m j : ℕ) (os : List Operation) (h : Halt) → G j ≡ T os (End.Halts h) → Within (G m) (T os (End.Halts h))
+  ended-same : (m j : ℕ) (os : List Operation) (h : Halt) → G j ≡ T os (End.Halts h)
+      → IsPartOf (G m) (T os (End.Halts h))
   ended-same m j os h e =
       ⊎_elim
-      (λ lt. subst (λ t. Within (G m) t) e (exec-grows gives code m j (omega (arith, lt)) 0 c w))
+      (λ lt. subst (λ t. IsPartOf (G m) t) e (exec-grows gives code m j (omega (arith, lt)) 0 c w))
       (λ le.
-      let same : G m ≡ T os (End.Halts h) = subst (λ t. Within t (G m)) e (exec-grows gives code j m le 0 c w) in
-      subst (λ t. Within t (T os (End.Halts h))) (sym same) refl)
+      let same : G m ≡ T os (End.Halts h) = subst (λ t. IsPartOf t (G m)) e (exec-grows gives code j m le 0 c w) in
+      subst (λ t. IsPartOf t (T os (End.Halts h))) (sym same) refl)
       (cases_lt m j)
 
   back-from : (m : ℕ) (os : List Operation) (e : End) → Done gives code c w m (T os e) e → IsRuled e
-      → Within (G m) (T os e)
+      → IsPartOf (G m) (T os e)
   back-from m os (End.Halts h) d ruled = let j = halts h ruled d in ended-same m j.0 os h j.1
-  back-from m os End.Short d ruled = subst (λ t. Within (G m) t) d.2 (exec-grows gives code m d.0 d.1 0 c w)
+  back-from m os End.Short d ruled = subst (λ t. IsPartOf (G m) t) d.2 (exec-grows gives code m d.0 d.1 0 c w)
 
 pub both-ways : BothWays
 both-ways gives code c w f d ruled = record {

@@ -1,5 +1,5 @@
 -- Placed code does what its piece does.
--- For: `Follows`, golf_meaning_flat/specs/Laws.antt; the law `placed_code_follows`, src/lib.rt.
+-- For: `FollowsPiece`, golf_meaning_flat/specs/Laws.antt; the law `placed_code_follows`, src/lib.rt.
 -- By: induction over the tree of a piece, and over n, the rounds of a loop that are left.
 use Rattle.std.proofs.Common.{◌≡◌, ℕ, zero, suc, ◌+◌, ◌<◌, ◌≤◌, ◌==◌, Bool, true, false, cond, List, [], ◌∷◌, ◌++◌, map}
 use Rattle.std.proofs.Common.{length, Option, Some, None, refl, ap, ◌∙◌, subst, slice_get, arith}
@@ -12,12 +12,13 @@ use Rattle.golf_code_layout.specs.Piece.{Piece, size, on, target, case_at, place
 use Rattle.golf_code_layout.proofs.Sizes.{placed-size}
 use Rattle.golf_data.specs.Effects.{case_taken, cases_taken}
 use Rattle.golf_meaning_flat.specs.Worlds.{Answer, End, World, Part, bind, pushed}
-use Rattle.golf_meaning_flat.specs.Doing.{Frame, Doing, doing, gets, some_from}
+use Rattle.golf_meaning_flat.specs.InstructionEffects.{Frame, Doing, doing, gets, some_from}
 use Rattle.golf_meaning_flat.specs.Flat.{on_clause, relabelled, lower, clause_of, picks, tests, ended, does, at_line}
 use Rattle.golf_meaning_flat.specs.Flat.{exec}
-use Rattle.golf_meaning_flat.specs.Structured.{Way, from_part, acted, then_way, unless_true, picked, out_of, once_more}
+use Rattle.golf_meaning_flat.specs.Structured.{PieceExit, from_part, acted, then_way, unless_true, picked, out_of}
+use Rattle.golf_meaning_flat.specs.Structured.{once_more}
 use Rattle.golf_meaning_flat.specs.Structured.{rounds, placed_targets, run}
-use Rattle.golf_meaning_flat.specs.Laws.{Stand, Leads, Comes, Enough, Follows, PlacedFollows}
+use Rattle.golf_meaning_flat.specs.Laws.{Stand, AdvancesTo, RunsTo, Enough, FollowsPiece, PlacedFollows}
 
 stand-left : (code : List CodeLine) (at : ℕ) (xs ys : List CodeLine) → Stand code at (xs ++ ys) → Stand code at xs
 stand-left code at [] ys h = tt
@@ -135,85 +136,90 @@ module _ (gives : List Bool) (code : List CodeLine) where
   step at l c w h k = ap (λ o. at_line gives o (exec gives code k) at c w) h
 
   -- what follows a way of no instructions or more
-  after : {at mid : ℕ} {c d : Frame} {w u : World} (n to : ℕ) (ts : List ℕ) (o : Way) → Comes gives code at c w mid d u
-      → Follows gives code n mid ts to d u o → Follows gives code n at ts to c w o
-  after n to ts (Way.Through f v) h r = record {
+  after : {at mid : ℕ} {c d : Frame} {w u : World} (n to : ℕ) (ts : List ℕ) (o : PieceExit)
+      → RunsTo gives code at c w mid d u
+      → FollowsPiece gives code n mid ts to d u o → FollowsPiece gives code n at ts to c w o
+  after n to ts (PieceExit.Through f v) h r = record {
     by = λ k. let b = r.by k in let a = h.by
         b.0 in (a.0, omega (arith, a.1, b.1), a.2 ∙ b.2);
   }
-  after n to ts (Way.Leaves q f v) h r = record {
+  after n to ts (PieceExit.Leaves q f v) h r = record {
     by = λ k. let b = r.by k in let a = h.by
         b.0 in (a.0, omega (arith, a.1, b.1), a.2 ∙ b.2);
   }
-  after n to ts (Way.Ends t) h r = let a = h.by r.0 in (a.0, enough-more t.end n r.0 a.0 a.1 r.1, a.2 ∙ r.2)
-  after n to ts Way.Lost h r = tt
+  after n to ts (PieceExit.Ends t) h r = let a = h.by r.0 in (a.0, enough-more t.end n r.0 a.0 a.1 r.1, a.2 ∙ r.2)
+  after n to ts PieceExit.Lost h r = tt
 
-  then-follows : (n at mid to : ℕ) (ts : List ℕ) (c : Frame) (w : World) (o : Way) (next : Frame → World → Way)
-      → Follows gives code n at ts mid c w o → ((d : Frame) (u : World) → Follows gives code n mid ts to d u (next d u))
-      → Follows gives code n at ts to c w (then_way o next)
-  then-follows n at mid to ts c w (Way.Through d u) next h k = after n to ts (next d u) h (k d u)
-  then-follows n at mid to ts c w (Way.Leaves q d u) next h k = h
-  then-follows n at mid to ts c w (Way.Ends t) next h k = h
-  then-follows n at mid to ts c w Way.Lost next h k = tt
+  then-follows : (n at mid to : ℕ) (ts : List ℕ) (c : Frame) (w : World) (o : PieceExit)
+      (next : Frame → World → PieceExit)
+      → FollowsPiece gives code n at ts mid c w o
+      → ((d : Frame) (u : World) → FollowsPiece gives code n mid ts to d u (next d u))
+      → FollowsPiece gives code n at ts to c w (then_way o next)
+  then-follows n at mid to ts c w (PieceExit.Through d u) next h k = after n to ts (next d u) h (k d u)
+  then-follows n at mid to ts c w (PieceExit.Leaves q d u) next h k = h
+  then-follows n at mid to ts c w (PieceExit.Ends t) next h k = h
+  then-follows n at mid to ts c w PieceExit.Lost next h k = tt
 
   part-follows : (n at to : ℕ) (ts : List ℕ) (c : Frame) (w : World) (p : Part Frame)
       → ((k : ℕ) → exec gives code (suc k) at c w ≡ ended p (exec gives code k to))
-      → Follows gives code n at ts to c w (from_part p)
+      → FollowsPiece gives code n at ts to c w (from_part p)
   part-follows n at to ts c w (Part.Gives d u) st = record { by = λ k. (suc k, omega arith, st k) }
   part-follows n at to ts c w (Part.Stops h os) st = (1, tt, st 0)
 
   acted-follows : (n at : ℕ) (ts : List ℕ) (c : Frame) (w : World) (d : Doing)
       → ((k : ℕ) → exec gives code (suc k) at c w ≡ does gives d (exec gives code k) at c w)
-      → Follows gives code n at ts (at + 1) c w (acted d c w)
+      → FollowsPiece gives code n at ts (at + 1) c w (acted d c w)
   acted-follows n at ts c w (Doing.Acts f) st = part-follows n at (at + 1) ts c w (f c w) st
   acted-follows n at ts c w _ st = tt
 
   unless-follows : (n at k : ℕ) (ts : List ℕ) (c : Frame) (w : World) (p : Part (Bool × Frame))
       → ((j : ℕ) → exec gives code (suc j) at c w ≡ ended p
       (λ r u. exec gives code j (cond r.0 (at + 1) (target ts k)) r.1 u))
-      → Follows gives code n at ts (at + 1) c w (unless_true p k)
+      → FollowsPiece gives code n at ts (at + 1) c w (unless_true p k)
   unless-follows n at k ts c w (Part.Gives (true, d) u) st = record { by = λ j. (suc j, omega arith, st j) }
   unless-follows n at k ts c w (Part.Gives (false, d) u) st = record { by = λ j. (suc j, omega arith, st j) }
   unless-follows n at k ts c w (Part.Stops h os) st = (1, tt, st 0)
 
   -- out of a block
-  out-follows : (n at to : ℕ) (ts : List ℕ) (c : Frame) (w : World) (o : Way)
-      → Follows gives code n at (to ∷ ts) to c w o → Follows gives code n at ts to c w (out_of o)
-  out-follows n at to ts c w (Way.Leaves zero d u) h =
+  out-follows : (n at to : ℕ) (ts : List ℕ) (c : Frame) (w : World) (o : PieceExit)
+      → FollowsPiece gives code n at (to ∷ ts) to c w o → FollowsPiece gives code n at ts to c w (out_of o)
+  out-follows n at to ts c w (PieceExit.Leaves zero d u) h =
       record { by = λ k. let a = h.by k in (a.0, omega (arith, a.1), a.2) }
-  out-follows n at to ts c w Way.Lost h = tt
+  out-follows n at to ts c w PieceExit.Lost h = tt
   out-follows n at to ts c w _ h = h
 
   -- after a jump to the beginning, one round more
-  again-after : {at : ℕ} {c d : Frame} {w u : World} (m to : ℕ) (ts : List ℕ) (o : Way) → Leads gives code at c w at d u
-      → Follows gives code m at ts to d u o → Follows gives code (suc m) at ts to c w o
-  again-after m to ts (Way.Through f v) h r =
+  again-after : {at : ℕ} {c d : Frame} {w u : World} (m to : ℕ) (ts : List ℕ) (o : PieceExit)
+      → AdvancesTo gives code at c w at d u
+      → FollowsPiece gives code m at ts to d u o → FollowsPiece gives code (suc m) at ts to c w o
+  again-after m to ts (PieceExit.Through f v) h r =
       record { by = λ k. let b = r.by k in let a = h.by b.0 in (a.0, omega (arith, a.1, b.1), a.2 ∙ b.2) }
-  again-after m to ts (Way.Leaves q f v) h r =
+  again-after m to ts (PieceExit.Leaves q f v) h r =
       record { by = λ k. let b = r.by k in let a = h.by b.0 in (a.0, omega (arith, a.1, b.1), a.2 ∙ b.2) }
-  again-after m to ts (Way.Ends t) h r = let a = h.by r.0 in (a.0, enough-one t.end m r.0 a.0 a.1 r.1, a.2 ∙ r.2)
-  again-after m to ts Way.Lost h r = tt
+  again-after m to ts (PieceExit.Ends t) h r = let a = h.by r.0 in (a.0, enough-one t.end m r.0 a.0 a.1 r.1, a.2 ∙ r.2)
+  again-after m to ts PieceExit.Lost h r = tt
 
   -- a round within this many rounds, and what comes of the rounds after it
-  record Round (n m at to : ℕ) (ts : List ℕ) (c : Frame) (w : World) (o : Way)
-      (next : Frame → World → Way) : Type 0 where
+  record Round (n m at to : ℕ) (ts : List ℕ) (c : Frame) (w : World) (o : PieceExit)
+      (next : Frame → World → PieceExit) : Type 0 where
     within : suc m ≤ n
-    once : Follows gives code n at (at ∷ ts) to c w o
-    onward : (d : Frame) (u : World) → Follows gives code m at ts to d u (next d u)
+    once : FollowsPiece gives code n at (at ∷ ts) to c w o
+    onward : (d : Frame) (u : World) → FollowsPiece gives code m at ts to d u (next d u)
 
-  once-follows : {n m at to : ℕ} {ts : List ℕ} {c : Frame} {w : World} {next : Frame → World → Way} (o : Way)
-      → Round n m at to ts c w o next → Follows gives code (suc m) at ts to c w (once_more o next)
-  once-follows (Way.Through d u) round = round.once
-  once-follows {n} {m} {at} {to} {ts} {c} {w} {next} (Way.Leaves zero d u) round =
+  once-follows : {n m at to : ℕ} {ts : List ℕ} {c : Frame} {w : World} {next : Frame → World → PieceExit}
+      (o : PieceExit)
+      → Round n m at to ts c w o next → FollowsPiece gives code (suc m) at ts to c w (once_more o next)
+  once-follows (PieceExit.Through d u) round = round.once
+  once-follows {n} {m} {at} {to} {ts} {c} {w} {next} (PieceExit.Leaves zero d u) round =
       again-after m to ts (next d u) round.once (round.onward d u)
-  once-follows (Way.Leaves (suc q) d u) round = round.once
-  once-follows {n} {m} {at} {to} {ts} {c} {w} {next} (Way.Ends t) round = let h =
+  once-follows (PieceExit.Leaves (suc q) d u) round = round.once
+  once-follows {n} {m} {at} {to} {ts} {c} {w} {next} (PieceExit.Ends t) round = let h =
       round.once in (h.0, enough-fewer t.end (suc m) n h.0 round.within h.1, h.2)
-  once-follows Way.Lost round = tt
+  once-follows PieceExit.Lost round = tt
 
-  rounds-follow : (n at to : ℕ) (ts : List ℕ) (f : Frame → World → Way)
-      → ((d : Frame) (u : World) → Follows gives code n at (at ∷ ts) to d u (f d u)) → (m : ℕ) → m ≤ n
-      → (c : Frame) (w : World) → Follows gives code m at ts to c w (rounds m f c w)
+  rounds-follow : (n at to : ℕ) (ts : List ℕ) (f : Frame → World → PieceExit)
+      → ((d : Frame) (u : World) → FollowsPiece gives code n at (at ∷ ts) to d u (f d u)) → (m : ℕ) → m ≤ n
+      → (c : Frame) (w : World) → FollowsPiece gives code m at ts to c w (rounds m f c w)
   rounds-follow n at to ts f h zero le c w = (0, omega arith, refl)
   rounds-follow n at to ts f h (suc m) le c w =
       let round : Round n m at to ts c w (f c w) (rounds m f) =
@@ -223,7 +229,7 @@ module _ (gives : List Bool) (code : List CodeLine) where
   -- a choice
   picked-follows : (n at to : ℕ) (ts : List ℕ) (c : Frame) (w : World) (p q : Part (ℕ × Frame))
       → q ≡ moved p (target ts) → ((k : ℕ) → exec gives code (suc k) at c w ≡ ended q
-      (λ r u. exec gives code k r.0 r.1 u)) → Follows gives code n at ts to c w (picked p)
+      (λ r u. exec gives code k r.0 r.1 u)) → FollowsPiece gives code n at ts to c w (picked p)
   unfolding moved
   picked-follows n at to ts c w (Part.Gives r u) q e st =
       record { by = λ k. (suc k, omega arith, st k ∙ ap (λ z. ended z (λ r u. exec gives code k r.0 r.1 u)) e) }
@@ -231,7 +237,7 @@ module _ (gives : List Bool) (code : List CodeLine) where
       (1, tt, st 0 ∙ ap (λ z. ended z (λ r u. exec gives code 0 r.0 r.1 u)) e)
 
   follows : (n : ℕ) (p : Piece) (at : ℕ) (ts : List ℕ) (c : Frame) (w : World) → Stand code at (placed p at ts)
-      → Follows gives code n at ts (at + size p) c w (run gives n p at ts c w)
+      → FollowsPiece gives code n at ts (at + size p) c w (run gives n p at ts c w)
   follows n Piece.Empty at ts c w h = record {
     by = λ k. (k, omega arith, ap (λ m. exec gives code k m c w) (omega arith));
   }
@@ -242,7 +248,7 @@ module _ (gives : List Bool) (code : List CodeLine) where
       then-follows n at (at + size p) (at + (size p + size q)) ts c w (run gives n p at ts c w)
       (run gives n q (at + size p) ts)
       (follows n p at ts c w (stand-left code at (placed p at ts) (placed q (at + size p) ts) h))
-      (λ d u. subst (λ to. Follows gives code n (at + size p) ts to d u (run gives n q (at + size p) ts d u))
+      (λ d u. subst (λ to. FollowsPiece gives code n (at + size p) ts to d u (run gives n q (at + size p) ts d u))
       (omega arith) (follows n q (at + size p) ts d u right))
   follows n (Piece.Exit line k) at ts c w h = record { by = λ j. (suc j, omega arith, step at _ c w h.0 j) }
   follows n (Piece.Unless line k) at ts c w h = unless-follows n at k ts c w (tests c w) (step at _ c w h.0)

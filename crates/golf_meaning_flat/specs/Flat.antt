@@ -8,7 +8,7 @@ use Rattle.golf_data.specs.declared.code.SelectCase.{SelectCase}
 use Rattle.golf_model.specs.Values.{bool_of}
 use Rattle.golf_data.specs.Effects.{cases_taken}
 use Rattle.golf_meaning_flat.specs.Worlds.{Misfit, Halt, Told, World, Part, halted, cut_short, bind, pushed}
-use Rattle.golf_meaning_flat.specs.Doing.{Frame, miscount, on_kind, one, some_from, gets, Doing, doing}
+use Rattle.golf_meaning_flat.specs.InstructionEffects.{Frame, miscount, on_kind, one, some_from, gets, Doing, doing}
 
 -- Clauses of a `select`: the place of the clause that begins at a target is the number of targets below that target.
 

@@ -3,9 +3,9 @@ use Rattle.std.specs.Prelude.{◌≡◌, ℕ, ◌+◌, ◌<◌, ◌≤◌, Bool,
 use Rattle.golf_data.specs.declared.code.CodeLine.{CodeLine}
 use Rattle.golf_code_layout.specs.Piece.{Piece, size, target, placed}
 use Rattle.golf_meaning_flat.specs.Worlds.{Operation, Misfit, Halt, End, Told, World}
-use Rattle.golf_meaning_flat.specs.Doing.{Frame}
+use Rattle.golf_meaning_flat.specs.InstructionEffects.{Frame}
 use Rattle.golf_meaning_flat.specs.Flat.{exec}
-use Rattle.golf_meaning_flat.specs.Structured.{Way, run}
+use Rattle.golf_meaning_flat.specs.Structured.{PieceExit, run}
 
 -- these lines are at this place of the code
 abbrev pub Stand : List CodeLine → ℕ → List CodeLine → Type 0
@@ -19,26 +19,26 @@ Enough (End.Halts h) n j = Unit {0}
 
 module _ (gives : List Bool) where
   -- the code goes from one place to another, by at least one instruction (Leads) or by any number (Comes)
-  pub record Leads (code : List CodeLine) (at : ℕ) (c : Frame) (w : World) (to : ℕ) (d : Frame)
+  pub record AdvancesTo (code : List CodeLine) (at : ℕ) (c : Frame) (w : World) (to : ℕ) (d : Frame)
       (u : World) : Type 0 where
     pub by : (k : ℕ) → (j : ℕ) × (k < j) × (exec gives code j at c w ≡ exec gives code k to d u)
 
-  pub record Comes (code : List CodeLine) (at : ℕ) (c : Frame) (w : World) (to : ℕ) (d : Frame)
+  pub record RunsTo (code : List CodeLine) (at : ℕ) (c : Frame) (w : World) (to : ℕ) (d : Frame)
       (u : World) : Type 0 where
     pub by : (k : ℕ) → (j : ℕ) × (k ≤ j) × (exec gives code j at c w ≡ exec gives code k to d u)
 
   -- the code at a place does what the piece does
-  abbrev pub Follows : List CodeLine → ℕ → ℕ → List ℕ → ℕ → Frame → World → Way → Type 0
-  Follows code n at ts to c w (Way.Through d u) = Comes code at c w to d u
-  Follows code n at ts to c w (Way.Leaves k d u) = Leads code at c w (target ts k) d u
-  Follows code n at ts to c w (Way.Ends t) = (j : ℕ) × Enough t.end n j × (exec gives code j at c w ≡ t)
-  Follows code n at ts to c w Way.Lost = Unit {0}
+  abbrev pub FollowsPiece : List CodeLine → ℕ → ℕ → List ℕ → ℕ → Frame → World → PieceExit → Type 0
+  FollowsPiece code n at ts to c w (PieceExit.Through d u) = RunsTo code at c w to d u
+  FollowsPiece code n at ts to c w (PieceExit.Leaves k d u) = AdvancesTo code at c w (target ts k) d u
+  FollowsPiece code n at ts to c w (PieceExit.Ends t) = (j : ℕ) × Enough t.end n j × (exec gives code j at c w ≡ t)
+  FollowsPiece code n at ts to c w PieceExit.Lost = Unit {0}
 
 -- placed code does what its piece does, wherever it is placed
 abbrev pub PlacedFollows : Type 0
 PlacedFollows = (gives : List Bool) (code : List CodeLine) (n : ℕ) (p : Piece) (at : ℕ) (ts : List ℕ) (c : Frame)
     (w : World) → Stand code at (placed p at ts)
-    → Follows gives code n at ts (at + size p) c w (run gives n p at ts c w)
+    → FollowsPiece gives code n at ts (at + size p) c w (run gives n p at ts c w)
 
 -- Two meanings under bounds: each bound of one has a bound of the other.
 
@@ -50,12 +50,12 @@ abbrev pub IsPrefix : End → Told → Told → Type 0
 IsPrefix End.Short a b = BeginsWith b.operations a.operations
 IsPrefix (End.Halts h) a b = b ≡ a
 
-abbrev pub Within : Told → Told → Type 0
-Within a b = IsPrefix a.end a b
+abbrev pub IsPartOf : Told → Told → Type 0
+IsPartOf a b = IsPrefix a.end a b
 
 pub record Agree (f g : ℕ → Told) : Type 0 where
-  pub forth : (n : ℕ) → (m : ℕ) × Within (f n) (g m)
-  pub back : (m : ℕ) → (n : ℕ) × Within (g m) (f n)
+  pub forth : (n : ℕ) → (m : ℕ) × IsPartOf (f n) (g m)
+  pub back : (m : ℕ) → (n : ℕ) × IsPartOf (g m) (f n)
 
 -- Whether a halt of the source says that the code halts alike. It says nothing if no rule fits, or if only the source
 -- has looked at the kinds of an answer.

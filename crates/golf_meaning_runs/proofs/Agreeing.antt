@@ -1,5 +1,5 @@
 -- The code of a program's functions agrees with their sources, for all answers.
--- For: `ProgramsAgree`, golf_meaning_runs/specs/Agreeing.antt; the law `programs_agree`, src/lib.rt.
+-- For: `ProgramsAgree`, golf_meaning_runs/specs/Agreement.antt; the law `programs_agree`, src/lib.rt.
 -- By: cases of a halt; induction over lists of parameters and of declarations.
 use Rattle.std.proofs.Common.{◌≡◌, ℕ, zero, suc, ◌<◌, false, List, [], ◌∷◌, ◌++◌, length, map, Option, Some, refl, ap}
 use Rattle.std.proofs.Common.{sym, ◌∙◌, subst, slice_get, arith}
@@ -23,14 +23,14 @@ use Rattle.golf_code_shapes.specs.FileLaws.{own_signatures, made_in, scope_of}
 use Rattle.golf_code_shapes.proofs.Globals.{names-fit}
 use Rattle.golf_meaning_flat.specs.Worlds.{Answer, Misfit, Halt, End}
 use Rattle.golf_meaning_flat.specs.Laws.{IsRuled, HasRules}
-use Rattle.golf_meaning_functions.specs.Files.{function_count, taking_in, MeaningOf}
-use Rattle.golf_meaning_functions.proofs.WholeFiles.{files-agree}
-use Rattle.golf_meaning_typing.specs.Sound.{Held}
-use Rattle.golf_meaning_typing.specs.Flowing.{EndSound}
-use Rattle.golf_meaning_typing.specs.Laws.{ArgumentsFit}
-use Rattle.golf_meaning_typing.specs.FileLaws.{parameters_at}
-use Rattle.golf_meaning_typing.proofs.WholeFiles.{files-sound}
-use Rattle.golf_meaning_runs.specs.Agreeing.{ProgramsAgree}
+use Rattle.golf_meaning_statements.specs.Files.{function_count, taking_in, MeaningOf}
+use Rattle.golf_meaning_statements.proofs.WholeFiles.{files-agree}
+use Rattle.golf_meaning_runs.specs.Sound.{Held}
+use Rattle.golf_meaning_runs.specs.SoundFlows.{EndSound}
+use Rattle.golf_meaning_runs.specs.TypingLaws.{ArgumentsFit}
+use Rattle.golf_meaning_runs.specs.FileLaws.{parameters_at}
+use Rattle.golf_meaning_runs.proofs.WholeFiles.{files-sound}
+use Rattle.golf_meaning_runs.specs.Agreement.{ProgramsAgree}
 use Rattle.golf_meaning_runs.proofs.Files.{files-have-parameters}
 use Rattle.golf_meaning_runs.proofs.Arguments.{parameters-known, signature-at}
 

@@ -1,5 +1,5 @@
 -- The arguments of a call are of the types of receiver and parameters in the source.
--- For: `ArgumentsFit`, golf_meaning_typing/specs/Laws.antt; `IsMeant`, golf_meaning_runs/specs/Laws.antt.
+-- For: `ArgumentsFit`, golf_meaning_runs/specs/TypingLaws.antt; `IsMeant`, golf_meaning_runs/specs/Laws.antt.
 -- By: cases of a value and its type; induction over lists of parameters and of declarations.
 use Rattle.std.proofs.Common.{◌≡◌, ℕ, zero, suc, ◌+◌, ◌<◌, true, List, [], ◌∷◌, ◌++◌, map, Option, Some, None, refl, ap}
 use Rattle.std.proofs.Common.{sym, subst, slice_get, arith}
@@ -21,11 +21,11 @@ use Rattle.golf_code_shapes.specs.Types.{value_type, known_type, known_types}
 use Rattle.golf_code_shapes.specs.Sound.{IsKnown}
 use Rattle.golf_code_shapes.specs.FunctionLaws.{result_scope, function_signature}
 use Rattle.golf_code_shapes.specs.FileLaws.{own_signatures, ParametersAreKnown, DeclarationsAreKnown}
-use Rattle.golf_meaning_functions.specs.Files.{function_count}
+use Rattle.golf_meaning_statements.specs.Files.{function_count}
 use Rattle.golf_meaning_source.specs.Operations.{Taking}
-use Rattle.golf_meaning_typing.specs.Sound.{is_of, Held}
-use Rattle.golf_meaning_typing.specs.Laws.{ArgumentsFit}
-use Rattle.golf_meaning_typing.specs.FileLaws.{parameters_at}
+use Rattle.golf_meaning_runs.specs.Sound.{is_of, Held}
+use Rattle.golf_meaning_runs.specs.TypingLaws.{ArgumentsFit}
+use Rattle.golf_meaning_runs.specs.FileLaws.{parameters_at}
 
 -- a value of a type has its kind
 

@@ -1,5 +1,5 @@
 -- The functions of the code of a file have the masks of their bodies, and as many parameters as their types say.
--- For: `HasMasks` and `HasParameters`, golf_meaning_books/specs/Books.antt.
+-- For: `HasMasks` and `HasParameters`, golf_meaning_runs/specs/Books.antt.
 -- By: induction over the list of declarations, and over lists of functions.
 use Rattle.std.proofs.Common.{◌≡◌, ℕ, zero, suc, ◌+◌, Bool, List, [], ◌∷◌, ◌++◌, length, map, Some, refl, ap, sym, ◌∙◌}
 use Rattle.std.proofs.Common.{slice_get, length-append, arith}
@@ -18,13 +18,13 @@ use Rattle.golf_live.specs.Live.{live}
 use Rattle.golf_model_typing.specs.Types.{Signature}
 use Rattle.golf_model_typing.specs.Types.{Shape}
 use Rattle.golf_code_of.specs.declared.tables.Tables.{Tables}
-use Rattle.golf_code_of.specs.declared.making.Making.{Making}
+use Rattle.golf_code_of.specs.declared.surroundings.Making.{Making}
 use Rattle.golf_code_of.specs.Files.{body_laid, function_of, functions_from, giving, made_function, tables_of, code_in}
 use Rattle.golf_code_of.specs.Files.{CodeOf}
 use Rattle.golf_code_shapes.specs.Types.{known_type, known_types}
 use Rattle.golf_code_shapes.specs.FunctionLaws.{result_scope, parameter_slots, made_signature}
 use Rattle.golf_code_shapes.specs.FileLaws.{own_signatures, types_of_code, scope_of, types_of_file}
-use Rattle.golf_meaning_books.specs.Books.{HasMasks, HasParameters}
+use Rattle.golf_meaning_runs.specs.Books.{HasMasks, HasParameters}
 
 -- each function of a list has the masks of its body
 abbrev Masked : List Function → Type 0

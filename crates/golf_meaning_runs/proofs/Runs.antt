@@ -10,7 +10,7 @@ use Rattle.golf_check_types.specs.Files.{outside}
 use Rattle.golf_data.specs.declared.code.Code.{Code}
 use Rattle.golf_data.specs.declared.code.Function.{Function}
 use Rattle.golf_model.specs.State.{State, start}
-use Rattle.golf_model.specs.Running.{Event, happens}
+use Rattle.golf_model.specs.Runs.{Event, happens}
 use Rattle.golf_model_typing.specs.Types.{ValueType, Shape, Typing, ValuesFit}
 use Rattle.golf_model_typing.specs.Grows.{Grows}
 use Rattle.golf_model_typing.specs.Shapes.{HasShapes}
@@ -23,21 +23,21 @@ use Rattle.golf_code_never_stuck.proofs.Plain.{Sound, sound-start, sound-event, 
 use Rattle.golf_code_never_stuck.proofs.Reaching.{files-have-shapes}
 use Rattle.golf_meaning_flat.specs.Worlds.{Operation, Answer, Halt, End, Told, halted}
 use Rattle.golf_meaning_flat.specs.Laws.{BeginsWith}
-use Rattle.golf_meaning_functions.specs.Functions.{CodeMeaning}
-use Rattle.golf_meaning_functions.specs.Files.{function_count, giving_in, taking_in, MeaningOf}
-use Rattle.golf_meaning_typing.specs.Flowing.{EndSound}
-use Rattle.golf_meaning_typing.specs.FileLaws.{parameters_at}
-use Rattle.golf_meaning_typing.proofs.Giving.{gives-are}
-use Rattle.golf_meaning_typing.proofs.WholeFiles.{files-sound}
-use Rattle.golf_meaning_turns.specs.Shaping.{giving}
-use Rattle.golf_meaning_turns.specs.Life.{Now, HasShown}
-use Rattle.golf_meaning_turns.proofs.Living.{lives-mean}
-use Rattle.golf_meaning_books.specs.Books.{AreArguments, RunTypes, shaping, Standing, Call, book_of, left_of, StandsSo}
-use Rattle.golf_meaning_books.specs.Books.{HasLife, GoesNoMore, TypedAlong}
-use Rattle.golf_meaning_books.proofs.Others.{one-some}
-use Rattle.golf_meaning_books.proofs.Runs.{runs-are-booked}
-use Rattle.golf_meaning_lives.specs.Laws.{SourceMeans}
-use Rattle.golf_meaning_lives.proofs.Sources.{lives-mean-source}
+use Rattle.golf_meaning_statements.specs.Functions.{CodeMeaning}
+use Rattle.golf_meaning_statements.specs.Files.{function_count, giving_in, taking_in, MeaningOf}
+use Rattle.golf_meaning_runs.specs.SoundFlows.{EndSound}
+use Rattle.golf_meaning_runs.specs.FileLaws.{parameters_at}
+use Rattle.golf_meaning_runs.proofs.Giving.{gives-are}
+use Rattle.golf_meaning_runs.proofs.WholeFiles.{files-sound}
+use Rattle.golf_meaning_runs.specs.FrameShapes.{giving}
+use Rattle.golf_meaning_runs.specs.Life.{Now, HasShown}
+use Rattle.golf_meaning_runs.proofs.Living.{lives-mean}
+use Rattle.golf_meaning_runs.specs.Books.{AreArguments, RunTypes, shaping, Standing, Call, book_of, left_of, StandsSo}
+use Rattle.golf_meaning_runs.specs.Books.{HasLife, GoesNoMore, TypedAlong}
+use Rattle.golf_meaning_runs.proofs.Others.{one-some}
+use Rattle.golf_meaning_runs.proofs.BookedRuns.{runs-are-booked}
+use Rattle.golf_meaning_runs.specs.Lives.{SourceMeans}
+use Rattle.golf_meaning_runs.proofs.Sources.{lives-mean-source}
 use Rattle.golf_meaning_runs.specs.Laws.{SaysOf, IsMeant, RunsMeanSources}
 use Rattle.golf_meaning_runs.proofs.Agreeing.{ruled}
 use Rattle.golf_meaning_runs.proofs.Files.{files-have-masks, files-have-parameters}

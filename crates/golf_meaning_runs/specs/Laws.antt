@@ -3,16 +3,16 @@ use Rattle.std.specs.Prelude.{◌≡◌, ℕ, ◌<◌, ◌≤◌, List, Some, sl
 use Rattle.golf_theory.specs.Membership.{Every}
 use Rattle.golf_syntax_trees.specs.declared.declarations.File.{File}
 use Rattle.golf_data.specs.declared.code.Function.{Function}
-use Rattle.golf_model.specs.Running.{Event}
+use Rattle.golf_model.specs.Runs.{Event}
 use Rattle.golf_model_typing.specs.Shapes.{HasShapes}
 use Rattle.golf_code_of.specs.Files.{CodeOf}
 use Rattle.golf_code_shapes.specs.FileLaws.{types_of_file}
 use Rattle.golf_code_never_stuck.specs.Reached.{IsProgram}
 use Rattle.golf_meaning_flat.specs.Worlds.{Operation, Halt, End, Told}
 use Rattle.golf_meaning_flat.specs.Laws.{BeginsWith}
-use Rattle.golf_meaning_functions.specs.Functions.{CodeMeaning}
-use Rattle.golf_meaning_functions.specs.Files.{function_count, giving_in, MeaningOf}
-use Rattle.golf_meaning_books.specs.Books.{RunTypes, Standing, Call, book_of, left_of, IsBooked}
+use Rattle.golf_meaning_statements.specs.Functions.{CodeMeaning}
+use Rattle.golf_meaning_statements.specs.Files.{function_count, giving_in, MeaningOf}
+use Rattle.golf_meaning_runs.specs.Books.{RunTypes, Standing, Call, book_of, left_of, IsBooked}
 
 -- What a meaning says of a call with this standing, for some bound. While the call goes on, its operations are a prefix
 -- of those that are meant. If it waits for an answer, they are the same, and the meaning waits at the last one. If it

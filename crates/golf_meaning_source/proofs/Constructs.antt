@@ -12,7 +12,7 @@ use Rattle.std.specs.Prelude.{int_lt, int_le}
 use Rattle.golf_data.specs.declared.value.Value.{Value}
 use Rattle.golf_data.specs.declared.code.Instr.{Instr}
 use Rattle.golf_model.specs.Values.{zero_of}
-use Rattle.golf_model.specs.Calculating.{sum, difference, product, quotient, remainder}
+use Rattle.golf_model.specs.Arithmetic.{sum, difference, product, quotient, remainder}
 use Rattle.golf_check_types.specs.declared.types.Base.{Base}
 use Rattle.golf_check_types.specs.declared.types.Base.TheVariants as base
 use Rattle.golf_check_types.specs.declared.types.GoType.{GoType}
@@ -34,8 +34,8 @@ use Rattle.golf_code_of.specs.Expressions.{Made}
 use Rattle.golf_code_of.specs.Expressions as C
 use Rattle.golf_code_of.specs.Calls as K
 use Rattle.golf_meaning_flat.specs.Worlds.{World, Part, bind, pushed}
-use Rattle.golf_meaning_flat.specs.Doing.{unfit, negated, inverted, computed, divided, compared, equated}
-use Rattle.golf_meaning_flat.specs.Structured.{Way, run}
+use Rattle.golf_meaning_flat.specs.InstructionEffects.{unfit, negated, inverted, computed, divided, compared, equated}
+use Rattle.golf_meaning_flat.specs.Structured.{PieceExit, run}
 use Rattle.golf_meaning_source.specs.Names.{Env, find}
 use Rattle.golf_meaning_source.specs.Operations.{Taking, Gives, gives, both, then_do, visible, on_one, on_two}
 use Rattle.golf_meaning_source.specs.Exprs as X
@@ -58,7 +58,7 @@ module _ (taking : Taking) where
 
     -- what is put into a struct or a slice
 
-    sim-less : (x : Value) (rest : List Value) (q : Part (List Value)) (o : Way)
+    sim-less : (x : Value) (rest : List Value) (q : Part (List Value)) (o : PieceExit)
         → Sim (bind q (λ ys v. Part.Gives ((x ∷ []) ++ ys) v)) (OnTop slots rest) o
         → Sim (bind q (λ us v. if_none us v (Part.Gives (x ∷ []) v))) (OnTop slots rest) o
     sim-less x rest (Part.Gives [] v) o h = h
@@ -258,18 +258,18 @@ module _ (taking : Taking) where
 
     -- calls
 
-    abbrev pub AllArguments : List X.Argument → List K.Argument → Type 0
+    abbrev pub AllArguments : List X.ArgumentMeaning → List K.ArgumentCode → Type 0
     AllArguments [] [] = Unit {0}
     AllArguments (x ∷ xs) (y ∷ ys) = (x.meaning ≡ y.meaning) × T y.piece [] x.value × AllArguments xs ys
     AllArguments _ _ = ⊥
 
-    arguments-length : (xs : List X.Argument) (ys : List K.Argument) → AllArguments xs ys → length ys ≡ length xs
+    arguments-length : (xs : List X.ArgumentMeaning) (ys : List K.ArgumentCode) → AllArguments xs ys → length ys ≡ length xs
     arguments-length [] [] h = refl
     arguments-length [] (y ∷ ys) h = absurd h
     arguments-length (x ∷ xs) [] h = absurd h
     arguments-length (x ∷ xs) (y ∷ ys) h = ap suc (arguments-length xs ys h.2)
 
-    turn-arguments : (xs : List X.Argument) (ys : List K.Argument) → AllArguments xs ys
+    turn-arguments : (xs : List X.ArgumentMeaning) (ys : List K.ArgumentCode) → AllArguments xs ys
         → T (K.pushes ys) [] (X.values_of xs)
     turn-arguments [] [] h = turn-none taking slots []
     turn-arguments [] (y ∷ ys) h = absurd h
@@ -321,7 +321,7 @@ module _ (taking : Taking) where
     turn-finaliser l (operand.Function k) vs = turn-visible taking slots l (Instr.SetFinalizer (k + 1)) [] vs refl
     turn-finaliser l _ vs = turn-visible taking slots l Instr.ClearFinalizer [] vs refl
 
-    turn-finalising : (l : ℕ) (xs : List X.Argument) (ys : List K.Argument) → AllArguments xs ys
+    turn-finalising : (l : ℕ) (xs : List X.ArgumentMeaning) (ys : List K.ArgumentCode) → AllArguments xs ys
         → T (K.finalising l ys) [] (X.finalising taking xs)
     turn-finalising l [] [] h = turn-none taking slots []
     turn-finalising l [] (y ∷ ys) h = absurd h
@@ -334,8 +334,8 @@ module _ (taking : Taking) where
         (turn-after taking slots y.piece (K.finaliser l k.meaning) x.value (X.finaliser taking k.meaning) h.1
         (turn-finaliser l k.meaning))
 
-    turn-call-by : (l : ℕ) (b : Bool) (f result : Operand) (p : Piece) (r : Gives) (xs : List X.Argument)
-        (ys : List K.Argument) → T p [] r → AllArguments xs ys
+    turn-call-by : (l : ℕ) (b : Bool) (f result : Operand) (p : Piece) (r : Gives) (xs : List X.ArgumentMeaning)
+        (ys : List K.ArgumentCode) → T p [] r → AllArguments xs ys
         → T (cond b (K.finalising l ys) (all (p ∷ K.pushes ys ∷ K.calling l f (length ys) ∷ []))) []
         (cond b (X.finalising taking xs) (then_do (both r (X.values_of xs))
         (X.calling taking (length xs) f (X.left_types result))))
@@ -346,7 +346,7 @@ module _ (taking : Taking) where
         (λ us. subst (λ m. T (K.calling l f m) us (X.calling taking (length xs) f (X.left_types result) us))
         (sym (arguments-length xs ys k)) (turn-calling l (length xs) f (X.left_types result) us))
 
-    pub turn-call : (l : ℕ) (f result : Operand) (p : Piece) (r : Gives) (xs : List X.Argument) (ys : List K.Argument)
+    pub turn-call : (l : ℕ) (f result : Operand) (p : Piece) (r : Gives) (xs : List X.ArgumentMeaning) (ys : List K.ArgumentCode)
         → T p [] r → AllArguments xs ys → T (K.call l f p ys).piece [] (X.call taking f result r xs)
     turn-call l f result p r xs ys h k = turn-call-by l (sets_finaliser f) f result p r xs ys h k
 

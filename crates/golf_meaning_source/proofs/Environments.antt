@@ -1,5 +1,5 @@
 -- Names have the values that stand in their slots.
--- For: `Stored` and `Rising`, specs/Does.antt; `find`, specs/Names.antt
+-- For: `Stored` and `SlotsRise`, specs/Does.antt; `find`, specs/Names.antt
 -- By: induction over the list of locals
 use Rattle.std.proofs.Common.{◌≡◌, ℕ, zero, suc, ◌+◌, ◌<◌, ◌≤◌, Bool, true, false, cond, is_some, List, [], ◌∷◌, length}
 use Rattle.std.proofs.Common.{Option, Some, None, refl, ap, sym, ◌∙◌, subst, slice_get, slice_set, arith}
@@ -9,7 +9,7 @@ use Rattle.golf_data.specs.declared.value.Value.{Value}
 use Rattle.golf_check_types.specs.declared.locals.Local.{Local}
 use Rattle.golf_check_types.specs.Names.{look_from, look}
 use Rattle.golf_meaning_source.specs.Names.{Env, first_some, here, find, assign}
-use Rattle.golf_meaning_source.specs.Does.{Stored, Rising, Apart}
+use Rattle.golf_meaning_source.specs.Does.{Stored, SlotsRise, Apart}
 
 -- the last local with a name
 
@@ -77,7 +77,7 @@ set-same (x ∷ xs) zero v h = refl
 set-same (x ∷ xs) (suc i) v h = set-same xs i v (omega (arith, h))
 
 stored-above : (ds : List Local) (env : Env) (slots : List Value) (i low high : ℕ) (v : Value) → i < low
-    → Rising low high ds → Stored ds env slots → Stored ds env (slice_set slots i v)
+    → SlotsRise low high ds → Stored ds env slots → Stored ds env (slice_set slots i v)
 stored-above [] [] slots i low high v lt r h = tt
 stored-above [] (x ∷ xs) slots i low high v lt r h = absurd h
 stored-above (d ∷ ds) [] slots i low high v lt r h = absurd h
@@ -89,7 +89,7 @@ stored-above (d ∷ ds) (x ∷ xs) slots i low high v lt r h =
     )
 
 pub stored-below : (ds : List Local) (env : Env) (slots : List Value) (i low high : ℕ) (v : Value) → high ≤ i
-    → Rising low high ds → Stored ds env slots → Stored ds env (slice_set slots i v)
+    → SlotsRise low high ds → Stored ds env slots → Stored ds env (slice_set slots i v)
 stored-below [] [] slots i low high v le r h = tt
 stored-below [] (x ∷ xs) slots i low high v le r h = absurd h
 stored-below (d ∷ ds) [] slots i low high v le r h = absurd h
@@ -100,11 +100,11 @@ stored-below (d ∷ ds) (x ∷ xs) slots i low high v le r h =
       stored-below ds xs slots i (d.slot + 1) high v le r.1 h.2,
     )
   where
-    rising-reaches : (es : List Local) (a b : ℕ) → Rising a b es → a ≤ b
+    rising-reaches : (es : List Local) (a b : ℕ) → SlotsRise a b es → a ≤ b
     rising-reaches [] a b h = h
     rising-reaches (e ∷ es) a b h = let k = rising-reaches es (e.slot + 1) b h.1 in let l = h.0 in omega (arith, k, l)
 
-last-low : (ds : List Local) (n : List ℕ) (low high : ℕ) (d : Local) → Rising low high ds → last ds n ≡ Some d
+last-low : (ds : List Local) (n : List ℕ) (low high : ℕ) (d : Local) → SlotsRise low high ds → last ds n ≡ Some d
     → low ≤ d.slot
 last-low [] n low high d r e = absurd (cc)
 last-low (x ∷ ds) n low high d r e = by (last ds n) refl (λ f. last-low ds n (x.slot + 1) high d r.1 f)
@@ -127,7 +127,7 @@ last-low (x ∷ ds) n low high d r e = by (last ds n) refl (λ f. last-low ds n 
 -- a name is that of a local, whose slot is there, and the locals have their values in slots that rise
 pub record IsLocal (ds : List Local) (env : Env) (slots : List Value) (n : List ℕ) (low high : ℕ)
     (d : Local) : Type 0 where
-  pub rising : Rising low high ds
+  pub rising : SlotsRise low high ds
   pub stored : Stored ds env slots
   pub means : last ds n ≡ Some d
   pub within : d.slot < length slots

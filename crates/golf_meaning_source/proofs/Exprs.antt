@@ -17,22 +17,22 @@ use Rattle.golf_check_types.specs.Scopes.{meaning}
 use Rattle.golf_check_types.specs.Written.{write, pointer_to, made_base}
 use Rattle.golf_check_types.specs.Expressions.{value_from, selected_from, unary_judged, index_judged, struct_of}
 use Rattle.golf_check_types.specs.Calls.{call_judged}
-use Rattle.golf_check_types.specs.Judging.{Judge}
+use Rattle.golf_check_types.specs.Judgments.{Judge}
 use Rattle.golf_code_layout.specs.Piece.{Piece, op}
 use Rattle.golf_code_of.specs.Table.{text_number}
 use Rattle.golf_code_of.specs.declared.tables.Tables.{Tables}
 use Rattle.golf_code_of.specs.Expressions.{Made}
 use Rattle.golf_code_of.specs.Expressions as C
 use Rattle.golf_code_of.specs.Calls as K
-use Rattle.golf_code_of.specs.Coding as G
-use Rattle.golf_code_of.specs.Coding.{Coded, CodedPut, coded}
+use Rattle.golf_code_of.specs.ExpressionCode as G
+use Rattle.golf_code_of.specs.ExpressionCode.{Coded, CodedPut, coded}
 use Rattle.golf_code_of.proofs.Judgments.{agree}
 use Rattle.golf_code_of.proofs.ExprCodes.{element_coded, element-coded-is, coded_layer, coded-rolls}
 use Rattle.golf_meaning_source.specs.Names.{Env}
 use Rattle.golf_meaning_source.specs.Operations.{Taking, Gives}
 use Rattle.golf_meaning_source.specs.Exprs as X
-use Rattle.golf_meaning_source.specs.Meaning as M
-use Rattle.golf_meaning_source.specs.Meaning.{Meant, MeantPut, meant, outer}
+use Rattle.golf_meaning_source.specs.ExpressionMeaning as M
+use Rattle.golf_meaning_source.specs.ExpressionMeaning.{Meant, MeantPut, meant, outer}
 use Rattle.golf_meaning_source.specs.Does.{Turns, Known}
 use Rattle.golf_meaning_source.specs.Laws.{ExpressionMeans, ExpressionsMean}
 use Rattle.golf_meaning_source.proofs.Turning.{turn-none, turn-after, turn-visible, turn-pair}

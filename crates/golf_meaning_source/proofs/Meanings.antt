@@ -1,5 +1,5 @@
 -- What a meaning takes an expression for is what the checker takes it for; and what an element of a literal means.
--- For: `meant`, specs/Meaning.antt; `judge`, golf_check_types/specs/Judging.antt
+-- For: `meant`, specs/ExpressionMeaning.antt; `judge`, golf_check_types/specs/Judgments.antt
 -- By: the steps of both, since the meaning carries along what the checker takes an expression for
 use Rattle.std.proofs.Common.{◌≡◌, refl}
 use Rattle.golf_syntax_trees.specs.declared.expressions.Expr.{Expr, roll-Expr}
@@ -7,9 +7,10 @@ use Rattle.golf_syntax_trees.specs.declared.expressions.Element.{Element}
 use Rattle.golf_syntax_trees.specs.declared.expressions.Expr.TheOpen.{Expr-F}
 use Rattle.golf_syntax_trees.specs.declared.expressions.Expr.TheFolds.{fold-Element, fold-roll-Expr, map-Expr}
 use Rattle.golf_syntax_trees.proofs.ExpressionInduction.{fold-element, carried}
-use Rattle.golf_check_types.specs.Judging.{Judge, Put, judge, judge_step, element_step}
+use Rattle.golf_check_types.specs.Judgments.{Judge, Put, judge, judge_step, element_step}
 use Rattle.golf_code_of.specs.declared.tables.Tables.{Tables}
-use Rattle.golf_meaning_source.specs.Meaning.{Meant, MeantPut, put_judge, meant, meant_step, element_meant_step}
+use Rattle.golf_meaning_source.specs.ExpressionMeaning.{Meant, MeantPut, put_judge, meant, meant_step}
+use Rattle.golf_meaning_source.specs.ExpressionMeaning.{element_meant_step}
 use Rattle.golf_meaning_source.specs.Operations.{Taking}
 
 module _ (taking : Taking) where

@@ -14,8 +14,8 @@ use Rattle.golf_code_layout.specs.Piece.{Piece, all, op, size}
 use Rattle.golf_data.specs.Effects.{taken}
 use Rattle.golf_code_of.specs.Expressions as C
 use Rattle.golf_meaning_flat.specs.Worlds.{World, Part, bind, pushed}
-use Rattle.golf_meaning_flat.specs.Doing.{unfit, on_some, chosen_by, shows, Doing, doing}
-use Rattle.golf_meaning_flat.specs.Structured.{Way, from_part, then_way, run}
+use Rattle.golf_meaning_flat.specs.InstructionEffects.{unfit, on_some, chosen_by, shows, Doing, doing}
+use Rattle.golf_meaning_flat.specs.Structured.{PieceExit, from_part, then_way, run}
 use Rattle.golf_meaning_source.specs.Names.{Env, find}
 use Rattle.golf_meaning_source.specs.Operations.{Taking, Gives, gives, then_do, answered, visible}
 use Rattle.golf_meaning_source.specs.Exprs.{Location, found, if_none, read, store, assigned}
@@ -49,15 +49,15 @@ module _ (taking : Taking) where
         (sim-in (g w) (λ ys v. Part.Gives (xs ++ ys) v) (OnTop slots (pushed xs rest)) (OnTop slots rest) (λ o. o)
         (run taking.gives n q at ts (frame slots (pushed vs (pushed xs rest))) w) (λ h os. refl)
         (h n at ts (pushed xs rest) w)
-        (λ ys v i e. e ∙ ap (λ z. Way.Through (frame slots z) v) (sym (pushed-append xs ys rest))))
+        (λ ys v i e. e ∙ ap (λ z. PieceExit.Through (frame slots z) v) (sym (pushed-append xs ys rest))))
 
     pub tail-skip : {B : Type 0} (rest : List Value) (q : Piece) (vs : List Value) (f : World → Part B)
-        (L : B → World → Way → Type 0) → Tail taking slots rest q vs f L
+        (L : B → World → PieceExit → Type 0) → Tail taking slots rest q vs f L
         → Tail taking slots rest (Piece.Then Piece.Empty q) vs f L
     tail-skip rest q vs f L h n at ts w = h n (at + 0) ts w
 
     pub tail-step : {B : Type 0} (rest : List Value) (p q : Piece) (vs us : List Value) (f : World → Part B)
-        (L : B → World → Way → Type 0) → T p vs (gives us) → Tail taking slots rest q us f L
+        (L : B → World → PieceExit → Type 0) → T p vs (gives us) → Tail taking slots rest q us f L
         → Tail taking slots rest (Piece.Then p q) vs f L
     tail-step rest p q vs us f L hp hq n at ts w =
         subst (λ z. Sim (f w) L (then_way z (run taking.gives n q (at + size p) ts))) (sym (hp n at ts rest w))
@@ -65,7 +65,7 @@ module _ (taking : Taking) where
 
     -- if an operation has as many operands as it takes
     pub tail-when : {B : Type 0} (rest : List Value) (p : Piece) (i : Instr) (leaves : List (Option GoType))
-        (vs : List Value) (k : List Value → World → Part B) (L : B → World → Way → Type 0)
+        (vs : List Value) (k : List Value → World → Part B) (L : B → World → PieceExit → Type 0)
         → (length vs ≡ taken i → Tail taking slots rest p vs (λ w. bind (visible taking i leaves vs w) k) L)
         → Tail taking slots rest p vs (λ w. bind (visible taking i leaves vs w) k) L
     tail-when rest p i leaves vs k L h n at ts w = by (length vs == taken i) refl
@@ -80,7 +80,7 @@ module _ (taking : Taking) where
 
     -- a place is read on top of its one operand, or of its two
     pub again-one : {B : Type 0} (rest : List Value) (l : ℕ) (i : Instr) (leaves : List (Option GoType))
-        (vs : List Value) (q : Piece) (g : List Value → World → Part B) (L : B → World → Way → Type 0)
+        (vs : List Value) (q : Piece) (g : List Value → World → Part B) (L : B → World → PieceExit → Type 0)
         → doing taking.gives i ≡ Doing.Acts (shows taking.gives i) → taken i ≡ 1
         → ((xs : List Value) → Tail taking slots rest q (vs ++ xs) (g xs) L)
         → Tail taking slots rest (Piece.Then (op l Instr.Dup) (Piece.Then (op l i) q)) vs
@@ -99,7 +99,7 @@ module _ (taking : Taking) where
         (λ f. absurd {0} (omega (arith, one, f)))
 
     pub again-two : {B : Type 0} (rest : List Value) (l : ℕ) (i : Instr) (leaves : List (Option GoType))
-        (vs : List Value) (q : Piece) (g : List Value → World → Part B) (L : B → World → Way → Type 0)
+        (vs : List Value) (q : Piece) (g : List Value → World → Part B) (L : B → World → PieceExit → Type 0)
         → doing taking.gives i ≡ Doing.Acts (shows taking.gives i) → taken i ≡ 2
         → ((xs : List Value) → Tail taking slots rest q (vs ++ xs) (g xs) L)
         → Tail taking slots rest (Piece.Then (op l Instr.Dup2) (Piece.Then (op l i) q)) vs
@@ -130,7 +130,7 @@ module _ (taking : Taking) where
           sim-in (f w) (λ us u. if_none us u (Part.Gives env u)) (OnTop slots rest) (Changed ds slots rest) (λ o. o)
           (run taking.gives n p at ts (frame slots (pushed vs rest)) w) (λ s os. refl) (h n at ts rest w) by
         where
-          by : (us : List Value) (u : World) (o : Way) → OnTop slots rest us u o
+          by : (us : List Value) (u : World) (o : PieceExit) → OnTop slots rest us u o
               → Sim (if_none us u (Part.Gives env u)) (Changed ds slots rest) o
           by [] u o e = (slots, e, ok, refl, λ i a. refl)
           by (x ∷ us) u o e = tt

@@ -12,35 +12,37 @@ use Rattle.golf_data.specs.Effects.{taken}
 use Rattle.golf_model.specs.Values.{bool_of}
 use Rattle.golf_code_of.specs.Expressions.{either}
 use Rattle.golf_meaning_flat.specs.Worlds.{Answer, Halt, World, Part, halted, bind, asked, done, pushed}
-use Rattle.golf_meaning_flat.specs.Doing.{Frame, unfit, miscount, goes, gets, on_kind, some_from, chosen_by}
-use Rattle.golf_meaning_flat.specs.Doing.{acts_on_one, acts_on_two, shows, panics, Doing, doing}
+use Rattle.golf_meaning_flat.specs.InstructionEffects.{Frame, unfit, miscount, goes, gets, on_kind, some_from}
+use Rattle.golf_meaning_flat.specs.InstructionEffects.{chosen_by}
+use Rattle.golf_meaning_flat.specs.InstructionEffects.{acts_on_one, acts_on_two, shows, panics, Doing, doing}
 use Rattle.golf_meaning_flat.specs.Flat.{tests}
-use Rattle.golf_meaning_flat.specs.Structured.{Way, from_part, acted, then_way, unless_true, out_of, run}
+use Rattle.golf_meaning_flat.specs.Structured.{PieceExit, from_part, acted, then_way, unless_true, out_of, run}
 use Rattle.golf_meaning_flat.proofs.Halting.{said, said-as}
 use Rattle.golf_meaning_source.specs.Operations.{Taking, Gives, gives, both, then_do, all_fit, misfit, answered}
 use Rattle.golf_meaning_source.specs.Operations.{visible, panicking, on_one, on_two, by_bool, if_true}
 use Rattle.golf_meaning_source.specs.Does.{frame, Sim, OnTop, Turns, Tail}
 
-pub then-end : (o : Way) → then_way o (λ c w. Way.Through c w) ≡ o
-then-end (Way.Through c w) = refl
-then-end (Way.Leaves k c w) = refl
-then-end (Way.Ends t) = refl
-then-end Way.Lost = refl
+pub then-end : (o : PieceExit) → then_way o (λ c w. PieceExit.Through c w) ≡ o
+then-end (PieceExit.Through c w) = refl
+then-end (PieceExit.Leaves k c w) = refl
+then-end (PieceExit.Ends t) = refl
+then-end PieceExit.Lost = refl
 
 -- under a context that lets ends through
-pub sim-in : {A B : Type 0} (p : Part A) (f : A → World → Part B) (K : A → World → Way → Type 0)
-    (L : B → World → Way → Type 0) (C : Way → Way) (o : Way)
+pub sim-in : {A B : Type 0} (p : Part A) (f : A → World → Part B) (K : A → World → PieceExit → Type 0)
+    (L : B → World → PieceExit → Type 0) (C : PieceExit → PieceExit) (o : PieceExit)
     → ((h : Halt) (os : List Rattle.golf_meaning_flat.specs.Worlds.Operation)
-    → C (Way.Ends (halted h os)) ≡ Way.Ends (halted h os)) → Sim p K o
-    → ((a : A) (u : World) (i : Way) → K a u i → Sim (f a u) L (C i)) → Sim (bind p f) L (C o)
+    → C (PieceExit.Ends (halted h os)) ≡ PieceExit.Ends (halted h os)) → Sim p K o
+    → ((a : A) (u : World) (i : PieceExit) → K a u i → Sim (f a u) L (C i)) → Sim (bind p f) L (C o)
 sim-in (Part.Gives a u) f K L C o strict h k = k a u o h
 sim-in (Part.Stops s os) f K L C o strict h k = said-as s _ _ h (λ e. ap C e ∙ strict s os)
 
 -- the same with nothing after it
-pub sim-into : {A : Type 0} (p : Part A) (K : A → World → Way → Type 0) (L : A → World → Way → Type 0) (C : Way → Way)
-    (o : Way) → ((h : Halt) (os : List Rattle.golf_meaning_flat.specs.Worlds.Operation)
-    → C (Way.Ends (halted h os)) ≡ Way.Ends (halted h os)) → Sim p K o
-    → ((a : A) (u : World) (i : Way) → K a u i → L a u (C i)) → Sim p L (C o)
+pub sim-into : {A : Type 0} (p : Part A) (K : A → World → PieceExit → Type 0) (L : A → World → PieceExit → Type 0)
+    (C : PieceExit → PieceExit)
+    (o : PieceExit) → ((h : Halt) (os : List Rattle.golf_meaning_flat.specs.Worlds.Operation)
+    → C (PieceExit.Ends (halted h os)) ≡ PieceExit.Ends (halted h os)) → Sim p K o
+    → ((a : A) (u : World) (i : PieceExit) → K a u i → L a u (C i)) → Sim p L (C o)
 sim-into (Part.Gives a u) K L C o strict h k = k a u o h
 sim-into (Part.Stops s os) K L C o strict h k = said-as s _ _ h (λ e. ap C e ∙ strict s os)
 
@@ -50,8 +52,8 @@ bind-assoc (Part.Gives a u) f g = refl
 bind-assoc (Part.Stops h os) f g = refl
 
 -- a part by which an instruction acts
-pub sim-part : {A B : Type 0} (p : Part A) (f : A → B) (to : A → Frame) (L : B → World → Way → Type 0)
-    → ((a : A) (u : World) → L (f a) u (Way.Through (to a) u))
+pub sim-part : {A B : Type 0} (p : Part A) (f : A → B) (to : A → Frame) (L : B → World → PieceExit → Type 0)
+    → ((a : A) (u : World) → L (f a) u (PieceExit.Through (to a) u))
     → Sim (bind p (λ a u. Part.Gives (f a) u)) L (from_part (bind p (λ a u. Part.Gives (to a) u)))
 sim-part (Part.Gives a u) f to L k = k a u
 sim-part (Part.Stops s os) f to L k = said s _ refl
@@ -98,7 +100,7 @@ module _ (taking : Taking) where
 
     -- the same, followed by something else
     pub tail-then : {B : Type 0} (rest : List Value) (p q : Piece) (vs : List Value) (f : Gives)
-        (g : List Value → World → Part B) (L : B → World → Way → Type 0) → T p vs f
+        (g : List Value → World → Part B) (L : B → World → PieceExit → Type 0) → T p vs f
         → ((us : List Value) → Tail taking slots rest q us (g us) L)
         → Tail taking slots rest (Piece.Then p q) vs (λ w. bind (f w) g) L
     tail-then rest p q vs f g L hp hq n at ts w =
@@ -108,7 +110,8 @@ module _ (taking : Taking) where
         (hq us n (at + size p) ts u))
 
     pub tail-end : {B : Type 0} (rest : List Value) (p : Piece) (vs : List Value) (f : World → Part B)
-        (L : B → World → Way → Type 0) → Tail taking slots rest p vs f L → Tail taking slots rest (all (p ∷ [])) vs f L
+        (L : B → World → PieceExit → Type 0) → Tail taking slots rest p vs f L
+        → Tail taking slots rest (all (p ∷ [])) vs f L
     tail-end rest p vs f L h n at ts w = subst (λ o. Sim (f w) L o)
         (sym (then-end (run taking.gives n p at ts (frame slots (pushed vs rest)) w))) (h n at ts w)
 
@@ -124,10 +127,10 @@ module _ (taking : Taking) where
     turn-over q xs g h n at ts rest w =
         sim-in (g w) (λ ys v. Part.Gives (xs ++ ys) v) (OnTop slots (pushed xs rest)) (OnTop slots rest) (λ o. o)
         (run taking.gives n q at ts (frame slots (pushed xs rest)) w) (λ h os. refl) (h n at ts (pushed xs rest) w)
-        (λ ys v i e. e ∙ ap (λ z. Way.Through (frame slots z) v) (sym (pushed-append xs ys rest)))
+        (λ ys v i e. e ∙ ap (λ z. PieceExit.Through (frame slots z) v) (sym (pushed-append xs ys rest)))
 
     sim-over : {B : Type 0} (rest vs : List Value) (p : Part (List Value)) (g : List Value → World → Part B)
-        (L : B → World → Way → Type 0) (o : Way) (to : Frame → World → Way)
+        (L : B → World → PieceExit → Type 0) (o : PieceExit) (to : Frame → World → PieceExit)
         → Sim (bind p (λ ys v. Part.Gives (vs ++ ys) v)) (OnTop slots rest) o
         → ((ys : List Value) (u : World) → Sim (g ys u) L (to (frame slots (pushed (vs ++ ys) rest)) u))
         → Sim (bind p g) L (then_way o to)
@@ -136,7 +139,7 @@ module _ (taking : Taking) where
 
     -- on top of others, followed by something else
     pub tail-over : {B : Type 0} (rest : List Value) (p q : Piece) (takes vs : List Value) (f : Gives)
-        (g : List Value → World → Part B) (L : B → World → Way → Type 0) → T p takes (over vs f)
+        (g : List Value → World → Part B) (L : B → World → PieceExit → Type 0) → T p takes (over vs f)
         → ((ys : List Value) → Tail taking slots rest q (vs ++ ys) (g ys) L)
         → Tail taking slots rest (Piece.Then p q) takes (λ w. bind (f w) g) L
     tail-over rest p q takes vs f g L hp hq n at ts w =
@@ -175,7 +178,7 @@ module _ (taking : Taking) where
     sim-answered rest leaves (Part.Gives a u) = by (not taking.strict || all_fit leaves a.values)
       where
         by : (b : Bool) → Sim (chosen_by b (Part.Gives a.values u) (misfit u)) (OnTop slots rest)
-            (Way.Through (frame slots (pushed a.values rest)) u)
+            (PieceExit.Through (frame slots (pushed a.values rest)) u)
         by true = refl
         by false = tt
     sim-answered rest leaves (Part.Stops s os) = said s _ refl
@@ -240,13 +243,13 @@ module _ (taking : Taking) where
 
     -- p, and if it gives true q; else r
 
-    abbrev outer_of : ℕ → Piece → ℕ → List ℕ → Frame → World → Way
-    outer_of n r at ts c v = then_way (run taking.gives n r at ts c v) (λ d x. Way.Through d x)
+    abbrev outer_of : ℕ → Piece → ℕ → List ℕ → Frame → World → PieceExit
+    outer_of n r at ts c v = then_way (run taking.gives n r at ts c v) (λ d x. PieceExit.Through d x)
 
-    abbrev after_of : ℕ → Piece → ℕ → List ℕ → Frame → World → Way
-    after_of n q at ts c v = then_way (run taking.gives n q at ts c v) (λ d x. Way.Leaves 1 d x)
+    abbrev after_of : ℕ → Piece → ℕ → List ℕ → Frame → World → PieceExit
+    after_of n q at ts c v = then_way (run taking.gives n q at ts c v) (λ d x. PieceExit.Leaves 1 d x)
 
-    abbrev choice_of : (Frame → World → Way) → (Frame → World → Way) → Way → Way
+    abbrev choice_of : (Frame → World → PieceExit) → (Frame → World → PieceExit) → PieceExit → PieceExit
     choice_of behind outer o = out_of (then_way
         (out_of (then_way o (λ c v. then_way (unless_true (tests c v) 0) behind))) outer)
 
@@ -273,20 +276,21 @@ module _ (taking : Taking) where
     either-bool {g} {h} b (Some true) u =
         let outer = outer_of b.turns b.second b.second_at b.outer_targets in
         sim-into (g u) (OnTop slots b.rest) (OnTop slots b.rest)
-        (λ o. out_of (then_way (out_of (then_way o (λ d x. Way.Leaves 1 d x))) outer))
+        (λ o. out_of (then_way (out_of (then_way o (λ d x. PieceExit.Leaves 1 d x))) outer))
         (run taking.gives b.turns b.first b.first_at b.inner_targets (frame slots b.rest) u) (λ s os. refl)
         (b.first_turns b.turns b.first_at b.inner_targets b.rest u)
-        (λ vs v i e. ap (λ o. out_of (then_way (out_of (then_way o (λ d x. Way.Leaves 1 d x))) outer)) e)
+        (λ vs v i e. ap (λ o. out_of (then_way (out_of (then_way o (λ d x. PieceExit.Leaves 1 d x))) outer)) e)
     either-bool {g} {h} b (Some false) u =
-        sim-into (h u) (OnTop slots b.rest) (OnTop slots b.rest) (λ o. out_of (then_way o (λ d x. Way.Through d x)))
+        sim-into (h u) (OnTop slots b.rest) (OnTop slots b.rest)
+        (λ o. out_of (then_way o (λ d x. PieceExit.Through d x)))
         (run taking.gives b.turns b.second b.second_at b.outer_targets (frame slots b.rest) u) (λ s os. refl)
         (b.second_turns b.turns b.second_at b.outer_targets b.rest u)
-        (λ vs v i e. ap (λ o. out_of (then_way o (λ d x. Way.Through d x))) e)
+        (λ vs v i e. ap (λ o. out_of (then_way o (λ d x. PieceExit.Through d x))) e)
 
     either-tested : {g h : Gives} (b : Branches g h) (vs : List Value) (u : World)
         → Sim (if_true vs g h u) (OnTop slots b.rest)
         (choice_of (after_of b.turns b.first b.first_at b.inner_targets)
-        (outer_of b.turns b.second b.second_at b.outer_targets) (Way.Through (frame slots (pushed vs b.rest)) u))
+        (outer_of b.turns b.second b.second_at b.outer_targets) (PieceExit.Through (frame slots (pushed vs b.rest)) u))
     either-tested b [] u = tt
     either-tested b (x ∷ []) u = either-bool b (bool_of x) u
     either-tested b (x ∷ (y ∷ vs)) u = tt

@@ -5,8 +5,8 @@ use Rattle.golf_check_types.specs.declared.locals.Local.{Local}
 use Rattle.golf_code_layout.specs.Piece.{Piece}
 use Rattle.golf_code_of.specs.Expressions.{Made}
 use Rattle.golf_meaning_flat.specs.Worlds.{World, Part, halted, bind, pushed}
-use Rattle.golf_meaning_flat.specs.Doing.{Frame}
-use Rattle.golf_meaning_flat.specs.Structured.{Way, run}
+use Rattle.golf_meaning_flat.specs.InstructionEffects.{Frame}
+use Rattle.golf_meaning_flat.specs.Structured.{PieceExit, run}
 use Rattle.golf_meaning_flat.specs.Laws.{Said}
 use Rattle.golf_meaning_source.specs.Names.{Env}
 use Rattle.golf_meaning_source.specs.Operations.{Taking, Gives}
@@ -17,13 +17,13 @@ frame slots operands = record { slots = slots; operands = operands }
 
 -- the way of the code matches the part of the source: if the part goes on, K holds; if it halts, the code halts alike,
 -- unless nothing is said of that halt
-abbrev pub Sim : {A : Type 0} → Part A → (A → World → Way → Type 0) → Way → Type 0
+abbrev pub Sim : {A : Type 0} → Part A → (A → World → PieceExit → Type 0) → PieceExit → Type 0
 Sim (Part.Gives a w) K o = K a w o
-Sim (Part.Stops h os) K o = Said h (o ≡ Way.Ends (halted h os))
+Sim (Part.Stops h os) K o = Said h (o ≡ PieceExit.Ends (halted h os))
 
 -- it goes on with these operands on top
-abbrev pub OnTop : List Value → List Value → List Value → World → Way → Type 0
-OnTop slots rest vs u o = o ≡ Way.Through (frame slots (pushed vs rest)) u
+abbrev pub OnTop : List Value → List Value → List Value → World → PieceExit → Type 0
+OnTop slots rest vs u o = o ≡ PieceExit.Through (frame slots (pushed vs rest)) u
 
 -- the environment has the names of the locals, and their values are in their slots
 abbrev pub Stored : List Local → Env → List Value → Type 0
@@ -33,9 +33,9 @@ Stored (d ∷ ds) [] slots = ⊥
 Stored (d ∷ ds) (x ∷ xs) slots = (x.name ≡ d.name) × (slice_get slots d.slot ≡ Some x.value) × Stored ds xs slots
 
 -- the slots of the locals rise, from `low` on, and lie below `high`
-abbrev pub Rising : ℕ → ℕ → List Local → Type 0
-Rising low high [] = low ≤ high
-Rising low high (d ∷ ds) = (low ≤ d.slot) × Rising (d.slot + 1) high ds
+abbrev pub SlotsRise : ℕ → ℕ → List Local → Type 0
+SlotsRise low high [] = low ≤ high
+SlotsRise low high (d ∷ ds) = (low ≤ d.slot) × SlotsRise (d.slot + 1) high ds
 
 -- no local has this slot
 abbrev pub Apart : ℕ → List Local → Type 0
@@ -47,14 +47,14 @@ abbrev pub Kept : List Local → ℕ → List Value → List Value → Type 0
 Kept ds next slots now = (i : ℕ) → i < next → Apart i ds → slice_get now i ≡ slice_get slots i
 
 -- the way goes on with the environment changed
-abbrev pub Changed : List Local → List Value → List Value → Env → World → Way → Type 0
-Changed ds slots rest env u o = (now : List Value) × (o ≡ Way.Through (frame now rest) u) × Stored ds env now
+abbrev pub Changed : List Local → List Value → List Value → Env → World → PieceExit → Type 0
+Changed ds slots rest env u o = (now : List Value) × (o ≡ PieceExit.Through (frame now rest) u) × Stored ds env now
     × (length now ≡ length slots) × ((i : ℕ) → Apart i ds → slice_get now i ≡ slice_get slots i)
 
 -- the environment of the known names is stored in their slots
 pub record Known (ds : List Local) (next : ℕ) (env : Env) (slots : List Value) : Type 0 where
   pub stored : Stored ds env slots
-  pub rising : Rising 0 next ds
+  pub rising : SlotsRise 0 next ds
 
 module _ (taking : Taking) where
   -- the piece takes these operands and gives the same values as the source
@@ -64,7 +64,7 @@ module _ (taking : Taking) where
 
   -- the code after these operands matches the source after these values
   abbrev pub Tail : {B : Type 0} → List Value → List Value → Piece → List Value → (World → Part B)
-      → (B → World → Way → Type 0) → Type 0
+      → (B → World → PieceExit → Type 0) → Type 0
   Tail slots rest q vs g L = (n at : ℕ) (ts : List ℕ) (w : World)
       → Sim (g w) L (run taking.gives n q at ts (frame slots (pushed vs rest)) w)
 

@@ -10,7 +10,7 @@ use Rattle.golf_data.specs.declared.value.Value.{Value}
 use Rattle.golf_data.specs.declared.code.Instr.{Instr}
 use Rattle.std.specs.Prelude.{int_lt, int_le}
 use Rattle.golf_model.specs.Values.{zero_of}
-use Rattle.golf_model.specs.Calculating.{sum, difference, product, quotient, remainder}
+use Rattle.golf_model.specs.Arithmetic.{sum, difference, product, quotient, remainder}
 use Rattle.golf_check_types.specs.declared.types.Base.{Base}
 use Rattle.golf_check_types.specs.declared.types.Base.TheVariants as base
 use Rattle.golf_check_types.specs.declared.types.GoType.{GoType}
@@ -26,7 +26,7 @@ use Rattle.golf_check_types.specs.Calls.{sets_finaliser}
 use Rattle.golf_code_of.specs.declared.tables.Tables.{Tables}
 use Rattle.golf_code_of.specs.Values.{constant, makes}
 use Rattle.golf_meaning_flat.specs.Worlds.{World, Part, bind}
-use Rattle.golf_meaning_flat.specs.Doing.{unfit, negated, inverted, computed, divided, compared, equated}
+use Rattle.golf_meaning_flat.specs.InstructionEffects.{unfit, negated, inverted, computed, divided, compared, equated}
 use Rattle.golf_meaning_source.specs.Names.{Env, find, assign}
 use Rattle.golf_meaning_source.specs.Operations.{Taking, Gives, gives, both, then_do, in_order, visible, panicking}
 use Rattle.golf_meaning_source.specs.Operations.{on_one, on_two, if_true}
@@ -133,11 +133,11 @@ binary_does binary.And a b = then_do a (λ vs. if_true vs b (gives (Value.Bool f
 binary_does o a b = then_do (both a b) (calculation o)
 
 -- an argument: its judgment and its value
-pub record Argument : Type 0 where
+pub record ArgumentMeaning : Type 0 where
   pub meaning : Operand
   pub value : Gives
 
-abbrev pub values_of : List Argument → Gives
+abbrev pub values_of : List ArgumentMeaning → Gives
 values_of xs = in_order (map (λ x. x.value) xs)
 
 module _ (taking : Taking) where
@@ -276,11 +276,11 @@ module _ (taking : Taking) where
   finaliser (operand.Function k) = visible taking (Instr.SetFinalizer (k + 1)) []
   finaliser _ = visible taking Instr.ClearFinalizer []
 
-  abbrev pub finalising : List Argument → Gives
+  abbrev pub finalising : List ArgumentMeaning → Gives
   finalising (x ∷ (y ∷ ys)) = then_do x.value (finaliser y.meaning)
   finalising _ = gives []
 
   -- receiver, arguments, and the call
-  abbrev pub call : Operand → Operand → Gives → List Argument → Gives
+  abbrev pub call : Operand → Operand → Gives → List ArgumentMeaning → Gives
   call f result receiver xs = cond (sets_finaliser f) (finalising xs)
       (then_do (both receiver (values_of xs)) (calling (length xs) f (left_types result)))

@@ -5,11 +5,11 @@ use Rattle.golf_syntax_trees.specs.declared.expressions.Expr.{Expr}
 use Rattle.golf_check_types.specs.declared.scopes.Scope.{Scope}
 use Rattle.golf_code_of.specs.declared.tables.Tables.{Tables}
 use Rattle.golf_code_of.specs.Expressions.{Made}
-use Rattle.golf_code_of.specs.Coding.{coded}
+use Rattle.golf_code_of.specs.ExpressionCode.{coded}
 use Rattle.golf_meaning_source.specs.Names.{Env}
 use Rattle.golf_meaning_source.specs.Operations.{Taking}
 use Rattle.golf_meaning_source.specs.Exprs.{Does}
-use Rattle.golf_meaning_source.specs.Meaning.{meant}
+use Rattle.golf_meaning_source.specs.ExpressionMeaning.{meant}
 use Rattle.golf_meaning_source.specs.Does.{Matches, Known}
 
 module _ (taking : Taking) where

@@ -10,7 +10,7 @@ use Rattle.golf_check_types.specs.declared.types.Base.TheVariants as base
 use Rattle.golf_check_types.specs.declared.types.GoType.{GoType}
 use Rattle.golf_data.specs.Effects.{taken}
 use Rattle.golf_meaning_flat.specs.Worlds.{Misfit, Halt, World, Part, bind, asks}
-use Rattle.golf_meaning_flat.specs.Doing.{unfit, miscount, wrong_kind, gets, chosen_by}
+use Rattle.golf_meaning_flat.specs.InstructionEffects.{unfit, miscount, wrong_kind, gets, chosen_by}
 
 -- Whether a value is of a type, by its kind.
 

@@ -16,20 +16,20 @@ use Rattle.golf_check_types.specs.Names.{is_blank}
 use Rattle.golf_check_types.specs.Statements as W
 use Rattle.golf_check_types.specs.Statements.{behind, hides, range_names}
 use Rattle.golf_code_layout.specs.Piece.{Piece, all, op, size}
-use Rattle.golf_code_of.specs.declared.making.Around.{Around}
+use Rattle.golf_code_of.specs.declared.surroundings.Around.{Around}
 use Rattle.golf_code_of.specs.Loops as O
 use Rattle.golf_meaning_flat.specs.Worlds as V
 use Rattle.golf_meaning_flat.specs.Worlds.{World, pushed}
-use Rattle.golf_meaning_flat.specs.Doing.{Frame, on_kind}
-use Rattle.golf_meaning_flat.specs.Structured.{Way, then_way, unless_true, out_of, once_more, rounds, run}
+use Rattle.golf_meaning_flat.specs.InstructionEffects.{Frame, on_kind}
+use Rattle.golf_meaning_flat.specs.Structured.{PieceExit, then_way, unless_true, out_of, once_more, rounds, run}
 use Rattle.golf_meaning_source.specs.Names.{Env}
 use Rattle.golf_meaning_source.specs.Operations.{Taking, visible}
-use Rattle.golf_meaning_source.specs.Does.{frame, OnTop, Stored, Rising, Apart, Kept, Known}
+use Rattle.golf_meaning_source.specs.Does.{frame, OnTop, Stored, SlotsRise, Apart, Kept, Known}
 use Rattle.golf_meaning_source.proofs.Turning.{turn-visible}
 use Rattle.golf_meaning_statements.specs.Flows.{Course, Flow, after, cut, by_test, turned}
 use Rattle.golf_meaning_statements.specs.Steps.{Step, bound, block, in_loop, channel_named, received_two, receives}
 use Rattle.golf_meaning_statements.specs.Steps.{channel_step}
-use Rattle.golf_meaning_statements.specs.Follows.{Stands, EndsAlike, Goes}
+use Rattle.golf_meaning_statements.specs.Follows.{IsEnvStored, EndsAlike, Goes}
 use Rattle.golf_meaning_statements.proofs.Flowing.{ends-in, Came, MayBegin, stored-prefix, stored-length, rising-append}
 use Rattle.golf_meaning_statements.proofs.Flowing.{apart-rising, apart-append, apart-below, goes-after, Exactly}
 use Rattle.golf_meaning_statements.proofs.Flowing.{EachMeans}
@@ -73,17 +73,19 @@ module _ (taking : Taking) where
     CReady env now = Stored cds env now × (length now ≡ count) × (slice_get now ch ≡ Some c)
 
     -- seen from the inside
-    abbrev CHalf : List Value → Flow → Way → Type 0
-    CHalf now (Flow.Goes Course.On env u) o = (then_now : List Value) × (o ≡ Way.Leaves 0 (frame then_now rest) u)
+    abbrev CHalf : List Value → Flow → PieceExit → Type 0
+    CHalf now (Flow.Goes Course.On env u) o = (then_now : List Value) × (o ≡ PieceExit.Leaves 0 (frame then_now rest) u)
         × CReady env then_now × Kept cds ch now then_now
     CHalf now (Flow.Goes Course.Continues env u) o = (then_now : List Value)
-        × (o ≡ Way.Leaves 0 (frame then_now rest) u) × CReady env then_now × Kept cds ch now then_now
-    CHalf now (Flow.Goes Course.Breaks env u) o = (then_now : List Value) × (o ≡ Way.Leaves 2 (frame then_now rest) u)
-        × Stands cds ch now cds env then_now
+        × (o ≡ PieceExit.Leaves 0 (frame then_now rest) u) × CReady env then_now × Kept cds ch now then_now
+    CHalf now (Flow.Goes Course.Breaks env u) o = (then_now : List Value)
+        × (o ≡ PieceExit.Leaves 2 (frame then_now rest) u)
+        × IsEnvStored cds ch now cds env then_now
     CHalf now (Flow.Goes Course.Skips env u) o = ⊥
     CHalf now (Flow.Ends t) o = EndsAlike t t.end o
 
-    module _ (rising : Rising 0 ch cds) (rises : Rising C3.next (behind C3 (range_names names false el C3)).next cdecl)
+    module _ (rising : SlotsRise 0 ch cds)
+        (rises : SlotsRise C3.next (behind C3 (range_names names false el C3)).next cdecl)
         (room : Cb.next + length ((B taking body means-body).walk (looped taking body means-body Cb)).slots ≤ count)
         (single : Single names) where
       cnext-is : (behind C3 (range_names names false el C3)).next ≡ Cb.next
@@ -95,7 +97,7 @@ module _ (taking : Taking) where
 
       cleft : (now now2 now3 : List Value) (env : Env) → length now ≡ count → slice_get now ch ≡ Some c
           → (length now2 ≡ length now) → Below (ch + 1) now now2
-          → Stands (cds ++ cdecl) Cb.next now2 (cds ++ cdecl) env now3 → CReady (take (length cds) env) now3
+          → IsEnvStored (cds ++ cdecl) Cb.next now2 (cds ++ cdecl) env now3 → CReady (take (length cds) env) now3
           × Kept cds ch now now3
       cleft now now2 now3 env q hid long2 below st =
           let z = length-append (ty ∷ []) (range_names names false el C3).slots in (
@@ -109,21 +111,21 @@ module _ (taking : Taking) where
                 ∙ below j (omega (arith, lt)),
           )
 
-      chalf-of : (now now2 : List Value) (f : Flow) (o : Way) → length now ≡ count → slice_get now ch ≡ Some c
+      chalf-of : (now now2 : List Value) (f : Flow) (o : PieceExit) → length now ≡ count → slice_get now ch ≡ Some c
           → (length now2 ≡ length now) → Below (ch + 1) now now2 → Exactly rest c2 (cds ++ cdecl) Cb.next now2 f o
-          → CHalf now (cut (length cds) f) (then_way o (λ d x. Way.Leaves 0 d x))
+          → CHalf now (cut (length cds) f) (then_way o (λ d x. PieceExit.Leaves 0 d x))
       chalf-of now now2 (Flow.Goes Course.On env u) o q hid long2 below e = let r =
           cleft now now2 e.0 env q hid long2 below
-          e.2 in (e.0, ap (λ z. then_way z (λ d x. Way.Leaves 0 d x)) e.1, r.0, r.1)
+          e.2 in (e.0, ap (λ z. then_way z (λ d x. PieceExit.Leaves 0 d x)) e.1, r.0, r.1)
       chalf-of now now2 (Flow.Goes Course.Continues env u) o q hid long2 below e = let r =
           cleft now now2 e.0 env q hid long2 below
-          e.2 in (e.0, ap (λ z. then_way z (λ d x. Way.Leaves 0 d x)) e.1, r.0, r.1)
+          e.2 in (e.0, ap (λ z. then_way z (λ d x. PieceExit.Leaves 0 d x)) e.1, r.0, r.1)
       chalf-of now now2 (Flow.Goes Course.Breaks env u) o q hid long2 below e = let r =
           cleft now now2 e.0 env q hid long2 below
-          e.2 in (e.0, ap (λ z. then_way z (λ d x. Way.Leaves 0 d x)) e.1, (r.0.0, r.0.1 ∙ sym q, r.1))
+          e.2 in (e.0, ap (λ z. then_way z (λ d x. PieceExit.Leaves 0 d x)) e.1, (r.0.0, r.0.1 ∙ sym q, r.1))
       chalf-of now now2 (Flow.Goes Course.Skips env u) o q hid long2 below e = absurd e
       chalf-of now now2 (Flow.Ends t) o q hid long2 below e =
-          ends-in t t.end (λ z. then_way z (λ d x. Way.Leaves 0 d x)) o refl e
+          ends-in t t.end (λ z. then_way z (λ d x. PieceExit.Leaves 0 d x)) o refl e
 
       -- the name, or what is received is dropped
       name-goes : (env : Env) (now : List Value) (v : Value) → CReady env now → (m at : ℕ) (us : List ℕ) (u : World)
@@ -134,13 +136,13 @@ module _ (taking : Taking) where
           let nx = cnext-is in
           let known : Known C3.locals C3.next env now = record {
             stored = subst (λ es. Stored es env now) (sym (append-nil cds)) ready.0;
-            rising = subst (λ es. Rising 0 C3.next es) (sym (append-nil cds)) (wider cds 0 ch rising);
+            rising = subst (λ es. SlotsRise 0 C3.next es) (sym (append-nil cds)) (wider cds 0 ch rising);
           } in
           let ready3 : MayBegin C3 (range_names names false el C3) env now =
           record { known = known; room = omega (arith, room, q, nx) } in
           received-name names v ready3 single m at us u
         where
-          wider : (es : List Local) (low high : ℕ) → Rising low high es → Rising low (high + 1) es
+          wider : (es : List Local) (low high : ℕ) → SlotsRise low high es → SlotsRise low (high + 1) es
           wider [] low high r = omega (arith, r)
           wider (e ∷ es) low high r = (r.0, wider es (e.slot + 1) high r.1)
 
@@ -179,7 +181,7 @@ module _ (taking : Taking) where
       chalf : (env : Env) (now : List Value) (v : Value) → CReady env now → (at at2 : ℕ) (us : List ℕ) (u : World)
           → CHalf now (channel_step names cd v env u)
           (then_way (run taking.gives n (O.channel_name l names C3) at us (frame now (v ∷ rest)) u)
-          (λ d x. then_way (run taking.gives n cbp at2 us d x) (λ d x. Way.Leaves 0 d x)))
+          (λ d x. then_way (run taking.gives n cbp at2 us d x) (λ d x. PieceExit.Leaves 0 d x)))
       chalf env now v ready at at2 us u =
           let k = name-goes env now v ready n at us u in
           let q = ready.1 in
@@ -187,41 +189,41 @@ module _ (taking : Taking) where
           let long2 = k.3 in
           let known : Known Cb.locals Cb.next env2 k.0 = record {
             stored = subst (λ es. Stored es env2 k.0) (append_assoc cds [] cdecl) k.2;
-            rising = subst (λ m. Rising 0 m (cds ++ cdecl)) cnext-is
+            rising = subst (λ m. SlotsRise 0 m (cds ++ cdecl)) cnext-is
                 (rising-append cds cdecl 0 C3.next (behind C3 (range_names names false el C3)).next
                 (wider cds 0 ch rising) rises);
           } in
           subst (λ z. CHalf now (cut z (cd env2 u))
           (then_way (run taking.gives n (O.channel_name l names C3) at us (frame now (v ∷ rest)) u)
-          (λ d x. then_way (run taking.gives n cbp at2 us d x) (λ d x. Way.Leaves 0 d x))))
+          (λ d x. then_way (run taking.gives n cbp at2 us d x) (λ d x. PieceExit.Leaves 0 d x))))
           (sym (stored-length cds env now ready.0))
           (subst (λ z. CHalf now (cut (length cds) (cd env2 u))
-          (then_way z (λ d x. then_way (run taking.gives n cbp at2 us d x) (λ d x. Way.Leaves 0 d x)))) (sym k.1)
+          (then_way z (λ d x. then_way (run taking.gives n cbp at2 us d x) (λ d x. PieceExit.Leaves 0 d x)))) (sym k.1)
           (chalf-of now k.0 (cd env2 u) (run taking.gives n cbp at2 us (frame k.0 rest) u) ready.1 ready.2 k.3 k.4
           (body-exactly taking body means-body c2 Cb n env2 k.0 known
           (omega (arith, room, q, long2)) at2 us rest u)))
         where
-          wider : (es : List Local) (low high : ℕ) → Rising low high es → Rising low (high + 1) es
+          wider : (es : List Local) (low high : ℕ) → SlotsRise low high es → SlotsRise low (high + 1) es
           wider [] low high r = omega (arith, r)
           wider (e ∷ es) low high r = (r.0, wider es (e.slot + 1) high r.1)
 
       module _ (at : ℕ) (us : List ℕ) where
-        abbrev cturn : Frame → World → Way
+        abbrev cturn : Frame → World → PieceExit
         cturn = run taking.gives n (receiving l ch (O.channel_name l names C3) cbp) at us
 
-        abbrev CG : List Value → Flow → Way → Type 0
+        abbrev CG : List Value → Flow → PieceExit → Type 0
         CG now f o = Goes cds ch now rest cds a f o
 
         -- out of both blocks, with the drop between
-        abbrev outside : Way → Way
+        abbrev outside : PieceExit → PieceExit
         outside o = out_of (then_way (out_of o)
-            (λ d x. then_way (run taking.gives n (op l Instr.Drop) 0 [] d x) (λ d x. Way.Through d x)))
+            (λ d x. then_way (run taking.gives n (op l Instr.Drop) 0 [] d x) (λ d x. PieceExit.Through d x)))
 
         -- after a body that goes on or continues
-        turn-done : (m : ℕ) (to : Frame → World → Way)
+        turn-done : (m : ℕ) (to : Frame → World → PieceExit)
             → ((env : Env) (now : List Value) (u : World) → CReady env now
             → CG now (receives taking m el c (channel_step names cd) env u) (outside (to (frame now rest) u)))
-            → (now : List Value) (env : Env) (u : World) (o : Way) → length now ≡ count
+            → (now : List Value) (env : Env) (u : World) (o : PieceExit) → length now ≡ count
             → CHalf now (Flow.Goes Course.On env u) o
             → CG now (receives taking m el c (channel_step names cd) env u) (outside (once_more o to))
         turn-done m to rec now env u o q g =
@@ -230,10 +232,10 @@ module _ (taking : Taking) where
             (sym g.1) (goes-trans rest a cds (receives taking m el c (channel_step names cd) env u)
             (outside (to (frame g.0 rest) u)) came (rec env g.0 u g.2))
 
-        chalf-goes : (m : ℕ) (to : Frame → World → Way)
+        chalf-goes : (m : ℕ) (to : Frame → World → PieceExit)
             → ((env : Env) (now : List Value) (u : World) → CReady env now
             → CG now (receives taking m el c (channel_step names cd) env u) (outside (to (frame now rest) u)))
-            → (now : List Value) (f : Flow) (o : Way) → length now ≡ count → CHalf now f o
+            → (now : List Value) (f : Flow) (o : PieceExit) → length now ≡ count → CHalf now f o
             → CG now (turned f (receives taking m el c (channel_step names cd))) (outside (once_more o to))
         chalf-goes m to rec now (Flow.Goes Course.On env u) o q g = turn-done m to rec now env u o q g
         chalf-goes m to rec now (Flow.Goes Course.Continues env u) o q g = turn-done m to rec now env u o q g
@@ -242,7 +244,7 @@ module _ (taking : Taking) where
         chalf-goes m to rec now (Flow.Goes Course.Skips env u) o q g = absurd g
         chalf-goes m to rec now (Flow.Ends t) o q g = ends-in t t.end (λ z. outside (once_more z to)) o refl g
 
-        cbool-goes : (m : ℕ) (to : Frame → World → Way) (at3 : ℕ)
+        cbool-goes : (m : ℕ) (to : Frame → World → PieceExit) (at3 : ℕ)
             → ((env : Env) (now : List Value) (u : World) → CReady env now
             → CG now (receives taking m el c (channel_step names cd) env u) (outside (to (frame now rest) u)))
             → (env : Env) (now : List Value) (v : Value) (u : World) → CReady env now → (b : Option Bool)

@@ -1,5 +1,5 @@
 -- The code of a `select` does what the `select` does.
--- For: `select_deed`, golf_meaning_statements/specs/Selecting.antt; `select_part`, golf_code_of/specs/Selects.antt.
+-- For: `select_deed`, golf_meaning_statements/specs/Selects.antt; `select_part`, golf_code_of/specs/Selects.antt.
 -- By: induction over the list of clauses.
 use Rattle.std.proofs.Common.{◌≡◌, ℕ, zero, suc, ◌+◌, ◌==◌, ◌<◌, ◌≤◌, ◌||◌, Bool, true, false, not, List, [], ◌∷◌, ◌++◌}
 use Rattle.std.proofs.Common.{length, map, Option, refl, ap, sym, ◌∙◌, subst, arith, append-nil, length-append}
@@ -17,10 +17,10 @@ use Rattle.golf_check_types.specs.Statements as W
 use Rattle.golf_check_types.specs.Statements.{Walk, behind}
 use Rattle.golf_code_layout.specs.Piece.{Piece, all, op, size, target}
 use Rattle.golf_data.specs.Effects.{cases_taken}
-use Rattle.golf_code_of.specs.declared.making.Around.{Around}
+use Rattle.golf_code_of.specs.declared.surroundings.Around.{Around}
 use Rattle.golf_code_of.specs.declared.tables.Tables.{Tables}
-use Rattle.golf_code_of.specs.Coding.{piece_at}
-use Rattle.golf_code_of.specs.Statements.{Part, Lay, past}
+use Rattle.golf_code_of.specs.ExpressionCode.{piece_at}
+use Rattle.golf_code_of.specs.Statements.{StatementPart, Lay, past}
 use Rattle.golf_code_of.specs.Statements as L
 use Rattle.golf_code_of.specs.Selects as K
 use Rattle.golf_code_of.specs.Selects.{ClausePart, cases_from, default_from, choice, in_clause, clauses_lay}
@@ -28,21 +28,21 @@ use Rattle.golf_code_of.specs.Selects.{select_part}
 use Rattle.golf_meaning_flat.specs.Worlds as V
 use Rattle.golf_meaning_flat.specs.Worlds.{Answer, World, bind, halted, pushed}
 use Rattle.golf_meaning_flat.proofs.Halting.{said}
-use Rattle.golf_meaning_flat.specs.Doing.{Frame, gets}
+use Rattle.golf_meaning_flat.specs.InstructionEffects.{Frame, gets}
 use Rattle.golf_meaning_flat.specs.Flat.{on_clause, relabelled, lower, clause_of, picks}
-use Rattle.golf_meaning_flat.specs.Structured.{Way, then_way, picked, out_of, placed_targets, run}
+use Rattle.golf_meaning_flat.specs.Structured.{PieceExit, then_way, picked, out_of, placed_targets, run}
 use Rattle.golf_meaning_source.specs.Names.{Env}
 use Rattle.golf_meaning_source.specs.Operations as O
 use Rattle.golf_meaning_source.specs.Operations.{Taking, Gives, all_fit}
 use Rattle.golf_meaning_source.specs.Exprs.{store, dropped}
-use Rattle.golf_meaning_source.specs.Does.{frame, Sim, OnTop, Turns, Stored, Rising, Changed, Known}
+use Rattle.golf_meaning_source.specs.Does.{frame, Sim, OnTop, Turns, Stored, SlotsRise, Changed, Known}
 use Rattle.golf_meaning_source.proofs.Turning.{takes-all, turn-none, turn-both, turn-pair}
 use Rattle.golf_meaning_statements.specs.Flows.{Course, Flow, on, after, guarded, if_fits}
 use Rattle.golf_meaning_statements.specs.Steps.{Deed, Step, value_at, declared, name_place, defines_pair, in_order}
 use Rattle.golf_meaning_statements.specs.Steps.{in_block, then_deed, parts}
-use Rattle.golf_meaning_statements.specs.Selecting.{ClauseStep, operands_given, received_types, takes_in, communicates}
-use Rattle.golf_meaning_statements.specs.Selecting.{breaking, case_step, default_step, clause_parts, many, one_default}
-use Rattle.golf_meaning_statements.specs.Selecting.{out_of_select, chosen, chooses, select_deed}
+use Rattle.golf_meaning_statements.specs.Selects.{ClauseStep, operands_given, received_types, takes_in, communicates}
+use Rattle.golf_meaning_statements.specs.Selects.{breaking, case_step, default_step, clause_parts, many, one_default}
+use Rattle.golf_meaning_statements.specs.Selects.{out_of_select, chosen, chooses, select_deed}
 use Rattle.golf_meaning_statements.specs.Follows.{Goes, StatementMeans}
 use Rattle.golf_meaning_statements.proofs.Ranks.{OneDefault, Rise, rank-is}
 use Rattle.golf_meaning_statements.proofs.Numbers.{one-of, relabel, relabel-default, clause-is}
@@ -58,16 +58,16 @@ nothing-given [] fits = refl
 nothing-given (v ∷ vs) fits = let none = exact_unsigned_eq (length (v ∷ vs)) 0 fits in absurd (omega (arith, none))
 
 module _ (rest : List Value) (ds : List Local) (next : ℕ) (slots : List Value) where
-  exactly-around : {a b : Around} (f : Flow) (o : Way) → LeadsAlike a b → Exactly rest b ds next slots f o
+  exactly-around : {a b : Around} (f : Flow) (o : PieceExit) → LeadsAlike a b → Exactly rest b ds next slots f o
       → Exactly rest a ds next slots f o
   exactly-around (Flow.Goes Course.Breaks env u) o alike h =
-      (h.0, h.1 ∙ ap (λ k. Way.Leaves k (frame h.0 rest) u) alike.breaks, h.2)
+      (h.0, h.1 ∙ ap (λ k. PieceExit.Leaves k (frame h.0 rest) u) alike.breaks, h.2)
   exactly-around (Flow.Goes Course.Continues env u) o alike h =
-      (h.0, h.1 ∙ ap (λ k. Way.Leaves k (frame h.0 rest) u) alike.continues, h.2)
+      (h.0, h.1 ∙ ap (λ k. PieceExit.Leaves k (frame h.0 rest) u) alike.continues, h.2)
   exactly-around _ o alike h = h
 
   -- seen from fewer slots
-  exactly-lower : (a : Around) (high : ℕ) (f : Flow) (o : Way) → next ≤ high → Exactly rest a ds high slots f o
+  exactly-lower : (a : Around) (high : ℕ) (f : Flow) (o : PieceExit) → next ≤ high → Exactly rest a ds high slots f o
       → Exactly rest a ds next slots f o
   exactly-lower a high (Flow.Goes Course.On env u) o le h =
       (h.0, h.1, (h.2.0, h.2.1, λ i lt q. h.2.2 i (omega (arith, lt, le)) q))
@@ -79,31 +79,32 @@ module _ (rest : List Value) (ds : List Local) (next : ℕ) (slots : List Value)
   exactly-lower a high (Flow.Ends t) o le h = h
 
   -- a clause, and then the end of the `select`, after so many clauses more
-  after-clause : (a : Around) (m : ℕ) (C : Way → Way) → ((t : V.Told) → C (Way.Ends t) ≡ Way.Ends t)
-      → ((k q : ℕ) (d : Frame) (u : World) → k ≡ m + q → C (Way.Leaves k d u) ≡ Way.Leaves q d u)
-      → (f : Flow) (o : Way) → Exactly rest (in_clause m a) ds next slots f o
-      → Exactly rest a ds next slots (out_of_select f) (out_of (C (then_way o (λ c v. Way.Leaves m c v))))
+  after-clause : (a : Around) (m : ℕ) (C : PieceExit → PieceExit)
+      → ((t : V.Told) → C (PieceExit.Ends t) ≡ PieceExit.Ends t)
+      → ((k q : ℕ) (d : Frame) (u : World) → k ≡ m + q → C (PieceExit.Leaves k d u) ≡ PieceExit.Leaves q d u)
+      → (f : Flow) (o : PieceExit) → Exactly rest (in_clause m a) ds next slots f o
+      → Exactly rest a ds next slots (out_of_select f) (out_of (C (then_way o (λ c v. PieceExit.Leaves m c v))))
   after-clause a m C strict sink (Flow.Goes Course.On env u) o h = (
     h.0,
-    ap (λ z. out_of (C (then_way z (λ c v. Way.Leaves m c v)))) h.1
+    ap (λ z. out_of (C (then_way z (λ c v. PieceExit.Leaves m c v)))) h.1
         ∙ ap out_of (sink m 0 (frame h.0 rest) u (omega arith)),
     h.2,
   )
   after-clause a m C strict sink (Flow.Goes Course.Breaks env u) o h = (
     h.0,
-    ap (λ z. out_of (C (then_way z (λ c v. Way.Leaves m c v)))) h.1
+    ap (λ z. out_of (C (then_way z (λ c v. PieceExit.Leaves m c v)))) h.1
         ∙ ap out_of (sink m 0 (frame h.0 rest) u (omega arith)),
     h.2,
   )
   after-clause a m C strict sink (Flow.Goes Course.Continues env u) o h = (
     h.0,
-    ap (λ z. out_of (C (then_way z (λ c v. Way.Leaves m c v)))) h.1
+    ap (λ z. out_of (C (then_way z (λ c v. PieceExit.Leaves m c v)))) h.1
         ∙ ap out_of (sink (a.continues + (m + 1)) (suc a.continues) (frame h.0 rest) u (omega arith)),
     h.2,
   )
   after-clause a m C strict sink (Flow.Goes Course.Skips env u) o h = absurd h
   after-clause a m C strict sink (Flow.Ends t) o h =
-      ends-in t t.end (λ z. out_of (C (then_way z (λ c v. Way.Leaves m c v)))) o (ap out_of (strict t)) h
+      ends-in t t.end (λ z. out_of (C (then_way z (λ c v. PieceExit.Leaves m c v)))) o (ap out_of (strict t)) h
 
 -- the names are known in the scope after a clause
 known-after : (s : Scope) (w : W.Walked) (env : Env) (slots : List Value) → w.declares ≡ []
@@ -111,7 +112,7 @@ known-after : (s : Scope) (w : W.Walked) (env : Env) (slots : List Value) → w.
 known-after s w env slots quiet ok = record {
   stored = subst (λ es. Stored (s.locals ++ es) env slots) (sym quiet)
       (subst (λ xs. Stored xs env slots) (sym (append-nil s.locals)) ok.stored);
-  rising = subst (λ es. Rising 0 (behind s w).next (s.locals ++ es)) (sym quiet)
+  rising = subst (λ es. SlotsRise 0 (behind s w).next (s.locals ++ es)) (sym quiet)
       (rising-append s.locals [] 0 s.next (behind s w).next ok.rising (omega arith));
 }
 
@@ -175,7 +176,7 @@ module _ (taking : Taking) where
 
   module _ (t : Tables) (l k : ℕ) where
     communication-rises : (c : Communication) (s : Scope)
-        → Rising s.next (behind s (W.communication l k c s)).next (W.communication l k c s).declares
+        → SlotsRise s.next (behind s (W.communication l k c s)).next (W.communication l k c s).declares
     communication-rises (comm.Define n e) s = (omega arith, omega arith)
     communication-rises (comm.DefineReceived n m e) s = pair-rises n m (W.carried l e s) s
     communication-rises _ s = omega arith
@@ -195,7 +196,7 @@ module _ (taking : Taking) where
         (on (takes_in taking t c vs s env u))
         (run taking.gives n (K.takes_in t l k c s) at ts (frame slots (pushed vs rest)) u)
     communication-goes {s} {env} {slots} (comm.Send c e) a r n ready [] fits at ts rest u =
-        goes-changed rest a s.locals s.next slots (V.Part.Gives env u) (Way.Through (frame slots rest) u)
+        goes-changed rest a s.locals s.next slots (V.Part.Gives env u) (PieceExit.Through (frame slots rest) u)
         (slots, refl, ready.known.stored, refl, λ i q. refl)
     communication-goes {s} {env} {slots} (comm.Send c e) a r n ready (v ∷ vs) fits at ts rest u = let none =
         exact_unsigned_eq (length (v ∷ vs)) 0 fits in absurd (omega (arith, none))
@@ -301,7 +302,7 @@ module _ (taking : Taking) where
         (past a (c.lay l (in_clause (length cs) a) s)) (behind s (c.walk l s)) ts
 
     -- what comes of a way of p
-    abbrev around : Piece → List ClausePart → Around → Scope → List ℕ → Way → Way
+    abbrev around : Piece → List ClausePart → Around → Scope → List ℕ → PieceExit → PieceExit
     around p [] a s ts o = o
     around p (c ∷ cs) a s ts o =
         around (joined p (c.lay l (in_clause (length cs) a) s).piece c.line (length cs)) cs
@@ -320,7 +321,7 @@ module _ (taking : Taking) where
         (past a (x.lay l (in_clause (length cs) a) s)) (behind s (x.walk l s)) ts c w
 
     around-ends : (cs : List ClausePart) (p : Piece) (a : Around) (s : Scope) (ts : List ℕ) (t : V.Told)
-        → around p cs a s ts (Way.Ends t) ≡ Way.Ends t
+        → around p cs a s ts (PieceExit.Ends t) ≡ PieceExit.Ends t
     around-ends [] p a s ts t = refl
     around-ends (x ∷ cs) p a s ts t = around-ends cs
         (joined p (x.lay l (in_clause (length cs) a) s).piece x.line (length cs))
@@ -328,8 +329,8 @@ module _ (taking : Taking) where
 
     -- past all clauses
     sinks : (cs : List ClausePart) (p : Piece) (a : Around) (s : Scope) (ts : List ℕ) (k q : ℕ) (d : Frame) (u : World)
-        → k ≡ length cs + q → around p cs a s ts (Way.Leaves k d u) ≡ Way.Leaves q d u
-    sinks [] p a s ts k q d u e = ap (λ j. Way.Leaves j d u) (omega (arith, e))
+        → k ≡ length cs + q → around p cs a s ts (PieceExit.Leaves k d u) ≡ PieceExit.Leaves q d u
+    sinks [] p a s ts k q d u e = ap (λ j. PieceExit.Leaves j d u) (omega (arith, e))
     sinks (x ∷ cs) p a s ts zero q d u e = absurd (omega (arith, e))
     sinks (x ∷ cs) p a s ts (suc k) q d u e =
         sinks cs (joined p (x.lay l (in_clause (length cs) a) s).piece x.line (length cs))
@@ -361,8 +362,8 @@ module _ (taking : Taking) where
 
   -- what leaves p at the place of a clause goes as that clause does
   clause-goes : (here : Selection) (cs : List ClauseStep) → EachClause cs → (p : Piece) (a : Around) (s : Scope)
-      → OfClauses here cs s → (k : ℕ) (o : Way)
-      → (k < many cs → o ≡ Way.Leaves k (frame here.slots (pushed here.values here.rest)) here.world)
+      → OfClauses here cs s → (k : ℕ) (o : PieceExit)
+      → (k < many cs → o ≡ PieceExit.Leaves k (frame here.slots (pushed here.values here.rest)) here.world)
       → Exactly here.rest a here.locals here.next here.slots
       (out_of_select (chosen taking here.line k here.values cs a s here.turns here.env here.world))
       (out_of (around here.turns here.line here.at p (clause_parts cs) a s here.targets o))
@@ -498,19 +499,19 @@ module _ (taking : Taking) where
       abbrev label : ℕ → ℕ
       label k = lower (placed_targets cases otherwise is) (target is k)
 
-      abbrev C : Way → Way
+      abbrev C : PieceExit → PieceExit
       C o = out_of (around n l at p ps a s us o)
 
       label-is : (j : ℕ) → 0 ≤ j → j < 0 + length ps → label j ≡ j
       label-is j le lt = rank-is is j ps (rises-on n l at ps p a s us) (omega (arith, lt)) one
 
-      abbrev X : Flow → Way → Type 0
+      abbrev X : Flow → PieceExit → Type 0
       X = Exactly rest a s.locals s.next slots
 
       answered-goes : (x : Answer) (w : World)
           → X (out_of_select (chosen taking l x.clause x.values cs a s n env w))
           (C (then_way (picked (chosen_frame slots rest (clause_of label x.clause cases otherwise) x w))
-          (λ c v. Way.Through c v)))
+          (λ c v. PieceExit.Through c v)))
       answered-goes x w =
           let here : Selection = record {
             turns = n;
@@ -528,39 +529,39 @@ module _ (taking : Taking) where
           let scope : OfClauses here cs s = record { same = refl; above = omega arith; known = ok; room = room } in
           clause-goes here cs each p a s scope x.clause
           (then_way (picked (chosen_frame slots rest (clause_of label x.clause cases otherwise) x w))
-          (λ c v. Way.Through c v))
-          (λ lt. ap (λ m. then_way (picked (chosen_frame slots rest m x w)) (λ c v. Way.Through c v))
+          (λ c v. PieceExit.Through c v))
+          (λ lt. ap (λ m. then_way (picked (chosen_frame slots rest m x w)) (λ c v. PieceExit.Through c v))
           (clause-is label 0 x.clause ps one label-is (omega arith) (omega (arith, lt))))
 
       choice-goes : (vs : List Value) (u : World)
           → X (chooses taking l cs vs a s n env u)
           (C (then_way (picked (picks taking.gives label cases otherwise (frame slots (pushed vs rest)) u))
-          (λ c v. Way.Through c v)))
+          (λ c v. PieceExit.Through c v)))
       choice-goes vs u = by (length vs == cases_taken cases) refl
         where
           by : (b : Bool) → (length vs == cases_taken cases) ≡ b
               → X (guarded b u (after (gets taking.gives (Instr.Select cases otherwise) vs u)
               (λ x w. out_of_select (chosen taking l x.clause x.values cs a s n env w))))
               (C (then_way (picked (picks taking.gives label cases otherwise (frame slots (pushed vs rest)) u))
-              (λ c v. Way.Through c v)))
+              (λ c v. PieceExit.Through c v)))
           by false e = tt
           by true e =
               subst (λ q. X (after (gets taking.gives (Instr.Select cases otherwise) vs u)
               (λ x w. out_of_select (chosen taking l x.clause x.values cs a s n env w)))
-              (C (then_way (picked q) (λ c v. Way.Through c v))))
+              (C (then_way (picked q) (λ c v. PieceExit.Through c v))))
               (sym (picks-is label one label-is slots rest vs u
               (exact_unsigned_eq (length vs) (cases_taken cases) e)))
               (goes-after X (λ t o h. h) (gets taking.gives (Instr.Select cases otherwise) vs u)
               (λ x w. out_of_select (chosen taking l x.clause x.values cs a s n env w))
               (λ x w i. i ≡ picked (chosen_frame slots rest (clause_of label x.clause cases otherwise) x w))
-              (λ z. C (then_way z (λ c v. Way.Through c v)))
+              (λ z. C (then_way z (λ c v. PieceExit.Through c v)))
               (picked (bind (gets taking.gives (Instr.Select cases otherwise) vs u)
               (λ x w. chosen_frame slots rest (clause_of label x.clause cases otherwise) x w)))
               (λ h os. ap out_of (around-ends n l at ps p a s us (halted h os)))
               (sim-picked (gets taking.gives (Instr.Select cases otherwise) vs u)
               (λ x w. chosen_frame slots rest (clause_of label x.clause cases otherwise) x w))
               (λ x w i q. subst (λ z. X (out_of_select (chosen taking l x.clause x.values cs a s n env w))
-              (C (then_way z (λ c v. Way.Through c v)))) (sym q) (answered-goes x w)))
+              (C (then_way z (λ c v. PieceExit.Through c v)))) (sym q) (answered-goes x w)))
 
       abbrev ops : Piece
       ops = all (map (λ (c : ClausePart). c.operands l s) ps)
@@ -581,7 +582,7 @@ module _ (taking : Taking) where
       → StatementMeans taking (select_part l (clause_parts cs)).walk (select_part l (clause_parts cs)).lay
       (select_deed taking l cs)
   means-select l cs each = record {
-    rises = λ s. subst (λ ds. Rising s.next
+    rises = λ s. subst (λ ds. SlotsRise s.next
         (behind s (W.in_order (map (λ (c : ClausePart). c.walk l) (clause_parts cs)) s)).next ds)
         (sym (quiet-all l cs each s)) (omega arith);
     goes = λ a s n env slots ok room at ts rest u.

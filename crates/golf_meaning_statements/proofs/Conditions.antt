@@ -12,15 +12,15 @@ use Rattle.golf_check_types.specs.declared.scopes.Scope.{Scope}
 use Rattle.golf_check_types.specs.Scopes.{begun}
 use Rattle.golf_check_types.specs.Statements.{behind}
 use Rattle.golf_code_layout.specs.Piece.{Piece, all, size}
-use Rattle.golf_code_of.specs.declared.making.Around.{Around}
+use Rattle.golf_code_of.specs.declared.surroundings.Around.{Around}
 use Rattle.golf_code_of.specs.declared.tables.Tables.{Tables}
-use Rattle.golf_code_of.specs.Coding.{piece_at}
-use Rattle.golf_code_of.specs.Statements.{Part, within, past}
+use Rattle.golf_code_of.specs.ExpressionCode.{piece_at}
+use Rattle.golf_code_of.specs.Statements.{StatementPart, within, past}
 use Rattle.golf_code_of.specs.Statements as L
 use Rattle.golf_meaning_flat.specs.Worlds.{World, pushed}
-use Rattle.golf_meaning_flat.specs.Doing.{Frame}
+use Rattle.golf_meaning_flat.specs.InstructionEffects.{Frame}
 use Rattle.golf_meaning_flat.specs.Flat.{tests}
-use Rattle.golf_meaning_flat.specs.Structured.{Way, then_way, unless_true, out_of, run}
+use Rattle.golf_meaning_flat.specs.Structured.{PieceExit, then_way, unless_true, out_of, run}
 use Rattle.golf_meaning_source.specs.Names.{Env}
 use Rattle.golf_meaning_source.specs.Operations.{Taking}
 use Rattle.golf_meaning_source.specs.Does.{frame, OnTop, Stored, Known}
@@ -28,7 +28,7 @@ use Rattle.golf_meaning_source.proofs.Turning.{then-end}
 use Rattle.golf_meaning_statements.specs.Flows.{Course, Flow, ends_here, or_else, tested}
 use Rattle.golf_meaning_statements.specs.Steps.{value_at, Deed, Step, optional, block, in_order, after_test, then_step}
 use Rattle.golf_meaning_statements.specs.Steps.{if_deed, else_deed, parts}
-use Rattle.golf_meaning_statements.specs.Follows.{Stands, Goes, StatementMeans}
+use Rattle.golf_meaning_statements.specs.Follows.{IsEnvStored, Goes, StatementMeans}
 use Rattle.golf_meaning_statements.proofs.Flowing.{ends-in, Declared, Branches, LeadsAlike, goes-base, goes-after}
 use Rattle.golf_meaning_statements.proofs.Flowing.{goes-test, GoesPrefix, goes-prefix, exactly-prefix, exactly-goes}
 use Rattle.golf_meaning_statements.proofs.Flowing.{around-same, means-then, means-nothing, means-order, means-block}
@@ -36,22 +36,23 @@ use Rattle.golf_meaning_statements.proofs.Flowing.{StepMeans, EachMeans, rising-
 use Rattle.golf_meaning_statements.proofs.Simples.{value-turns, means-simple}
 
 -- operands under a test
-pub goes-tested : {R : Flow → Way → Type 0} {u : World} {k : ℕ} {f g : Flow} {to : Frame → World → Way}
+pub goes-tested : {R : Flow → PieceExit → Type 0} {u : World} {k : ℕ} {f g : Flow} {to : Frame → World → PieceExit}
     (slots rest vs : List Value) → Branches R (frame slots rest) u k f g to
     → R (tested vs u f g) (then_way (unless_true (tests (frame slots (pushed vs rest)) u) k) to)
 goes-tested slots rest [] h = h.if_neither _
 goes-tested slots rest (x ∷ []) h = goes-test (bool_of x) h
 goes-tested slots rest (x ∷ (y ∷ vs)) h = h.if_neither _
 
-out-leaves : (k : ℕ) (c : Frame) (u : World) → out_of (Way.Leaves (k + 1) c u) ≡ Way.Leaves k c u
-out-leaves k c u = ap (λ j. out_of (Way.Leaves j c u)) (suc-is k)
+out-leaves : (k : ℕ) (c : Frame) (u : World) → out_of (PieceExit.Leaves (k + 1) c u) ≡ PieceExit.Leaves k c u
+out-leaves k c u = ap (λ j. out_of (PieceExit.Leaves j c u)) (suc-is k)
   where
     suc-is : (j : ℕ) → j + 1 ≡ suc j
     suc-is j = omega arith
 
 -- what is false is no more than that
 pub goes-ends-here : (rest : List Value) (a : Around) (ds al : List Local) (next : ℕ) (slots : List Value) (f : Flow)
-    (o : Way) → Goes ds next slots rest al (within 1 a) f o → Goes ds next slots rest al a (ends_here f) (out_of o)
+    (o : PieceExit) → Goes ds next slots rest al (within 1 a) f o
+    → Goes ds next slots rest al a (ends_here f) (out_of o)
 goes-ends-here rest a ds al next slots (Flow.Goes Course.On env u) o h = (h.0, ap out_of h.1, h.2)
 goes-ends-here rest a ds al next slots (Flow.Goes Course.Skips env u) o h = (h.0, ap out_of h.1, h.2)
 goes-ends-here rest a ds al next slots (Flow.Goes Course.Breaks env u) o h =
@@ -60,9 +61,9 @@ goes-ends-here rest a ds al next slots (Flow.Goes Course.Continues env u) o h =
     (h.0, ap out_of h.1 ∙ out-leaves a.continues (frame h.0 rest) u, h.2)
 goes-ends-here rest a ds al next slots (Flow.Ends t) o h = ends-in t t.end out_of o refl h
 
-out-out-leaves : (k : ℕ) (c : Frame) (u : World) (to : Frame → World → Way)
-    → out_of (then_way (out_of (Way.Leaves (k + 2) c u)) to) ≡ Way.Leaves k c u
-out-out-leaves k c u to = ap (λ j. out_of (then_way (out_of (Way.Leaves j c u)) to)) (suc-is k)
+out-out-leaves : (k : ℕ) (c : Frame) (u : World) (to : Frame → World → PieceExit)
+    → out_of (then_way (out_of (PieceExit.Leaves (k + 2) c u)) to) ≡ PieceExit.Leaves k c u
+out-out-leaves k c u to = ap (λ j. out_of (then_way (out_of (PieceExit.Leaves j c u)) to)) (suc-is k)
   where
     suc-is : (j : ℕ) → j + 2 ≡ suc (suc j)
     suc-is j = omega arith
@@ -73,23 +74,23 @@ record OrElse (rest : List Value) (a : Around) (ds : List Local) (next : ℕ) (s
   one_declares : List Local
   other_declares : List Local
   other : Env → World → Flow
-  way : Way
-  to : Frame → World → Way
+  way : PieceExit
+  to : Frame → World → PieceExit
   one_goes : Goes ds next slots rest (ds ++ one_declares) (within 2 a) f way
-  other_goes : (env : Env) (u : World) (now : List Value) → Stands ds next slots (ds ++ one_declares) env now
+  other_goes : (env : Env) (u : World) (now : List Value) → IsEnvStored ds next slots (ds ++ one_declares) env now
       → Goes ds next slots rest (ds ++ other_declares) (within 1 a) (other env u) (to (frame now rest) u)
 
 goes-or-else : (rest : List Value) (a : Around) (ds : List Local) (next : ℕ) (slots : List Value) (f : Flow)
     (p : OrElse rest a ds next slots f)
     → GoesPrefix rest a ds next slots (or_else f (λ env u. ends_here (p.other env u)))
-    (out_of (then_way (out_of (then_way p.way (λ c v. Way.Leaves 1 c v)))
-    (λ c v. then_way (p.to c v) (λ d x. Way.Through d x))))
+    (out_of (then_way (out_of (then_way p.way (λ c v. PieceExit.Leaves 1 c v)))
+    (λ c v. then_way (p.to c v) (λ d x. PieceExit.Through d x))))
 goes-or-else rest a ds next slots (Flow.Goes Course.On env u) p =
     let h = p.one_goes in
     goes-prefix rest a ds p.one_declares next slots (Flow.Goes Course.On env u) _ (
       h.0,
-      ap (λ z. out_of (then_way (out_of (then_way z (λ c v. Way.Leaves 1 c v)))
-          (λ c v. then_way (p.to c v) (λ d x. Way.Through d x)))) h.1,
+      ap (λ z. out_of (then_way (out_of (then_way z (λ c v. PieceExit.Leaves 1 c v)))
+          (λ c v. then_way (p.to c v) (λ d x. PieceExit.Through d x)))) h.1,
       h.2,
     )
 goes-or-else rest a ds next slots (Flow.Goes Course.Skips env u) p =
@@ -97,8 +98,8 @@ goes-or-else rest a ds next slots (Flow.Goes Course.Skips env u) p =
     let to = p.to in
     let g = p.other in
     subst (λ z. GoesPrefix rest a ds next slots (ends_here (g env u))
-    (out_of (then_way (out_of (then_way z (λ c v. Way.Leaves 1 c v)))
-    (λ c v. then_way (to c v) (λ d x. Way.Through d x))))) (sym h.1)
+    (out_of (then_way (out_of (then_way z (λ c v. PieceExit.Leaves 1 c v)))
+    (λ c v. then_way (to c v) (λ d x. PieceExit.Through d x))))) (sym h.1)
     (subst (λ z. GoesPrefix rest a ds next slots (ends_here (g env u)) (out_of z))
     (sym (then-end (to (frame h.0 rest) u)))
     (goes-prefix rest a ds p.other_declares next slots (ends_here (g env u)) (out_of (to (frame h.0 rest) u))
@@ -107,27 +108,27 @@ goes-or-else rest a ds next slots (Flow.Goes Course.Skips env u) p =
 goes-or-else rest a ds next slots (Flow.Goes Course.Breaks env u) p =
     let h = p.one_goes in (
       h.0,
-      ap (λ z. out_of (then_way (out_of (then_way z (λ c v. Way.Leaves 1 c v)))
-          (λ c v. then_way (p.to c v) (λ d x. Way.Through d x)))) h.1
-          ∙ out-out-leaves a.breaks (frame h.0 rest) u (λ c v. then_way (p.to c v) (λ d x. Way.Through d x)),
+      ap (λ z. out_of (then_way (out_of (then_way z (λ c v. PieceExit.Leaves 1 c v)))
+          (λ c v. then_way (p.to c v) (λ d x. PieceExit.Through d x)))) h.1
+          ∙ out-out-leaves a.breaks (frame h.0 rest) u (λ c v. then_way (p.to c v) (λ d x. PieceExit.Through d x)),
       h.2,
     )
 goes-or-else rest a ds next slots (Flow.Goes Course.Continues env u) p =
     let h = p.one_goes in (
       h.0,
-      ap (λ z. out_of (then_way (out_of (then_way z (λ c v. Way.Leaves 1 c v)))
-          (λ c v. then_way (p.to c v) (λ d x. Way.Through d x)))) h.1
-          ∙ out-out-leaves a.continues (frame h.0 rest) u (λ c v. then_way (p.to c v) (λ d x. Way.Through d x)),
+      ap (λ z. out_of (then_way (out_of (then_way z (λ c v. PieceExit.Leaves 1 c v)))
+          (λ c v. then_way (p.to c v) (λ d x. PieceExit.Through d x)))) h.1
+          ∙ out-out-leaves a.continues (frame h.0 rest) u (λ c v. then_way (p.to c v) (λ d x. PieceExit.Through d x)),
       h.2,
     )
 goes-or-else rest a ds next slots (Flow.Ends t) p =
-    ends-in t t.end (λ z. out_of (then_way (out_of (then_way z (λ c v. Way.Leaves 1 c v)))
-    (λ c v. then_way (p.to c v) (λ d x. Way.Through d x)))) p.way refl p.one_goes
+    ends-in t t.end (λ z. out_of (then_way (out_of (then_way z (λ c v. PieceExit.Leaves 1 c v)))
+    (λ c v. then_way (p.to c v) (λ d x. PieceExit.Through d x)))) p.way refl p.one_goes
 
 module _ (taking : Taking) where
   module _ (t : Tables) (l : ℕ) where
     -- a condition, and what it guards
-    pub means-test : (test : Expr) (x : Part) (d : Deed) → ((s : Scope) → (x.walk s).declares ≡ [])
+    pub means-test : (test : Expr) (x : StatementPart) (d : Deed) → ((s : Scope) → (x.walk s).declares ≡ [])
         → StatementMeans taking x.walk x.lay d
         → StatementMeans taking (L.behind_test t l test x).walk (L.behind_test t l test x).lay
         (after_test taking t l test d)
@@ -252,7 +253,7 @@ module _ (taking : Taking) where
         })));
   }
     where
-      x : Part
+      x : StatementPart
       x = L.then_part t l first test (parts body)
 
       hx : StatementMeans taking x.walk x.lay (then_step taking t l first test body)

@@ -10,25 +10,26 @@ use Rattle.golf_check_types.specs.Scopes.{begun}
 use Rattle.golf_check_types.specs.Statements as W
 use Rattle.golf_check_types.specs.Statements.{Walk, behind}
 use Rattle.golf_code_layout.specs.Piece.{size}
-use Rattle.golf_code_of.specs.declared.making.Around.{Around}
-use Rattle.golf_code_of.specs.Statements.{Part, Lay, then_lay}
+use Rattle.golf_code_of.specs.declared.surroundings.Around.{Around}
+use Rattle.golf_code_of.specs.Statements.{StatementPart, Lay, then_lay}
 use Rattle.golf_code_of.specs.Statements as L
 use Rattle.golf_meaning_flat.specs.Worlds as V
 use Rattle.golf_meaning_flat.specs.Worlds.{Misfit, Halt, End, Told, World, Operation, halted}
-use Rattle.golf_meaning_flat.specs.Doing.{Frame, on_kind}
-use Rattle.golf_meaning_flat.specs.Structured.{Way, then_way, unless_true, run}
+use Rattle.golf_meaning_flat.specs.InstructionEffects.{Frame, on_kind}
+use Rattle.golf_meaning_flat.specs.Structured.{PieceExit, then_way, unless_true, run}
 use Rattle.golf_meaning_flat.proofs.Halting.{said-as}
 use Rattle.golf_meaning_source.specs.Names.{Env}
 use Rattle.golf_meaning_source.specs.Operations.{Taking}
-use Rattle.golf_meaning_source.specs.Does.{frame, Sim, Stored, Rising, Apart, Kept, Changed, Known}
+use Rattle.golf_meaning_source.specs.Does.{frame, Sim, Stored, SlotsRise, Apart, Kept, Changed, Known}
 use Rattle.golf_meaning_statements.specs.Flows.{Course, Flow, unfit_flow, wrong_kind_flow, on, after, then_flow, cut}
 use Rattle.golf_meaning_statements.specs.Flows.{guarded, by_test}
 use Rattle.golf_meaning_statements.specs.Steps.{Deed, Step, nothing, in_order, in_block, parts}
-use Rattle.golf_meaning_statements.specs.Follows.{Stands, EndsAlike, Goes, StatementMeans}
+use Rattle.golf_meaning_statements.specs.Follows.{IsEnvStored, EndsAlike, Goes, StatementMeans}
 
 -- ends go through what lets them through
 
-pub ends-in : (t : Told) (e : End) (C : Way → Way) (o : Way) → C (Way.Ends t) ≡ Way.Ends t → EndsAlike t e o
+pub ends-in : (t : Told) (e : End) (C : PieceExit → PieceExit) (o : PieceExit) → C (PieceExit.Ends t) ≡ PieceExit.Ends t
+    → EndsAlike t e o
     → EndsAlike t e (C o)
 ends-in t (End.Halts s) C o strict h = said-as s _ _ h (λ e. ap C e ∙ strict)
 ends-in t End.Short C o strict h = ap C h ∙ strict
@@ -62,13 +63,13 @@ stored-length [] (x ∷ env) now h = absurd h
 stored-length (d ∷ ds) [] now h = absurd h
 stored-length (d ∷ ds) (x ∷ env) now h = ap suc (stored-length ds env now h.2)
 
-pub rising-append : (ds es : List Local) (low mid high : ℕ) → Rising low mid ds → Rising mid high es
-    → Rising low high (ds ++ es)
+pub rising-append : (ds es : List Local) (low mid high : ℕ) → SlotsRise low mid ds → SlotsRise mid high es
+    → SlotsRise low high (ds ++ es)
 rising-append [] [] low mid high h k = omega (arith, h, k)
 rising-append [] (e ∷ es) low mid high h k = let l = k.0 in (omega (arith, h, l), k.1)
 rising-append (d ∷ ds) es low mid high h k = (h.0, rising-append ds es (d.slot + 1) mid high h.1 k)
 
-pub apart-rising : (es : List Local) (low high i : ℕ) → i < low → Rising low high es → Apart i es
+pub apart-rising : (es : List Local) (low high i : ℕ) → i < low → SlotsRise low high es → Apart i es
 apart-rising [] low high i lt r = tt
 apart-rising (e ∷ es) low high i lt r = let l =
     r.0 in (λ q. omega (arith, q, lt, l), apart-rising es (e.slot + 1) high i (omega (arith, lt, l)) r.1)
@@ -77,12 +78,12 @@ pub apart-append : (ds es : List Local) (i : ℕ) → Apart i ds → Apart i es 
 apart-append [] es i h k = k
 apart-append (d ∷ ds) es i h k = (h.0, apart-append ds es i h.1 k)
 
-pub apart-below : (ds : List Local) (low high j : ℕ) → Rising low high ds → high ≤ j → Apart j ds
+pub apart-below : (ds : List Local) (low high j : ℕ) → SlotsRise low high ds → high ≤ j → Apart j ds
 apart-below [] low high j r le = tt
 apart-below (d ∷ ds) low high j r le = let k =
     reaches ds (d.slot + 1) high r.1 in (λ q. omega (arith, q, le, k), apart-below ds (d.slot + 1) high j r.1 le)
   where
-    reaches : (es : List Local) (a b : ℕ) → Rising a b es → a ≤ b
+    reaches : (es : List Local) (a b : ℕ) → SlotsRise a b es → a ≤ b
     reaches [] a b h = h
     reaches (e ∷ es) a b h = let k = reaches es (e.slot + 1) b h.1 in let l = h.0 in omega (arith, k, l)
 
@@ -94,7 +95,7 @@ pub record Came (ds : List Local) (next : ℕ) (slots now : List Value) : Type 0
 -- a first part declared these locals, in slots of their own
 pub record Declared (ds es : List Local) (next next1 : ℕ) (slots now : List Value) : Type 0 where
   pub onward : next ≤ next1
-  pub rising : Rising next next1 es
+  pub rising : SlotsRise next next1 es
   pub came : Came ds next slots now
 
 -- a first change and a second one, from more names and slots on
@@ -109,26 +110,28 @@ pub kept-trans : (ds : List Local) (next : ℕ) (slots now1 now : List Value) �
 kept-trans ds next slots now1 now h k i lt a = k i lt a ∙ h i lt a
 
 -- after an expression, under a relation of flows to ways by which ends go with ends that are alike
-pub goes-after : {A : Type 0} (R : Flow → Way → Type 0)
-    → ((t : Told) (o : Way) → EndsAlike t t.end o → R (Flow.Ends t) o)
-    → (p : V.Part A) (f : A → World → Flow) (K : A → World → Way → Type 0) (C : Way → Way) (o : Way)
-    → ((h : Halt) (os : List Operation) → C (Way.Ends (halted h os)) ≡ Way.Ends (halted h os)) → Sim p K o
-    → ((x : A) (u : World) (i : Way) → K x u i → R (f x u) (C i)) → R (after p f) (C o)
+pub goes-after : {A : Type 0} (R : Flow → PieceExit → Type 0)
+    → ((t : Told) (o : PieceExit) → EndsAlike t t.end o → R (Flow.Ends t) o)
+    → (p : V.Part A) (f : A → World → Flow) (K : A → World → PieceExit → Type 0) (C : PieceExit → PieceExit)
+    (o : PieceExit)
+    → ((h : Halt) (os : List Operation) → C (PieceExit.Ends (halted h os)) ≡ PieceExit.Ends (halted h os)) → Sim p K o
+    → ((x : A) (u : World) (i : PieceExit) → K x u i → R (f x u) (C i)) → R (after p f) (C o)
 goes-after R ends (V.Part.Gives x u) f K C o strict h k = k x u o h
 goes-after R ends (V.Part.Stops s os) f K C o strict h k =
     ends (halted s os) (C o) (said-as s _ _ h (λ e. ap C e ∙ strict s os))
 
 -- What a test leads to, under a relation of flows to ways: a flow and a way if it is true, another flow and a target if
 -- it is false.
-pub record Branches (R : Flow → Way → Type 0) (c : Frame) (u : World) (k : ℕ) (f g : Flow)
-    (to : Frame → World → Way) : Type 0 where
+pub record Branches (R : Flow → PieceExit → Type 0) (c : Frame) (u : World) (k : ℕ) (f g : Flow)
+    (to : Frame → World → PieceExit) : Type 0 where
   pub if_true : R f (to c u)
-  pub if_false : R g (Way.Leaves k c u)
-  pub if_wrong : R (wrong_kind_flow u) (Way.Ends (halted (Halt.Unfit Misfit.OfKind) u.operations))
-  pub if_neither : (o : Way) → R (unfit_flow u) o
+  pub if_false : R g (PieceExit.Leaves k c u)
+  pub if_wrong : R (wrong_kind_flow u) (PieceExit.Ends (halted (Halt.Unfit Misfit.OfKind) u.operations))
+  pub if_neither : (o : PieceExit) → R (unfit_flow u) o
 
 -- a test of a truth value
-pub goes-test : {R : Flow → Way → Type 0} {c : Frame} {u : World} {k : ℕ} {f g : Flow} {to : Frame → World → Way}
+pub goes-test : {R : Flow → PieceExit → Type 0} {c : Frame} {u : World} {k : ℕ} {f g : Flow}
+    {to : Frame → World → PieceExit}
     (m : Option Bool) → Branches R c u k f g to
     → R (by_test m u f g) (then_way (unless_true (on_kind (λ b. V.Part.Gives (b, c) u) u m) k) to)
 goes-test None h = h.if_wrong
@@ -136,14 +139,15 @@ goes-test (Some true) h = h.if_true
 goes-test (Some false) h = h.if_false
 
 -- what is guarded goes as it does if it is let through, under a relation that asks nothing of what is unfit
-pub goes-guarded : (R : Flow → Way → Type 0) → ((u : World) (o : Way) → R (unfit_flow u) o)
-    → (b : Bool) (u : World) (f : Flow) (o : Way) → (b ≡ true → R f o) → R (guarded b u f) o
+pub goes-guarded : (R : Flow → PieceExit → Type 0) → ((u : World) (o : PieceExit) → R (unfit_flow u) o)
+    → (b : Bool) (u : World) (f : Flow) (o : PieceExit) → (b ≡ true → R f o) → R (guarded b u f) o
 goes-guarded R unfit true u f o h = h refl
 goes-guarded R unfit false u f o h = unfit u o
 
 module _ (rest : List Value) (a : Around) where
   -- after a first part, which declares these
-  pub goes-base : {ds es : List Local} {next next1 : ℕ} {slots now1 : List Value} (al : List Local) (f : Flow) (o : Way)
+  pub goes-base : {ds es : List Local} {next next1 : ℕ} {slots now1 : List Value} (al : List Local) (f : Flow)
+      (o : PieceExit)
       → Declared ds es next next1 slots now1 → Goes (ds ++ es) next1 now1 rest al a f o
       → Goes ds next slots rest al a f o
   goes-base {ds} {es} al (Flow.Goes Course.On env u) o first h =
@@ -157,8 +161,8 @@ module _ (rest : List Value) (a : Around) where
   goes-base {ds} {es} al (Flow.Ends t) o first h = h
 
   pub goes-then : (ds mid after : List Local) (next : ℕ) (slots : List Value) (f : Flow) (g : Env → World → Flow)
-      (o : Way) (to : Frame → World → Way) → Goes ds next slots rest mid a f o
-      → ((env : Env) (u : World) (now : List Value) → Stands ds next slots mid env now
+      (o : PieceExit) (to : Frame → World → PieceExit) → Goes ds next slots rest mid a f o
+      → ((env : Env) (u : World) (now : List Value) → IsEnvStored ds next slots mid env now
       → Goes ds next slots rest after a (g env u) (to (frame now rest) u))
       → Goes ds next slots rest after a (then_flow f g) (then_way o to)
   goes-then ds mid after next slots (Flow.Goes Course.On env u) g o to h k =
@@ -170,19 +174,20 @@ module _ (rest : List Value) (a : Around) where
   goes-then ds mid after next slots (Flow.Ends t) g o to h k = ends-in t t.end (λ z. then_way z to) o refl h
 
   -- a part that changes names
-  pub goes-on : (ds al : List Local) (next : ℕ) (slots : List Value) (p : V.Part Env) (o : Way)
-      → Sim p (λ env u i. (now : List Value) × (i ≡ Way.Through (frame now rest) u) × Stands ds next slots al env now) o
+  pub goes-on : (ds al : List Local) (next : ℕ) (slots : List Value) (p : V.Part Env) (o : PieceExit)
+      → Sim p (λ env u i. (now : List Value) × (i ≡ PieceExit.Through (frame now rest) u)
+      × IsEnvStored ds next slots al env now) o
       → Goes ds next slots rest al a (on p) o
   goes-on ds al next slots (V.Part.Gives env u) o h = h
   goes-on ds al next slots (V.Part.Stops s os) o h = h
 
-  pub goes-changed : (ds : List Local) (next : ℕ) (slots : List Value) (p : V.Part Env) (o : Way)
+  pub goes-changed : (ds : List Local) (next : ℕ) (slots : List Value) (p : V.Part Env) (o : PieceExit)
       → Sim p (Changed ds slots rest) o → Goes ds next slots rest (ds ++ []) a (on p) o
   goes-changed ds next slots p o h = goes-on ds (ds ++ []) next slots p o (by p h)
     where
       by : (q : V.Part Env) → Sim q (Changed ds slots rest) o
-          → Sim q (λ env u i. (now : List Value) × (i ≡ Way.Through (frame now rest) u)
-          × Stands ds next slots (ds ++ []) env now) o
+          → Sim q (λ env u i. (now : List Value) × (i ≡ PieceExit.Through (frame now rest) u)
+          × IsEnvStored ds next slots (ds ++ []) env now) o
       by (V.Part.Gives env u) k = (
         k.0,
         k.1,
@@ -193,40 +198,42 @@ module _ (rest : List Value) (a : Around) where
   -- blocks: what is declared inside is forgotten
 
   -- all ways have the names of before
-  abbrev pub Exactly : List Local → ℕ → List Value → Flow → Way → Type 0
-  Exactly ds next slots (Flow.Goes Course.On env u) o = (now : List Value) × (o ≡ Way.Through (frame now rest) u)
-      × Stands ds next slots ds env now
+  abbrev pub Exactly : List Local → ℕ → List Value → Flow → PieceExit → Type 0
+  Exactly ds next slots (Flow.Goes Course.On env u) o = (now : List Value) × (o ≡ PieceExit.Through (frame now rest) u)
+      × IsEnvStored ds next slots ds env now
   Exactly ds next slots (Flow.Goes Course.Skips env u) o = ⊥
   Exactly ds next slots (Flow.Goes Course.Breaks env u) o = (now : List Value)
-      × (o ≡ Way.Leaves a.breaks (frame now rest) u) × Stands ds next slots ds env now
+      × (o ≡ PieceExit.Leaves a.breaks (frame now rest) u) × IsEnvStored ds next slots ds env now
   Exactly ds next slots (Flow.Goes Course.Continues env u) o = (now : List Value)
-      × (o ≡ Way.Leaves a.continues (frame now rest) u) × Stands ds next slots ds env now
+      × (o ≡ PieceExit.Leaves a.continues (frame now rest) u) × IsEnvStored ds next slots ds env now
   Exactly ds next slots (Flow.Ends t) o = EndsAlike t t.end o
 
   -- the names of before have their values first, before those of others
-  abbrev pub GoesPrefix : List Local → ℕ → List Value → Flow → Way → Type 0
-  GoesPrefix ds next slots (Flow.Goes Course.On env u) o = (now : List Value) × (o ≡ Way.Through (frame now rest) u)
-      × Stands ds next slots ds (take (length ds) env) now
+  abbrev pub GoesPrefix : List Local → ℕ → List Value → Flow → PieceExit → Type 0
+  GoesPrefix ds next slots (Flow.Goes Course.On env u) o = (now : List Value)
+      × (o ≡ PieceExit.Through (frame now rest) u)
+      × IsEnvStored ds next slots ds (take (length ds) env) now
   GoesPrefix ds next slots (Flow.Goes Course.Skips env u) o = Unit {0}
   GoesPrefix ds next slots (Flow.Goes Course.Breaks env u) o = (now : List Value)
-      × (o ≡ Way.Leaves a.breaks (frame now rest) u) × Stands ds next slots ds (take (length ds) env) now
+      × (o ≡ PieceExit.Leaves a.breaks (frame now rest) u) × IsEnvStored ds next slots ds (take (length ds) env) now
   GoesPrefix ds next slots (Flow.Goes Course.Continues env u) o = (now : List Value)
-      × (o ≡ Way.Leaves a.continues (frame now rest) u) × Stands ds next slots ds (take (length ds) env) now
+      × (o ≡ PieceExit.Leaves a.continues (frame now rest) u) × IsEnvStored ds next slots ds (take (length ds) env) now
   GoesPrefix ds next slots (Flow.Ends t) o = EndsAlike t t.end o
 
-  pub goes-prefix : (ds es : List Local) (next : ℕ) (slots : List Value) (f : Flow) (o : Way)
+  pub goes-prefix : (ds es : List Local) (next : ℕ) (slots : List Value) (f : Flow) (o : PieceExit)
       → Goes ds next slots rest (ds ++ es) a f o → GoesPrefix ds next slots f o
   goes-prefix ds es next slots (Flow.Goes Course.On env u) o h =
       (h.0, h.1, (stored-prefix ds es env h.0 h.2.0, h.2.1, h.2.2))
   goes-prefix ds es next slots (Flow.Goes Course.Skips env u) o h = tt
   goes-prefix ds es next slots _ o h = h
 
-  pub cut-exactly : (ds : List Local) (next : ℕ) (slots : List Value) (f : Flow) (o : Way)
+  pub cut-exactly : (ds : List Local) (next : ℕ) (slots : List Value) (f : Flow) (o : PieceExit)
       → GoesPrefix ds next slots f o → Exactly ds next slots (cut (length ds) f) o
   cut-exactly ds next slots (Flow.Goes Course.Skips env u) o h = tt
   cut-exactly ds next slots _ o h = h
 
-  pub exactly-goes : (ds : List Local) (next : ℕ) (slots : List Value) (f : Flow) (o : Way) → Exactly ds next slots f o
+  pub exactly-goes : (ds : List Local) (next : ℕ) (slots : List Value) (f : Flow) (o : PieceExit)
+      → Exactly ds next slots f o
       → Goes ds next slots rest (ds ++ []) a f o
   exactly-goes ds next slots f o h = subst (λ xs. Goes ds next slots rest xs a f o) (sym (append-nil ds)) (by f h)
     where
@@ -243,11 +250,11 @@ pub record LeadsAlike (a b : Around) : Type 0 where
   pub continues : b.continues ≡ a.continues
 
 pub around-same : {a b : Around} (ds : List Local) (next : ℕ) (slots rest : List Value) (al : List Local) (f : Flow)
-    (o : Way) → LeadsAlike a b → Goes ds next slots rest al b f o → Goes ds next slots rest al a f o
+    (o : PieceExit) → LeadsAlike a b → Goes ds next slots rest al b f o → Goes ds next slots rest al a f o
 around-same ds next slots rest al (Flow.Goes Course.Breaks env u) o alike h =
-    (h.0, h.1 ∙ ap (λ k. Way.Leaves k (frame h.0 rest) u) alike.breaks, h.2)
+    (h.0, h.1 ∙ ap (λ k. PieceExit.Leaves k (frame h.0 rest) u) alike.breaks, h.2)
 around-same ds next slots rest al (Flow.Goes Course.Continues env u) o alike h =
-    (h.0, h.1 ∙ ap (λ k. Way.Leaves k (frame h.0 rest) u) alike.continues, h.2)
+    (h.0, h.1 ∙ ap (λ k. PieceExit.Leaves k (frame h.0 rest) u) alike.continues, h.2)
 around-same ds next slots rest al _ o alike h = h
 
 -- past a piece that was laid
@@ -260,7 +267,8 @@ pub record MayBegin (s : Scope) (walked : W.Walked) (env : Env) (slots : List Va
   pub room : (behind s walked).next ≤ length slots
 
 -- in a block, all ways have the names of before
-pub exactly-prefix : {env : Env} {slots : List Value} (rest : List Value) (a : Around) (s : Scope) (f : Flow) (o : Way)
+pub exactly-prefix : {env : Env} {slots : List Value} (rest : List Value) (a : Around) (s : Scope) (f : Flow)
+    (o : PieceExit)
     → Known s.locals s.next env slots → GoesPrefix rest a s.locals s.next slots f o
     → Exactly rest a s.locals s.next slots (cut (length env) f) o
 exactly-prefix {env} {slots} rest a s f o ok h =
@@ -296,13 +304,13 @@ module _ (taking : Taking) where
     pub start : Frame
     pub world : World
     pub flow : Flow
-    pub rises : Rising s.next (behind s (v s)).next (v s).declares
+    pub rises : SlotsRise s.next (behind s (v s)).next (v s).declares
     pub goes : Goes s.locals s.next slots rest (behind s (v s)).locals around flow
         (run taking.gives turns (x around s).piece at targets start world)
 
   -- after it comes a statement
   pub goes-and : {w : Walk} {y : Lay} {e : Deed} (v : Walk) (x : Lay) (s : Scope) (slots : List Value)
-      (first : Went v x s slots) → StatementMeans taking w y e → Rising 0 s.next s.locals
+      (first : Went v x s slots) → StatementMeans taking w y e → SlotsRise 0 s.next s.locals
       → (behind s (W.then v w s)).next ≤ length slots
       → Goes s.locals s.next slots first.rest (behind s (W.then v w s)).locals first.around
       (then_flow first.flow (e (L.past first.around (x first.around s)) (behind s (v s)) first.turns))
@@ -342,7 +350,7 @@ module _ (taking : Taking) where
     rises = λ s.
         let s1 = behind s (v s) in
         let l = length-append (v s).slots (w s1).slots in
-        subst (λ k. Rising s.next k ((v s).declares ++ (w s1).declares)) (omega (arith, l))
+        subst (λ k. SlotsRise s.next k ((v s).declares ++ (w s1).declares)) (omega (arith, l))
         (rising-append (v s).declares (w s1).declares s.next s1.next (behind s1 (w s1)).next (hx.rises s)
         (hy.rises s1));
     goes = λ a s n env slots ok room at ts rest u.

@@ -9,3 +9,16 @@ pub mod Stmts
 pub mod Ranks
 pub mod Numbers
 pub mod Choices
+pub mod Entering
+pub mod Agreeing
+pub mod WholeFiles
+pub mod Equations
+pub mod OnLiterals
+pub mod SamplesOfExpressions
+pub mod Samples
+pub mod Bodies
+pub mod BodiesOfLoops
+pub mod BodiesOfCalls
+pub mod BodiesOfExpressions
+pub mod WholeFunctions
+pub mod Examples

@@ -12,27 +12,27 @@ use Rattle.golf_check_types.specs.declared.scopes.Scope.{Scope}
 use Rattle.golf_check_types.specs.Statements as W
 use Rattle.golf_check_types.specs.Statements.{behind}
 use Rattle.golf_code_layout.specs.Piece.{Piece, all, size}
-use Rattle.golf_code_of.specs.declared.making.Around.{Around}
+use Rattle.golf_code_of.specs.declared.surroundings.Around.{Around}
 use Rattle.golf_code_of.specs.declared.tables.Tables.{Tables}
-use Rattle.golf_code_of.specs.Coding.{piece_at}
-use Rattle.golf_code_of.specs.Statements.{Part, past}
+use Rattle.golf_code_of.specs.ExpressionCode.{piece_at}
+use Rattle.golf_code_of.specs.Statements.{StatementPart, past}
 use Rattle.golf_code_of.specs.Statements as L
 use Rattle.golf_code_of.specs.Loops as O
 use Rattle.golf_meaning_flat.specs.Worlds as V
 use Rattle.golf_meaning_flat.specs.Worlds.{World, pushed}
 use Rattle.golf_meaning_flat.proofs.Halting.{said-as}
-use Rattle.golf_meaning_flat.specs.Doing.{Frame, on_kind}
+use Rattle.golf_meaning_flat.specs.InstructionEffects.{Frame, on_kind}
 use Rattle.golf_meaning_flat.specs.Flat.{tests}
-use Rattle.golf_meaning_flat.specs.Structured.{Way, then_way, unless_true, out_of, once_more, rounds, run}
+use Rattle.golf_meaning_flat.specs.Structured.{PieceExit, then_way, unless_true, out_of, once_more, rounds, run}
 use Rattle.golf_meaning_source.specs.Names.{Env}
 use Rattle.golf_meaning_source.specs.Operations.{Taking}
-use Rattle.golf_meaning_source.specs.Does.{frame, Sim, OnTop, Stored, Rising, Changed, Known}
+use Rattle.golf_meaning_source.specs.Does.{frame, Sim, OnTop, Stored, SlotsRise, Changed, Known}
 use Rattle.golf_meaning_source.proofs.Turning.{then-end}
 use Rattle.golf_meaning_statements.specs.Flows.{Course, Flow, on, by_test, tested, turned, turns, then_post}
 use Rattle.golf_meaning_statements.specs.Steps.{value_at, Deed, Step, optional, simple_deals, block, after_test}
 use Rattle.golf_meaning_statements.specs.Steps.{in_loop, forever, while, is_plain, after_optional, with_post, stepping}
 use Rattle.golf_meaning_statements.specs.Steps.{parts}
-use Rattle.golf_meaning_statements.specs.Follows.{Stands, EndsAlike, Goes, StatementMeans}
+use Rattle.golf_meaning_statements.specs.Follows.{IsEnvStored, EndsAlike, Goes, StatementMeans}
 use Rattle.golf_meaning_statements.proofs.Flowing.{ends-in, Came, kept-trans, goes-guarded, Exactly, MayBegin}
 use Rattle.golf_meaning_statements.proofs.Flowing.{exactly-block, goes-after, means-order, EachMeans, rising-append}
 use Rattle.golf_meaning_statements.proofs.Simples.{value-turns, plain-quiet, plain-tail}
@@ -40,7 +40,7 @@ use Rattle.golf_meaning_statements.proofs.Conditions.{means-optional}
 
 -- from a frame that has changed on
 pub goes-trans : {ds : List Local} {next : ℕ} {slots now : List Value} (rest : List Value) (a : Around)
-    (al : List Local) (f : Flow) (o : Way) → Came ds next slots now → Goes ds next now rest al a f o
+    (al : List Local) (f : Flow) (o : PieceExit) → Came ds next slots now → Goes ds next now rest al a f o
     → Goes ds next slots rest al a f o
 goes-trans {ds} {next} {slots} {now} rest a al (Flow.Goes Course.On env u) o came h =
     (h.0, h.1, (h.2.0, h.2.1 ∙ came.long, kept-trans ds next slots now h.0 came.kept h.2.2))
@@ -53,19 +53,22 @@ goes-trans {ds} {next} {slots} {now} rest a al (Flow.Goes Course.Continues env u
 goes-trans {ds} {next} {slots} {now} rest a al (Flow.Ends t) o came h = h
 
 -- a turn of a loop, seen from the inside: target 0 is the beginning and target 1 the end
-abbrev pub Turning : List Value → List Local → ℕ → List Value → Flow → Way → Type 0
-Turning rest ds next slots (Flow.Goes Course.On env u) o = (now : List Value) × (o ≡ Way.Leaves 0 (frame now rest) u)
-    × Stands ds next slots ds env now
+abbrev pub Turning : List Value → List Local → ℕ → List Value → Flow → PieceExit → Type 0
+Turning rest ds next slots (Flow.Goes Course.On env u) o = (now : List Value)
+    × (o ≡ PieceExit.Leaves 0 (frame now rest) u)
+    × IsEnvStored ds next slots ds env now
 Turning rest ds next slots (Flow.Goes Course.Continues env u) o = (now : List Value)
-    × (o ≡ Way.Leaves 0 (frame now rest) u) × Stands ds next slots ds env now
+    × (o ≡ PieceExit.Leaves 0 (frame now rest) u) × IsEnvStored ds next slots ds env now
 Turning rest ds next slots (Flow.Goes Course.Breaks env u) o = (now : List Value)
-    × (o ≡ Way.Leaves 1 (frame now rest) u) × Stands ds next slots ds env now
-Turning rest ds next slots (Flow.Goes Course.Skips env u) o = (now : List Value) × (o ≡ Way.Leaves 1 (frame now rest) u)
-    × Stands ds next slots ds env now
+    × (o ≡ PieceExit.Leaves 1 (frame now rest) u) × IsEnvStored ds next slots ds env now
+Turning rest ds next slots (Flow.Goes Course.Skips env u) o = (now : List Value)
+    × (o ≡ PieceExit.Leaves 1 (frame now rest) u)
+    × IsEnvStored ds next slots ds env now
 Turning rest ds next slots (Flow.Ends t) o = EndsAlike t t.end o
 
 module _ (rest : List Value) (a : Around) (ds : List Local) (next : ℕ) where
-  turned-goes : (slots : List Value) (f : Flow) (o : Way) (g : Env → World → Flow) (to : Frame → World → Way)
+  turned-goes : (slots : List Value) (f : Flow) (o : PieceExit) (g : Env → World → Flow)
+      (to : Frame → World → PieceExit)
       → Turning rest ds next slots f o
       → ((env : Env) (now : List Value) (u : World) → Stored ds env now → length now ≡ length slots
       → Goes ds next now rest ds a (g env u) (out_of (to (frame now rest) u)))
@@ -83,7 +86,7 @@ module _ (rest : List Value) (a : Around) (ds : List Local) (next : ℕ) where
   turned-goes slots (Flow.Ends t) o g to h k = ends-in t t.end (λ z. out_of (once_more z to)) o refl h
 
   -- as many turns as the blocks that are begun anew
-  turns-go : (long : ℕ) (step : Env → World → Flow) (turn : Frame → World → Way)
+  turns-go : (long : ℕ) (step : Env → World → Flow) (turn : Frame → World → PieceExit)
       → ((env : Env) (now : List Value) (u : World) → Stored ds env now → length now ≡ long
       → Turning rest ds next now (step env u) (turn (frame now rest) u))
       → (m : ℕ) (env : Env) (slots : List Value) (u : World) → Stored ds env slots → length slots ≡ long
@@ -94,18 +97,20 @@ module _ (rest : List Value) (a : Around) (ds : List Local) (next : ℕ) where
       (λ env1 now u1 ok1 e1. turns-go long step turn h m env1 now u1 ok1 (e1 ∙ e))
 
   -- a body, and then a jump to the beginning
-  body-turning : (slots : List Value) (f : Flow) (o : Way)
+  body-turning : (slots : List Value) (f : Flow) (o : PieceExit)
       → Exactly rest (record { breaks = 1; continues = 0; functions = a.functions }) ds next slots f o
-      → Turning rest ds next slots f (then_way o (λ c v. Way.Leaves 0 c v))
-  body-turning slots (Flow.Goes Course.On env u) o h = (h.0, ap (λ z. then_way z (λ c v. Way.Leaves 0 c v)) h.1, h.2)
+      → Turning rest ds next slots f (then_way o (λ c v. PieceExit.Leaves 0 c v))
+  body-turning slots (Flow.Goes Course.On env u) o h =
+      (h.0, ap (λ z. then_way z (λ c v. PieceExit.Leaves 0 c v)) h.1, h.2)
   body-turning slots (Flow.Goes Course.Continues env u) o h =
-      (h.0, ap (λ z. then_way z (λ c v. Way.Leaves 0 c v)) h.1, h.2)
+      (h.0, ap (λ z. then_way z (λ c v. PieceExit.Leaves 0 c v)) h.1, h.2)
   body-turning slots (Flow.Goes Course.Breaks env u) o h =
-      (h.0, ap (λ z. then_way z (λ c v. Way.Leaves 0 c v)) h.1, h.2)
+      (h.0, ap (λ z. then_way z (λ c v. PieceExit.Leaves 0 c v)) h.1, h.2)
   body-turning slots (Flow.Goes Course.Skips env u) o h = absurd h
-  body-turning slots (Flow.Ends t) o h = ends-in t t.end (λ z. then_way z (λ c v. Way.Leaves 0 c v)) o refl h
+  body-turning slots (Flow.Ends t) o h = ends-in t t.end (λ z. then_way z (λ c v. PieceExit.Leaves 0 c v)) o refl h
 
-  turning-test : (slots : List Value) (m : Option Bool) (u : World) (f : Flow) (env : Env) (to : Frame → World → Way)
+  turning-test : (slots : List Value) (m : Option Bool) (u : World) (f : Flow) (env : Env)
+      (to : Frame → World → PieceExit)
       → Stored ds env slots → Turning rest ds next slots f (to (frame slots rest) u)
       → Turning rest ds next slots (by_test m u f (Flow.Goes Course.Skips env u))
       (then_way (unless_true (on_kind (λ b. V.Part.Gives (b, frame slots rest) u) u m) 1) to)
@@ -113,7 +118,7 @@ module _ (rest : List Value) (a : Around) (ds : List Local) (next : ℕ) where
   turning-test slots (Some true) u f env to ok h = h
   turning-test slots (Some false) u f env to ok h = (slots, refl, (ok, refl, λ i lt q. refl))
 
-  turning-tested : (slots vs : List Value) (u : World) (f : Flow) (env : Env) (to : Frame → World → Way)
+  turning-tested : (slots vs : List Value) (u : World) (f : Flow) (env : Env) (to : Frame → World → PieceExit)
       → Stored ds env slots → Turning rest ds next slots f (to (frame slots rest) u)
       → Turning rest ds next slots (tested vs u f (Flow.Goes Course.Skips env u))
       (then_way (unless_true (tests (frame slots (pushed vs rest)) u) 1) to)
@@ -122,13 +127,15 @@ module _ (rest : List Value) (a : Around) (ds : List Local) (next : ℕ) where
   turning-tested slots (x ∷ (y ∷ vs)) u f env to ok h = tt
 
   -- a part that changes names, and then a jump to the beginning
-  turning-on : (slots : List Value) (p : V.Part Env) (o : Way) → Sim p (Changed ds slots rest) o
-      → Turning rest ds next slots (on p) (then_way o (λ c v. Way.Leaves 0 c v))
+  turning-on : (slots : List Value) (p : V.Part Env) (o : PieceExit) → Sim p (Changed ds slots rest) o
+      → Turning rest ds next slots (on p) (then_way o (λ c v. PieceExit.Leaves 0 c v))
   turning-on slots (V.Part.Gives env u) o h =
-      (h.0, ap (λ z. then_way z (λ c v. Way.Leaves 0 c v)) h.1, (h.2, h.3, λ i lt q. h.4 i q))
-  turning-on slots (V.Part.Stops s os) o h = said-as s _ _ h (λ e. ap (λ z. then_way z (λ c v. Way.Leaves 0 c v)) e)
+      (h.0, ap (λ z. then_way z (λ c v. PieceExit.Leaves 0 c v)) h.1, (h.2, h.3, λ i lt q. h.4 i q))
+  turning-on slots (V.Part.Stops s os) o h =
+      said-as s _ _ h (λ e. ap (λ z. then_way z (λ c v. PieceExit.Leaves 0 c v)) e)
 
-  turning-trans : {slots now : List Value} (f : Flow) (o : Way) → Came ds next slots now → Turning rest ds next now f o
+  turning-trans : {slots now : List Value} (f : Flow) (o : PieceExit) → Came ds next slots now
+      → Turning rest ds next now f o
       → Turning rest ds next slots f o
   turning-trans {slots} {now} (Flow.Goes Course.On env u) o came h =
       (h.0, h.1, (h.2.0, h.2.1 ∙ came.long, kept-trans ds next slots now h.0 came.kept h.2.2))
@@ -141,7 +148,8 @@ module _ (rest : List Value) (a : Around) (ds : List Local) (next : ℕ) where
   turning-trans {slots} {now} (Flow.Ends t) o came h = h
 
   -- a body in a block of its own, and the post statement
-  post-turning : (k : ℕ) (slots : List Value) (f : Flow) (o : Way) (g : Env → World → Flow) (to : Frame → World → Way)
+  post-turning : (k : ℕ) (slots : List Value) (f : Flow) (o : PieceExit) (g : Env → World → Flow)
+      (to : Frame → World → PieceExit)
       → Exactly rest (record { breaks = 2; continues = 0; functions = k }) ds next slots f o
       → ((env : Env) (now : List Value) (u : World) → Stored ds env now → length now ≡ length slots
       → Turning rest ds next now (g env u) (to (frame now rest) u))
@@ -162,7 +170,7 @@ module _ (taking : Taking) where
   -- loops whose body is a block
 
   module _ (body : List Step) (means-body : EachMeans taking body) where
-    abbrev pub B : Part
+    abbrev pub B : StatementPart
     B = L.block (parts body)
 
     abbrev pub inside : ℕ → ℕ → Around → Around
@@ -249,7 +257,7 @@ module _ (taking : Taking) where
         → (at : ℕ) (ts : List ℕ) (rest : List Value) (u : World)
         → Turning rest s.locals s.next now (optional taking t post a s n env u)
         (then_way (run taking.gives n ((L.optional t post).lay a s).piece at ts (frame now rest) u)
-        (λ c v. Way.Leaves 0 c v))
+        (λ c v. PieceExit.Leaves 0 c v))
     post-goes {env} {now} t None h a s n ok at ts rest u = (now, refl, (ok.stored, refl, λ i lt q. refl))
     post-goes {env} {now} t (Some x) h a s n ok at ts rest u =
         turning-on rest a s.locals s.next now (simple_deals taking t x.line x.kind s env u)
@@ -257,7 +265,7 @@ module _ (taking : Taking) where
         (plain-tail taking t x.line x.kind h s env now ok rest n at ts u)
 
     module _ (t : Tables) (l : ℕ) (test : Option Expr) (post : Option Simple) where
-      abbrev X : Part
+      abbrev X : StatementPart
       X = O.stepping t l test (L.optional t post) (O.in_loop 2 0 B)
 
       abbrev D : Deed
@@ -303,7 +311,7 @@ module _ (taking : Taking) where
             (subst (λ k. s1.next + length (B.walk (looped s1)).slots ≤ k) (sym e1) room) at vs rest u in
             post-turning rest a s.locals s.next (past a P).functions now (block body b (looped s1) n env u)
             (run taking.gives n bp at vs (frame now rest) u) (optional taking t post a s n)
-            (λ c v. then_way (run taking.gives n P.piece (at + size bp) us c v) (λ d x. Way.Leaves 0 d x))
+            (λ c v. then_way (run taking.gives n P.piece (at + size bp) us c v) (λ d x. PieceExit.Leaves 0 d x))
             (subst (λ k. Exactly rest b s.locals k now (block body b (looped s1) n env u)
             (run taking.gives n bp at vs (frame now rest) u)) same-next
             (subst (λ ds. Exactly rest b ds s1.next now (block body b (looped s1) n env u)
@@ -354,19 +362,19 @@ module _ (taking : Taking) where
           length-append ((L.optional t post).walk s).slots
           (B.walk (looped (behind s ((L.optional t post).walk s)))).slots in omega (arith, room, z)
 
-      post-rises : (s : Scope) → Rising s.next
+      post-rises : (s : Scope) → SlotsRise s.next
           (behind s (W.then (L.optional t post).walk (O.in_loop 2 0 B).walk s)).next
           (W.then (L.optional t post).walk (O.in_loop 2 0 B).walk s).declares
       post-rises s =
           let v = (L.optional t post).walk s in
           let w = (O.in_loop 2 0 B).walk (behind s v) in
           let z = length-append v.slots w.slots in
-          subst (λ k. Rising s.next k (v.declares ++ [])) (omega (arith, z))
+          subst (λ k. SlotsRise s.next k (v.declares ++ [])) (omega (arith, z))
           (rising-append v.declares [] s.next (behind s v).next (s.next + length v.slots + length w.slots)
           ((means-optional taking t l post).rises s) (omega arith))
 
       stepping-rises : (o : Option Expr) (s : Scope)
-          → Rising s.next (behind s (W.behind_optional l o
+          → SlotsRise s.next (behind s (W.behind_optional l o
           (W.then (L.optional t post).walk (O.in_loop 2 0 B).walk) s)).next
           (W.behind_optional l o (W.then (L.optional t post).walk (O.in_loop 2 0 B).walk) s).declares
       stepping-rises None s = post-rises s

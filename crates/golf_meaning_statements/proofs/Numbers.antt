@@ -11,7 +11,7 @@ use Rattle.golf_data.specs.declared.code.CaseKind.{CaseKind}
 use Rattle.golf_data.specs.declared.code.SelectCase.{SelectCase}
 use Rattle.golf_code_of.specs.Selects.{ClausePart, case_to, cases_from, default_or, default_from}
 use Rattle.golf_meaning_flat.specs.Flat.{relabelled, default_of, clause_of}
-use Rattle.golf_meaning_statements.specs.Selecting.{no_default, one_default}
+use Rattle.golf_meaning_statements.specs.Selects.{no_default, one_default}
 use Rattle.golf_meaning_statements.proofs.Ranks.{OneDefault}
 
 none-of : (xs : List ClausePart) → no_default xs ≡ true → (i : ℕ) → default_from i xs ≡ None

@@ -18,11 +18,11 @@ use Rattle.golf_check_types.specs.Statements.{behind, range_names, int_type}
 use Rattle.golf_code_layout.specs.Piece.{Piece, op}
 use Rattle.golf_meaning_flat.specs.Worlds as V
 use Rattle.golf_meaning_flat.specs.Worlds.{World}
-use Rattle.golf_meaning_flat.specs.Doing.{on_some}
-use Rattle.golf_meaning_flat.specs.Structured.{Way, from_part, then_way, run}
+use Rattle.golf_meaning_flat.specs.InstructionEffects.{on_some}
+use Rattle.golf_meaning_flat.specs.Structured.{PieceExit, from_part, then_way, run}
 use Rattle.golf_meaning_source.specs.Names.{Env}
 use Rattle.golf_meaning_source.specs.Operations.{Taking}
-use Rattle.golf_meaning_source.specs.Does.{frame, Tail, Stored, Rising, Known}
+use Rattle.golf_meaning_source.specs.Does.{frame, Tail, Stored, SlotsRise, Known}
 use Rattle.golf_meaning_source.proofs.Environments.{set-other, set-same, stored-below}
 use Rattle.golf_meaning_statements.specs.Steps.{declared}
 use Rattle.golf_meaning_statements.proofs.Flowing.{rising-append}
@@ -33,17 +33,17 @@ abbrev pub Below : ℕ → List Value → List Value → Type 0
 Below k slots now = (j : ℕ) → j < k → slice_get now j ≡ slice_get slots j
 
 -- it goes on with these names, and lower slots stay
-abbrev pub NamedNow : List Local → ℕ → List Value → List Value → Env → World → Way → Type 0
-NamedNow al k slots rest env u o = (now : List Value) × (o ≡ Way.Through (frame now rest) u) × Stored al env now
+abbrev pub NamedNow : List Local → ℕ → List Value → List Value → Env → World → PieceExit → Type 0
+NamedNow al k slots rest env u o = (now : List Value) × (o ≡ PieceExit.Through (frame now rest) u) × Stored al env now
     × (length now ≡ length slots) × Below k slots now
 
 one-name-rises : (b : Bool) (n : List ℕ) (t : Option GoType) (s : Scope)
-    → Rising s.next (s.next + length (W.one_new b n t s).slots) (W.one_new b n t s).declares
+    → SlotsRise s.next (s.next + length (W.one_new b n t s).slots) (W.one_new b n t s).declares
 one-name-rises true n t s = (omega arith, omega arith)
 one-name-rises false n t s = omega arith
 
 pub names-rise : (names : RangeNames) (slice : Bool) (el : Option GoType) (s : Scope)
-    → Rising s.next (behind s (range_names names slice el s)).next (range_names names slice el s).declares
+    → SlotsRise s.next (behind s (range_names names slice el s)).next (range_names names slice el s).declares
 names-rise range.Neither slice el s = omega arith
 names-rise (range.One n) slice el s = one-name-rises (not (is_blank n)) n (W.first_type slice el) s
 names-rise (range.Two n m) slice el s =
@@ -51,7 +51,7 @@ names-rise (range.Two n m) slice el s =
     let s1 = behind s v in
     let w = W.range_name m el s1 in
     let z = length-append v.slots w.slots in
-    subst (λ k. Rising s.next k (v.declares ++ w.declares)) (omega (arith, z))
+    subst (λ k. SlotsRise s.next k (v.declares ++ w.declares)) (omega (arith, z))
     (rising-append v.declares w.declares s.next s1.next (s1.next + length w.slots)
     (one-name-rises (not (is_blank n)) n (W.first_type slice el) s) (one-name-rises (not (is_blank m)) m el s1))
 

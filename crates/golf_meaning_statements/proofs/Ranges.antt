@@ -14,7 +14,7 @@ use Rattle.golf_syntax_trees.specs.declared.statements.RangeNames.TheVariants as
 use Rattle.golf_data.specs.declared.value.Value.{Value}
 use Rattle.golf_data.specs.declared.code.Instr.{Instr}
 use Rattle.golf_model.specs.Values.{bool_of}
-use Rattle.golf_model.specs.Calculating.{sum}
+use Rattle.golf_model.specs.Arithmetic.{sum}
 use Rattle.golf_check_types.specs.declared.types.GoType.{GoType}
 use Rattle.golf_check_types.specs.declared.locals.Local.{Local}
 use Rattle.golf_check_types.specs.declared.scopes.Scope.{Scope}
@@ -22,30 +22,31 @@ use Rattle.golf_check_types.specs.Scopes.{begun, variable}
 use Rattle.golf_check_types.specs.Names.{is_blank}
 use Rattle.golf_check_types.specs.Types.{is_slice, element, type_given}
 use Rattle.golf_check_types.specs.Expressions.{given_by}
-use Rattle.golf_check_types.specs.Judging.{judge_at}
+use Rattle.golf_check_types.specs.Judgments.{judge_at}
 use Rattle.golf_check_types.specs.Statements as W
 use Rattle.golf_check_types.specs.Statements.{behind, is_outer, hides, hidden, range_names, int_type}
 use Rattle.golf_code_layout.specs.Piece.{Piece, all, op, size}
-use Rattle.golf_code_of.specs.declared.making.Around.{Around}
+use Rattle.golf_code_of.specs.declared.surroundings.Around.{Around}
 use Rattle.golf_code_of.specs.declared.tables.Tables.{Tables}
-use Rattle.golf_code_of.specs.Coding.{piece_at}
+use Rattle.golf_code_of.specs.ExpressionCode.{piece_at}
 use Rattle.golf_code_of.specs.Loops as O
 use Rattle.golf_meaning_flat.specs.Worlds as V
 use Rattle.golf_meaning_flat.specs.Worlds.{Halt, World, Operation, halted, bind, pushed}
 use Rattle.golf_meaning_flat.proofs.Halting.{said, said-as}
-use Rattle.golf_meaning_flat.specs.Doing.{Frame, on_kind, computed, compared}
-use Rattle.golf_meaning_flat.specs.Structured.{Way, from_part, then_way, unless_true, out_of, once_more, rounds, run}
+use Rattle.golf_meaning_flat.specs.InstructionEffects.{Frame, on_kind, computed, compared}
+use Rattle.golf_meaning_flat.specs.Structured.{PieceExit, from_part, then_way, unless_true, out_of, once_more, rounds}
+use Rattle.golf_meaning_flat.specs.Structured.{run}
 use Rattle.golf_meaning_source.specs.Names.{Env}
 use Rattle.golf_meaning_source.specs.Operations.{Taking, visible}
 use Rattle.golf_meaning_source.specs.Exprs.{int_value}
-use Rattle.golf_meaning_source.specs.Does.{frame, Sim, OnTop, Stored, Rising, Apart, Kept, Known}
+use Rattle.golf_meaning_source.specs.Does.{frame, Sim, OnTop, Stored, SlotsRise, Apart, Kept, Known}
 use Rattle.golf_meaning_source.proofs.Turning.{turn-visible, tail-then, tail-end, then-end}
 use Rattle.golf_meaning_source.proofs.Environments.{set-other, set-same, stored-below}
 use Rattle.golf_meaning_statements.specs.Flows.{Course, Flow, after, cut, by_test, turned}
 use Rattle.golf_meaning_statements.specs.Steps.{value_at, Step, bound, declared, block, in_loop, parts, named_one}
 use Rattle.golf_meaning_statements.specs.Steps.{range_named, ranges, measured, range_step, over_slice, receives}
 use Rattle.golf_meaning_statements.specs.Steps.{channel_step, by_channel, over, ranging, for_deed}
-use Rattle.golf_meaning_statements.specs.Follows.{Stands, EndsAlike, Goes, StatementMeans}
+use Rattle.golf_meaning_statements.specs.Follows.{IsEnvStored, EndsAlike, Goes, StatementMeans}
 use Rattle.golf_meaning_statements.proofs.Flowing.{ends-in, Came, MayBegin, stored-prefix, stored-take, stored-length}
 use Rattle.golf_meaning_statements.proofs.Flowing.{rising-append, apart-rising, apart-append, apart-below, goes-after}
 use Rattle.golf_meaning_statements.proofs.Flowing.{Exactly, GoesPrefix, exactly-prefix, exactly-goes, EachMeans}
@@ -55,15 +56,16 @@ use Rattle.golf_meaning_statements.proofs.RangeSteps.{Below, NamedNow, names-ris
 use Rattle.golf_meaning_statements.proofs.RangeSteps.{store-step, tail-store}
 use Rattle.golf_meaning_statements.proofs.ChannelRanges.{receiving, receives-go}
 
-then-assoc : (o : Way) (f g : Frame → World → Way) → then_way (then_way o f) g ≡ then_way o (λ c w. then_way (f c w) g)
-then-assoc (Way.Through c w) f g = refl
-then-assoc (Way.Leaves k c w) f g = refl
-then-assoc (Way.Ends t) f g = refl
-then-assoc Way.Lost f g = refl
+then-assoc : (o : PieceExit) (f g : Frame → World → PieceExit)
+    → then_way (then_way o f) g ≡ then_way o (λ c w. then_way (f c w) g)
+then-assoc (PieceExit.Through c w) f g = refl
+then-assoc (PieceExit.Leaves k c w) f g = refl
+then-assoc (PieceExit.Ends t) f g = refl
+then-assoc PieceExit.Lost f g = refl
 
 -- a calculation on the two operands on top
 sim-act : {A : Type 0} (p : V.Part A) (to : A → Frame)
-    → Sim p (λ a u o. o ≡ Way.Through (to a) u) (from_part (bind p (λ a u. V.Part.Gives (to a) u)))
+    → Sim p (λ a u o. o ≡ PieceExit.Through (to a) u) (from_part (bind p (λ a u. V.Part.Gives (to a) u)))
 sim-act (V.Part.Gives a u) to = refl
 sim-act (V.Part.Stops s os) to = said s _ refl
 
@@ -200,12 +202,12 @@ module _ (taking : Taking) where
         ))))
       where
         one-rises : (b : Bool) (n : List ℕ) (t : Option GoType) (s : Scope)
-            → Rising s.next (s.next + length (W.one_new b n t s).slots) (W.one_new b n t s).declares
+            → SlotsRise s.next (s.next + length (W.one_new b n t s).slots) (W.one_new b n t s).declares
         one-rises true n t s = (omega arith, omega arith)
         one-rises false n t s = omega arith
 
-        sim-in-one : {A : Type 0} {K M : A → World → Way → Type 0} (p : V.Part A) (o : Way) → Sim p K o
-            → ((a : A) (u : World) (o : Way) → K a u o → M a u o) → Sim p M o
+        sim-in-one : {A : Type 0} {K M : A → World → PieceExit → Type 0} (p : V.Part A) (o : PieceExit) → Sim p K o
+            → ((a : A) (u : World) (o : PieceExit) → K a u o → M a u o) → Sim p M o
         sim-in-one (V.Part.Gives a u) o h k = k a u o h
         sim-in-one (V.Part.Stops s os) o h k = h
 
@@ -246,17 +248,19 @@ module _ (taking : Taking) where
     Ready env now i = Stored ds env now × (length now ≡ count) × Hidden now i
 
     -- a turn but for its last steps
-    abbrev Half : List Value → Value → Flow → Way → Type 0
-    Half now i (Flow.Goes Course.On env u) o = (then_now : List Value) × (o ≡ Way.Through (frame then_now rest) u)
+    abbrev Half : List Value → Value → Flow → PieceExit → Type 0
+    Half now i (Flow.Goes Course.On env u) o = (then_now : List Value) × (o ≡ PieceExit.Through (frame then_now rest) u)
         × Ready env then_now i × Kept ds h now then_now
     Half now i (Flow.Goes Course.Continues env u) o = (then_now : List Value)
-        × (o ≡ Way.Through (frame then_now rest) u) × Ready env then_now i × Kept ds h now then_now
-    Half now i (Flow.Goes Course.Breaks env u) o = (then_now : List Value) × (o ≡ Way.Leaves 1 (frame then_now rest) u)
-        × Stands ds h now ds env then_now
+        × (o ≡ PieceExit.Through (frame then_now rest) u) × Ready env then_now i × Kept ds h now then_now
+    Half now i (Flow.Goes Course.Breaks env u) o = (then_now : List Value)
+        × (o ≡ PieceExit.Leaves 1 (frame then_now rest) u)
+        × IsEnvStored ds h now ds env then_now
     Half now i (Flow.Goes Course.Skips env u) o = ⊥
     Half now i (Flow.Ends t) o = EndsAlike t t.end o
 
-    module _ (rising : Rising 0 h ds) (rises : Rising S3.next (behind S3 (range_names names true el S3)).next decl)
+    module _ (rising : SlotsRise 0 h ds) (rises : SlotsRise S3.next
+        (behind S3 (range_names names true el S3)).next decl)
         (room : Sb.next + length ((B taking body means-body).walk (looped taking body means-body Sb)).slots
         ≤ count) where
       next-is : (behind S3 (range_names names true el S3)).next ≡ Sb.next
@@ -269,7 +273,8 @@ module _ (taking : Taking) where
 
       -- what the body leaves
       left : (now now2 now3 : List Value) (i : Value) (env : Env) → length now ≡ count → Hidden now i
-          → (length now2 ≡ length now) → Below (h + 3) now now2 → Stands (ds ++ decl) Sb.next now2 (ds ++ decl) env now3
+          → (length now2 ≡ length now) → Below (h + 3) now now2
+          → IsEnvStored (ds ++ decl) Sb.next now2 (ds ++ decl) env now3
           → Ready (take (length ds) env) now3 i × Kept ds h now now3
       left now now2 now3 i env q hid long2 below st =
           let z = length-append (ty ∷ (int_type ∷ (int_type ∷ []))) (range_names names true el S3).slots in
@@ -289,7 +294,7 @@ module _ (taking : Taking) where
                 ∙ below j (omega (arith, lt)),
           )
 
-      half-of : (now now2 : List Value) (i : Value) (f : Flow) (o : Way) → length now ≡ count → Hidden now i
+      half-of : (now now2 : List Value) (i : Value) (f : Flow) (o : PieceExit) → length now ≡ count → Hidden now i
           → (length now2 ≡ length now) → Below (h + 3) now now2 → Exactly rest b2 (ds ++ decl) Sb.next now2 f o
           → Half now i (cut (length ds) f) (out_of o)
       half-of now now2 i (Flow.Goes Course.On env u) o q hid long2 below e = let r =
@@ -301,10 +306,10 @@ module _ (taking : Taking) where
       half-of now now2 i (Flow.Goes Course.Skips env u) o q hid long2 below e = absurd e
       half-of now now2 i (Flow.Ends t) o q hid long2 below e = ends-in t t.end out_of o refl e
 
-      half-after : (now : List Value) (i : Value) (k : ℕ) (p : V.Part Env) (K : Env → World → Way → Type 0)
-          (C : Way → Way) (o : Way) → ((g : Halt) (os : List Operation)
-          → C (Way.Ends (halted g os)) ≡ Way.Ends (halted g os)) → Sim p K o
-          → ((env : Env) (u : World) (o : Way) → K env u o → Half now i (cut k (d env u)) (C o))
+      half-after : (now : List Value) (i : Value) (k : ℕ) (p : V.Part Env) (K : Env → World → PieceExit → Type 0)
+          (C : PieceExit → PieceExit) (o : PieceExit) → ((g : Halt) (os : List Operation)
+          → C (PieceExit.Ends (halted g os)) ≡ PieceExit.Ends (halted g os)) → Sim p K o
+          → ((env : Env) (u : World) (o : PieceExit) → K env u o → Half now i (cut k (d env u)) (C o))
           → Half now i (cut k (after p d)) (C o)
       half-after now i k (V.Part.Gives env u) K C o strict g f = f env u o g
       half-after now i k (V.Part.Stops s os) K C o strict g f = said-as s _ _ g (λ e. ap C e ∙ strict s os)
@@ -316,7 +321,7 @@ module _ (taking : Taking) where
       half env now i ready at at2 us u =
           let K = NamedNow (behind S3 (range_names names true el S3)).locals S3.next now rest in
           let stored3 = subst (λ es. Stored es env now) (sym (append-nil ds)) ready.0 in
-          let rising3 = subst (λ es. Rising 0 S3.next es) (sym (append-nil ds)) (wider ds 0 h rising) in
+          let rising3 = subst (λ es. SlotsRise 0 S3.next es) (sym (append-nil ds)) (wider ds 0 h rising) in
           let q = ready.1 in
           let nx = next-is in
           let ready3 : MayBegin S3 (range_names names true el S3) env now =
@@ -334,7 +339,7 @@ module _ (taking : Taking) where
           let long2 = k.3 in
           let known : Known Sb.locals Sb.next env2 k.0 = record {
             stored = subst (λ es. Stored es env2 k.0) (append_assoc ds [] decl) k.2;
-            rising = subst (λ m. Rising 0 m (ds ++ decl)) next-is
+            rising = subst (λ m. SlotsRise 0 m (ds ++ decl)) next-is
                 (rising-append ds decl 0 S3.next (behind S3 (range_names names true el S3)).next
                 (wider ds 0 h rising) rises);
           } in
@@ -345,7 +350,7 @@ module _ (taking : Taking) where
           (body-exactly taking body means-body b2 Sb n env2 k.0 known (omega (arith, room, q, long2)) at2
           ((at2 + size bp) ∷ us) rest u2))))
         where
-          wider : (es : List Local) (low high : ℕ) → Rising low high es → Rising low (high + 3) es
+          wider : (es : List Local) (low high : ℕ) → SlotsRise low high es → SlotsRise low (high + 3) es
           wider [] low high r = omega (arith, r)
           wider (e ∷ es) low high r = (r.0, wider es (e.slot + 1) high r.1)
 
@@ -362,14 +367,14 @@ module _ (taking : Taking) where
       P = turn_of l h (O.slice_names l h names S3) bp
 
       module _ (at : ℕ) (us : List ℕ) where
-        abbrev turn : Frame → World → Way
+        abbrev turn : Frame → World → PieceExit
         turn = run taking.gives n P at us
 
-        abbrev G : List Value → Flow → Way → Type 0
+        abbrev G : List Value → Flow → PieceExit → Type 0
         G now f o = Goes ds h now rest ds a f o
 
         -- the last steps of a turn, and what comes after it
-        last-steps : (m : ℕ) (to : Frame → World → Way) (at5 : ℕ)
+        last-steps : (m : ℕ) (to : Frame → World → PieceExit) (at5 : ℕ)
             → ((i : Value) (env : Env) (now : List Value) (u : World) → Ready env now i
             → G now (ranges m long step i env u) (out_of (to (frame now rest) u)))
             → (i : Value) (env : Env) (now : List Value) (u : World) → Ready env now i
@@ -384,7 +389,7 @@ module _ (taking : Taking) where
             (op l (Instr.Int (pos 1)) ∷ op l Instr.Add ∷ op l (Instr.Store (h + 2))
             ∷ Piece.Exit l 0 ∷ [])) at5 us now rest u ready.2.2))
             (goes-after (Goes ds h now rest ds a) (λ t o h. h) p (λ k v. ranges m long step k env v)
-            (λ k v o. o ≡ Way.Through (frame now (k ∷ rest)) v)
+            (λ k v o. o ≡ PieceExit.Through (frame now (k ∷ rest)) v)
             (λ o. out_of (once_more (then_way o (run taking.gives n store at6 us)) to))
             (from_part (bind p (λ k v. V.Part.Gives (frame now (k ∷ rest)) v))) (λ g os. refl)
             (sim-act p (λ k. frame now (k ∷ rest)))
@@ -413,10 +418,10 @@ module _ (taking : Taking) where
             (rec k env now4 v ready4)))))
 
         -- after a body that goes on or continues
-        turn-done : (m : ℕ) (to : Frame → World → Way) (at5 : ℕ)
+        turn-done : (m : ℕ) (to : Frame → World → PieceExit) (at5 : ℕ)
             → ((i : Value) (env : Env) (now : List Value) (u : World) → Ready env now i
             → G now (ranges m long step i env u) (out_of (to (frame now rest) u)))
-            → (now : List Value) (i : Value) (env : Env) (u : World) (o : Way) → length now ≡ count
+            → (now : List Value) (i : Value) (env : Env) (u : World) (o : PieceExit) → length now ≡ count
             → Half now i (Flow.Goes Course.On env u) o
             → G now (after (computed sum u i (int_value 1)) (λ k y. ranges m long step k env y))
             (out_of (once_more (then_way o (run taking.gives n incr at5 us)) to))
@@ -429,10 +434,10 @@ module _ (taking : Taking) where
             (last-steps m to at5 rec i env g.0 u g.2))
 
         -- after the body
-        half-goes : (m : ℕ) (to : Frame → World → Way) (at5 : ℕ)
+        half-goes : (m : ℕ) (to : Frame → World → PieceExit) (at5 : ℕ)
             → ((i : Value) (env : Env) (now : List Value) (u : World) → Ready env now i
             → G now (ranges m long step i env u) (out_of (to (frame now rest) u)))
-            → (now : List Value) (i : Value) (f : Flow) (o : Way) → length now ≡ count → Half now i f o
+            → (now : List Value) (i : Value) (f : Flow) (o : PieceExit) → length now ≡ count → Half now i f o
             → G now (turned f (λ e v. after (computed sum v i (int_value 1)) (λ k y. ranges m long step k e y)))
             (out_of (once_more (then_way o (run taking.gives n incr at5 us)) to))
         half-goes m to at5 rec now i (Flow.Goes Course.On env u) o q g = turn-done m to at5 rec now i env u o q g
@@ -444,7 +449,7 @@ module _ (taking : Taking) where
             ends-in t t.end (λ z. out_of (once_more (then_way z (run taking.gives n incr at5 us)) to)) o refl g
 
         -- if the index is below the length, and if it is not
-        bool-goes : (m : ℕ) (to : Frame → World → Way) (at3 : ℕ)
+        bool-goes : (m : ℕ) (to : Frame → World → PieceExit) (at3 : ℕ)
             → ((i : Value) (env : Env) (now : List Value) (u : World) → Ready env now i
             → G now (ranges m long step i env u) (out_of (to (frame now rest) u)))
             → (i : Value) (env : Env) (now : List Value) (u : World) → Ready env now i → (b : Option Bool)
@@ -482,7 +487,8 @@ module _ (taking : Taking) where
             (Piece.Then (op l Instr.Less) P2))
             at us now rest u ready.2.2 ∙ load-step taking n l (h + 1) (Piece.Then (op l Instr.Less) P2) (at + 1) us now
             (i ∷ rest) u ready.2.1))
-            (goes-after (Goes ds h now rest ds a) (λ t o h. h) p f (λ k v o. o ≡ Way.Through (frame now (k ∷ rest)) v)
+            (goes-after (Goes ds h now rest ds a) (λ t o h. h) p f
+            (λ k v o. o ≡ PieceExit.Through (frame now (k ∷ rest)) v)
             (λ o. out_of (once_more (then_way o (run taking.gives n P2 at3 us)) (rounds m turn)))
             (from_part (bind p (λ k v. V.Part.Gives (frame now (k ∷ rest)) v))) (λ g os. refl)
             (sim-act p (λ k. frame now (k ∷ rest)))
@@ -492,7 +498,8 @@ module _ (taking : Taking) where
             (bool-goes m (rounds m turn) (at3 + 1) (ranges-go m) i env now v ready (bool_of k))))
 
   -- all ways have the names of before
-  prefix-of : (rest : List Value) (a : Around) (ds : List Local) (next : ℕ) (slots : List Value) (f : Flow) (o : Way)
+  prefix-of : (rest : List Value) (a : Around) (ds : List Local) (next : ℕ) (slots : List Value) (f : Flow)
+      (o : PieceExit)
       → Goes ds next slots rest ds a f o → GoesPrefix rest a ds next slots f o
   prefix-of rest a locals next slots (Flow.Goes Course.On env u) o k =
       (k.0, k.1, (stored-take locals env k.0 k.2.0, k.2.1, k.2.2))
@@ -523,7 +530,7 @@ module _ (taking : Taking) where
     Room b = s.next + length ((hidden b ty ++ (range_names names b el (hidden_by b)).slots)
         ++ ((B taking body means-body).walk (looped taking body means-body (scope_by b))).slots) ≤ length slots
 
-    abbrev R : Flow → Way → Type 0
+    abbrev R : Flow → PieceExit → Type 0
     R f o = Goes s.locals s.next slots rest s.locals a f o
 
     -- the slice is kept, and its length
@@ -644,7 +651,7 @@ module _ (taking : Taking) where
           set-same slots h x (omega (arith, room, z1, z2)),
         )))
 
-    by-names : (nm : RangeNames) (f : Flow) (w : World) (o : Way) → (Single nm → R f o) → R (by_channel nm f w) o
+    by-names : (nm : RangeNames) (f : Flow) (w : World) (o : PieceExit) → (Single nm → R f o) → R (by_channel nm f w) o
     by-names range.Neither f w o k = k tt
     by-names (range.One m) f w o k = k tt
     by-names (range.Two m q) f w o k = tt

@@ -17,7 +17,7 @@ use Rattle.golf_syntax_trees.specs.declared.statements.VarContent.TheVariants as
 use Rattle.golf_data.specs.declared.value.Value.{Value}
 use Rattle.golf_data.specs.declared.code.Instr.{Instr}
 use Rattle.golf_model.specs.Values.{zero_of}
-use Rattle.golf_model.specs.Calculating.{sum, difference, product, quotient, remainder}
+use Rattle.golf_model.specs.Arithmetic.{sum, difference, product, quotient, remainder}
 use Rattle.golf_check_types.specs.declared.types.GoType.{GoType}
 use Rattle.golf_check_types.specs.declared.operands.Operand.{Operand}
 use Rattle.golf_check_types.specs.declared.operands.Operand.TheVariants as operand
@@ -28,24 +28,24 @@ use Rattle.golf_check_types.specs.Names.{is_blank}
 use Rattle.golf_check_types.specs.Types.{type_given}
 use Rattle.golf_check_types.specs.Written.{write_at}
 use Rattle.golf_check_types.specs.Expressions.{given_by, leaf, known_name}
-use Rattle.golf_check_types.specs.Judging.{judge_at}
+use Rattle.golf_check_types.specs.Judgments.{judge_at}
 use Rattle.golf_check_types.specs.Statements as W
 use Rattle.golf_check_types.specs.Statements.{Walk, behind, assigned_name}
 use Rattle.golf_code_layout.specs.Piece.{Piece, all, op, size}
 use Rattle.golf_code_of.specs.declared.tables.Tables.{Tables}
 use Rattle.golf_code_of.specs.Values.{push, zero_value}
 use Rattle.golf_code_of.specs.Calls as K
-use Rattle.golf_code_of.specs.Coding.{code_at, piece_at, argument_at}
-use Rattle.golf_code_of.specs.Statements.{Part, laid}
+use Rattle.golf_code_of.specs.ExpressionCode.{code_at, piece_at, argument_at}
+use Rattle.golf_code_of.specs.Statements.{StatementPart, laid}
 use Rattle.golf_code_of.specs.Statements as L
 use Rattle.golf_meaning_flat.specs.Worlds as V
 use Rattle.golf_meaning_flat.specs.Worlds.{World, bind}
-use Rattle.golf_meaning_flat.specs.Doing.{Doing, doing, on_some, acts_on_two, shows, computed, divided}
-use Rattle.golf_meaning_flat.specs.Structured.{Way, from_part, then_way, run}
+use Rattle.golf_meaning_flat.specs.InstructionEffects.{Doing, doing, on_some, acts_on_two, shows, computed, divided}
+use Rattle.golf_meaning_flat.specs.Structured.{PieceExit, from_part, then_way, run}
 use Rattle.golf_meaning_source.specs.Names.{Env}
 use Rattle.golf_meaning_source.specs.Operations.{Taking, Gives, gives, both, then_do, visible, on_two}
 use Rattle.golf_meaning_source.specs.Exprs.{values_of, if_none, store}
-use Rattle.golf_meaning_source.specs.Does.{frame, Sim, OnTop, Turns, Stored, Rising, Apart, Kept, Changed, Tail}
+use Rattle.golf_meaning_source.specs.Does.{frame, Sim, OnTop, Turns, Stored, SlotsRise, Apart, Kept, Changed, Tail}
 use Rattle.golf_meaning_source.specs.Does.{Matches, Known}
 use Rattle.golf_meaning_source.proofs.Turning.{sim-in, bind-assoc, turn-none, turn-both, turn-after-two, turn-visible}
 use Rattle.golf_meaning_source.proofs.Turning.{turn-calculate, turn-over, tail-then, tail-end, tail-over}
@@ -53,14 +53,14 @@ use Rattle.golf_meaning_source.proofs.Places.{turn-over-more, stores-visible}
 use Rattle.golf_meaning_source.proofs.Environments.{set-other, set-same, stored-below}
 use Rattle.golf_meaning_source.proofs.Constructs.{matches-name}
 use Rattle.golf_meaning_source.proofs.Exprs.{means}
-use Rattle.golf_meaning_source.specs.Meaning.{outer}
+use Rattle.golf_meaning_source.specs.ExpressionMeaning.{outer}
 use Rattle.golf_meaning_statements.specs.Flows.{Course, Flow, on}
 use Rattle.golf_meaning_statements.specs.Steps.{name_place, stores_pair, stores_unless, with_new, defines_pair, does_at}
 use Rattle.golf_meaning_statements.specs.Steps.{value_at, Deals, declared, bound, drops, update_operation, updates}
 use Rattle.golf_meaning_statements.specs.Steps.{assigns, one, simple_deals, simple_deed, is_plain_kind, first_value}
 use Rattle.golf_meaning_statements.specs.Steps.{var_deed, argument, beginning, begin_deals, begin_deed, returned}
 use Rattle.golf_meaning_statements.specs.Steps.{return_deed}
-use Rattle.golf_meaning_statements.specs.Follows.{Stands, Goes, StatementMeans}
+use Rattle.golf_meaning_statements.specs.Follows.{IsEnvStored, Goes, StatementMeans}
 use Rattle.golf_meaning_statements.proofs.Flowing.{goes-on, goes-changed, goes-after, stored-take, apart-below}
 use Rattle.golf_meaning_statements.proofs.Flowing.{rising-append}
 
@@ -77,20 +77,21 @@ there-is (x ∷ xs) zero h = (x, refl)
 there-is (x ∷ xs) (suc i) h = there-is xs i (omega (arith, h))
 
 -- changed, and changed on
-pub changed-on : (ds : List Local) (slots now rest : List Value) (p : V.Part Env) (o : Way) → length now ≡ length slots
+pub changed-on : (ds : List Local) (slots now rest : List Value) (p : V.Part Env) (o : PieceExit)
+    → length now ≡ length slots
     → ((i : ℕ) → Apart i ds → slice_get now i ≡ slice_get slots i) → Sim p (Changed ds now rest) o
     → Sim p (Changed ds slots rest) o
 changed-on ds slots now rest (V.Part.Gives env u) o long kept h = (h.0, h.1, h.2, h.3 ∙ long, λ i a. h.4 i a ∙ kept i a)
 changed-on ds slots now rest (V.Part.Stops s os) o long kept h = h
 
 one-rises : (b : Bool) (n : List ℕ) (t : Option GoType) (s : Scope)
-    → Rising s.next (s.next + length (W.one_new b n t s).slots) (W.one_new b n t s).declares
+    → SlotsRise s.next (s.next + length (W.one_new b n t s).slots) (W.one_new b n t s).declares
 one-rises true n t s = (omega arith, omega arith)
 one-rises false n t s = omega arith
 
 -- two names left of `:=`
 pub pair-rises : (n m : List ℕ) (t : Option GoType) (s : Scope)
-    → Rising s.next (s.next + length (W.then (W.one_new (W.is_new s n) n t)
+    → SlotsRise s.next (s.next + length (W.then (W.one_new (W.is_new s n) n t)
     (W.one_new (W.is_new s m) m W.bool_type) s).slots)
     (W.then (W.one_new (W.is_new s n) n t) (W.one_new (W.is_new s m) m W.bool_type) s).declares
 pair-rises n m t s =
@@ -98,7 +99,7 @@ pair-rises n m t s =
     let s1 = behind s v in
     let w = W.one_new (W.is_new s m) m W.bool_type s1 in
     let k = length-append v.slots w.slots in
-    subst (λ z. Rising s.next z (v.declares ++ w.declares)) (omega (arith, k))
+    subst (λ z. SlotsRise s.next z (v.declares ++ w.declares)) (omega (arith, k))
     (rising-append v.declares w.declares s.next s1.next (s1.next + length w.slots) (one-rises (W.is_new s n) n t s)
     (one-rises (W.is_new s m) m W.bool_type s1))
 
@@ -109,7 +110,7 @@ module _ (taking : Taking) where
       → Tail taking slots rest (p s) [] (d s env) (Changed s.locals slots rest))
       → StatementMeans taking w (λ a s. laid (p s)) (λ a s n env u. on (d s env u))
   means-quiet w p d e h = record {
-    rises = λ s. subst (λ ds. Rising s.next (behind s (w s)).next ds) (sym (e s)) (omega arith);
+    rises = λ s. subst (λ ds. SlotsRise s.next (behind s (w s)).next ds) (sym (e s)) (omega arith);
     goes = λ a s n env slots ok room at ts rest u.
         subst (λ ds. Goes s.locals s.next slots rest (s.locals ++ ds) a (on (d s env u))
         (run taking.gives n (p s) at ts (frame slots rest) u)) (sym (e s))
@@ -121,8 +122,8 @@ module _ (taking : Taking) where
   pub declares-top : (s : Scope) (env : Env) (slots rest : List Value) (n : List ℕ) (t : Option GoType) (l : ℕ)
       → Known s.locals s.next env slots → s.next < length slots → (vs : List Value)
       → Tail taking slots rest (op l (Instr.Store s.next)) vs (declared env n vs)
-      (λ e u i. (now : List Value) × (i ≡ Way.Through (frame now rest) u)
-      × Stands s.locals s.next slots (s.locals ++ variable s n t ∷ []) e now)
+      (λ e u i. (now : List Value) × (i ≡ PieceExit.Through (frame now rest) u)
+      × IsEnvStored s.locals s.next slots (s.locals ++ variable s n t ∷ []) e now)
   declares-top s env slots rest n t l ok lt [] m at ts u = tt
   declares-top s env slots rest n t l ok lt (v ∷ []) m at ts u =
       let old = there-is slots s.next lt in (
@@ -148,8 +149,8 @@ module _ (taking : Taking) where
       → StatementMeans taking w (λ a s. laid (all (p s ∷ op l (Instr.Store s.next) ∷ [])))
       (λ a s k env u. on (bind (f s env u) (declared env n)))
   means-declares l n w ty p f e1 e2 h = record {
-    rises = λ s. subst (λ ds. Rising s.next (behind s (w s)).next ds) (sym (e1 s))
-        (subst (λ ts. Rising s.next (s.next + length ts) (variable s n (ty s) ∷ [])) (sym (e2 s))
+    rises = λ s. subst (λ ds. SlotsRise s.next (behind s (w s)).next ds) (sym (e1 s))
+        (subst (λ ts. SlotsRise s.next (s.next + length ts) (variable s n (ty s) ∷ [])) (sym (e2 s))
         (omega arith, omega arith));
     goes = λ a s k env slots ok room at ts rest u.
         let room1 = subst (λ ts. s.next + length ts ≤ length slots) (e2 s) room in
@@ -159,11 +160,11 @@ module _ (taking : Taking) where
         (goes-on rest a s.locals (s.locals ++ variable s n (ty s) ∷ []) s.next slots (bind (f s env u) (declared env n))
         (run taking.gives k (all (p s ∷ op l (Instr.Store s.next) ∷ [])) at ts (frame slots rest) u)
         (tail-then taking slots rest (p s) q [] (f s env) (declared env n)
-        (λ e u i. (now : List Value) × (i ≡ Way.Through (frame now rest) u)
-        × Stands s.locals s.next slots (s.locals ++ variable s n (ty s) ∷ []) e now) (h s env slots ok)
+        (λ e u i. (now : List Value) × (i ≡ PieceExit.Through (frame now rest) u)
+        × IsEnvStored s.locals s.next slots (s.locals ++ variable s n (ty s) ∷ []) e now) (h s env slots ok)
         (λ vs. tail-end taking slots rest (op l (Instr.Store s.next)) vs (declared env n vs)
-        (λ e u i. (now : List Value) × (i ≡ Way.Through (frame now rest) u)
-        × Stands s.locals s.next slots (s.locals ++ variable s n (ty s) ∷ []) e now)
+        (λ e u i. (now : List Value) × (i ≡ PieceExit.Through (frame now rest) u)
+        × IsEnvStored s.locals s.next slots (s.locals ++ variable s n (ty s) ∷ []) e now)
         (declares-top s env slots rest n (ty s) l ok (omega (arith, room1)) vs)) k at ts u));
   }
 
@@ -177,7 +178,7 @@ module _ (taking : Taking) where
       matches : (e : Expr) → M e
       matches e = means taking t e l s env slots ok
 
-      abbrev C : Env → World → Way → Type 0
+      abbrev C : Env → World → PieceExit → Type 0
       C = Changed s.locals slots rest
 
       tail-drops : (m : Operand) (vs : List Value) → Tail taking slots rest (L.drops l m) vs (drops m env vs) C
@@ -347,8 +348,8 @@ module _ (taking : Taking) where
       HasNew true i x now = slice_get now i ≡ Some x
       HasNew false i x now = Unit {0}
 
-      abbrev Middle : Bool → Bool → Env → World → Way → Type 0
-      Middle bn bm e u o = (now : List Value) × (o ≡ Way.Through (frame now (v ∷ rest)) u) × Stored s.locals e now
+      abbrev Middle : Bool → Bool → Env → World → PieceExit → Type 0
+      Middle bn bm e u o = (now : List Value) × (o ≡ PieceExit.Through (frame now (v ∷ rest)) u) × Stored s.locals e now
           × (length now ≡ length slots) × Kept s.locals s.next slots now × HasNew bm (PS1 bn).next y now
 
       second-first : (bn bm : Bool) (env : Env) → Known s.locals s.next env slots
@@ -373,12 +374,13 @@ module _ (taking : Taking) where
           (run taking.gives k (L.stores_name l t s m) at ts (frame slots (y ∷ v ∷ rest)) u)
           (name-stores s m env slots ok (y ∷ []) k at ts (v ∷ rest) u)
         where
-          middled : (p : V.Part Env) (o : Way) → Sim p (Changed s.locals slots (v ∷ rest)) o → Sim p (Middle bn false) o
+          middled : (p : V.Part Env) (o : PieceExit) → Sim p (Changed s.locals slots (v ∷ rest)) o
+              → Sim p (Middle bn false) o
           middled (V.Part.Gives e w) o h = (h.0, h.1, h.2, h.3, λ j lt a. h.4 j a, tt)
           middled (V.Part.Stops x os) o h = h
 
-      abbrev Last : Bool → Bool → List Value → Env → World → Way → Type 0
-      Last bn bm now1 e u o = (now : List Value) × (o ≡ Way.Through (frame now rest) u) × Stored s.locals e now
+      abbrev Last : Bool → Bool → List Value → Env → World → PieceExit → Type 0
+      Last bn bm now1 e u o = (now : List Value) × (o ≡ PieceExit.Through (frame now rest) u) × Stored s.locals e now
           × (length now ≡ length now1) × Kept s.locals s.next now1 now × HasNew bn s.next v now
           × HasNew bm (PS1 bn).next y now
 
@@ -411,7 +413,8 @@ module _ (taking : Taking) where
           (run taking.gives k (L.stores_name l t s n) at ts (frame now1 (v ∷ rest)) u)
           (name-stores s n env now1 ok (v ∷ []) k at ts rest u)
         where
-          lasted : (p : V.Part Env) (o : Way) → Sim p (Changed s.locals now1 rest) o → Sim p (Last false bm now1) o
+          lasted : (p : V.Part Env) (o : PieceExit) → Sim p (Changed s.locals now1 rest) o
+              → Sim p (Last false bm now1) o
           lasted (V.Part.Gives e w) o h = (
             h.0,
             h.1,
@@ -436,9 +439,9 @@ module _ (taking : Taking) where
       both-new false true env now h p q = stored-new s.locals env now (variable (PS1 false) m W.bool_type) y h q
       both-new false false env now h p q = subst (λ es. Stored es env now) (sym (append-nil s.locals)) h
 
-      abbrev After : Bool → Bool → Env → World → Way → Type 0
-      After bn bm e u o = (now : List Value) × (o ≡ Way.Through (frame now rest) u)
-          × Stands s.locals s.next slots (s.locals
+      abbrev After : Bool → Bool → Env → World → PieceExit → Type 0
+      After bn bm e u o = (now : List Value) × (o ≡ PieceExit.Through (frame now rest) u)
+          × IsEnvStored s.locals s.next slots (s.locals
           ++ ((W.one_new bn n ty s).declares ++ (W.one_new bm m W.bool_type (PS1 bn)).declares)) e now
 
       pair-goes : (bn bm : Bool) (env : Env) → Known s.locals s.next env slots
@@ -481,8 +484,8 @@ module _ (taking : Taking) where
         ++ (W.one_new (W.is_new s m) m W.bool_type (behind s (W.one_new (W.is_new s n) n ty s))).slots) ≤ length slots
         → (us : List Value) → Tail taking slots rest (L.stores_pair l t s n m ty) us
         (defines_pair taking t s n m env us)
-        (λ e2 x o. (now : List Value) × (o ≡ Way.Through (frame now rest) x)
-        × Stands s.locals s.next slots (s.locals
+        (λ e2 x o. (now : List Value) × (o ≡ PieceExit.Through (frame now rest) x)
+        × IsEnvStored s.locals s.next slots (s.locals
         ++ ((W.one_new (W.is_new s n) n ty s).declares
         ++ (W.one_new (W.is_new s m) m W.bool_type (behind s (W.one_new (W.is_new s n) n ty s))).declares)) e2 now)
     pair-two {env} {slots} n m s rest ty ok room [] k at ts u = tt
@@ -502,8 +505,9 @@ module _ (taking : Taking) where
           let ty = W.carried l e s in
           let pair = all (L.stores_pair l t s n m ty ∷ []) in
           let al = (behind s (W.simple_kind l (simple.DefineReceived n m e) s)).locals in
-          let A : Env → World → Way → Type 0 = λ e2 x o. (now : List Value) × (o ≡ Way.Through (frame now rest) x)
-          × Stands s.locals s.next slots al e2 now in
+          let A : Env → World → PieceExit → Type 0 = λ e2 x o. (now : List Value)
+          × (o ≡ PieceExit.Through (frame now rest) x)
+          × IsEnvStored s.locals s.next slots al e2 now in
           goes-on rest a s.locals al s.next slots (simple_deals taking t l (simple.DefineReceived n m e) s env u)
           (run taking.gives k (L.simple_piece t l (simple.DefineReceived n m e) s) at ts (frame slots rest) u)
           (tail-then taking slots rest (piece_at t l s e) (Piece.Then (op l Instr.ReceiveOk) pair) []
@@ -614,7 +618,7 @@ module _ (taking : Taking) where
           (sym q) (by a s slots rest n (at + size (piece_at t l s e)) ts vs v));
     }
       where
-        by : (a : Rattle.golf_code_of.specs.declared.making.Around.Around) (s : Scope) (slots rest : List Value)
+        by : (a : Rattle.golf_code_of.specs.declared.surroundings.Around.Around) (s : Scope) (slots rest : List Value)
             (n at : ℕ) (ts : List ℕ) (vs : List Value) (v : World)
             → Goes s.locals s.next slots rest (s.locals ++ []) a (returned vs v)
             (run taking.gives n (all (op l Instr.ReturnValue ∷ [])) at ts (frame slots (V.pushed vs rest)) v)
@@ -634,7 +638,7 @@ module _ (taking : Taking) where
           (value_at taking t l s x env) (values_of (map (argument taking t l s env) xs))
           (value-turns t l x s env slots ok) (arguments-turn xs)
 
-      beginning-turns : (next : ℕ) (m : Operand) (xs : List K.Argument) (vs : List Value)
+      beginning-turns : (next : ℕ) (m : Operand) (xs : List K.ArgumentCode) (vs : List Value)
           → Turns taking slots (K.beginning l begin next m xs) vs (beginning taking begin next m xs vs)
       beginning-turns next (operand.Function k) xs vs =
           turn-visible taking slots l (begin (k + 1) (length xs)) [] vs (shown (k + 1) (length xs))

@@ -15,12 +15,12 @@ use Rattle.golf_syntax_trees.proofs.StatementInduction.{StmtLayer, bare_clause, 
 use Rattle.golf_data.specs.declared.code.Instr.{Instr}
 use Rattle.golf_check_types.specs.Statements as W
 use Rattle.golf_code_of.specs.declared.tables.Tables.{Tables}
-use Rattle.golf_code_of.specs.Statements.{Part}
+use Rattle.golf_code_of.specs.Statements.{StatementPart}
 use Rattle.golf_code_of.specs.Statements as L
 use Rattle.golf_code_of.specs.Loops as O
 use Rattle.golf_code_of.specs.Selects.{ClausePart}
-use Rattle.golf_code_of.specs.Laying.{stmt_part, clause_part, stmt_part_step, clause_part_step}
-use Rattle.golf_meaning_statements.specs.Selecting.{ClauseStep}
+use Rattle.golf_code_of.specs.StatementCode.{stmt_part, clause_part, stmt_part_step, clause_part_step}
+use Rattle.golf_meaning_statements.specs.Selects.{ClauseStep}
 use Rattle.golf_meaning_statements.specs.Statements.{step, clause_step, step_step, clause_step_step}
 use Rattle.golf_meaning_statements.specs.Steps.{Step, parts, in_order, block, forever, while, in_loop, stepping}
 use Rattle.golf_meaning_statements.specs.Steps.{optional, then_deed, for_deed}
@@ -56,18 +56,18 @@ module _ (taking : Taking) where
     -- a step carries along the part whose code it means
     carries : (y : Stmt-F ClauseStep Step)
         → (step_step taking t y).part ≡ stmt_part_step t
-        (map-Stmt ClauseStep Step ClausePart Part (λ c. c.part) (λ x. x.part) y)
+        (map-Stmt ClauseStep Step ClausePart StatementPart (λ c. c.part) (λ x. x.part) y)
     carries y = refl
 
     carries-clause : (y : Clause-F ClauseStep Step)
         → (clause_step_step taking t y).part ≡ clause_part_step t
-        (map-Clause ClauseStep Step ClausePart Part (λ c. c.part) (λ x. x.part) y)
+        (map-Clause ClauseStep Step ClausePart StatementPart (λ c. c.part) (λ x. x.part) y)
     carries-clause (F.Case k c body) = refl
     carries-clause (F.Default k body) = refl
 
     pub step-part : (x : Stmt) → (step taking t x).part ≡ stmt_part t x
     unfolding stmt_part clause_part step clause_step
-    step-part = carried ClauseStep Step (clause_step_step taking t) (step_step taking t) ClausePart Part
+    step-part = carried ClauseStep Step (clause_step_step taking t) (step_step taking t) ClausePart StatementPart
         (clause_part_step t) (stmt_part_step t) (λ c. c.part) (λ x. x.part) carries-clause carries
 
     abbrev P : Stmt → Type 0
@@ -139,5 +139,6 @@ module _ (taking : Taking) where
     step-means = every-stmt Q P clause-rolled rolled
 
   pub statements-mean : StatementsMean taking
-  statements-mean t x = subst (λ (p : Part). StatementMeans taking p.walk p.lay (step taking t x).deed) (step-part t x)
+  statements-mean t x = subst (λ (p : StatementPart). StatementMeans taking p.walk p.lay (step taking t x).deed)
+      (step-part t x)
       (step-means t x)

@@ -1,7 +1,7 @@
 -- The law of statements, as a statement.
 use Rattle.golf_syntax_trees.specs.declared.statements.Stmt.{Stmt}
 use Rattle.golf_code_of.specs.declared.tables.Tables.{Tables}
-use Rattle.golf_code_of.specs.Laying.{stmt_part}
+use Rattle.golf_code_of.specs.StatementCode.{stmt_part}
 use Rattle.golf_meaning_statements.specs.Statements.{step}
 use Rattle.golf_meaning_statements.specs.Follows.{StatementMeans}
 use Rattle.golf_meaning_source.specs.Operations.{Taking}

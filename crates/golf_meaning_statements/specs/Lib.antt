@@ -1,6 +1,9 @@
 pub mod Flows
 pub mod Steps
-pub mod Selecting
+pub mod Selects
 pub mod Statements
 pub mod Follows
 pub mod Laws
+pub mod Functions
+pub mod Files
+pub mod FunctionLaws

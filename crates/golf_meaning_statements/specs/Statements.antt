@@ -6,13 +6,13 @@ use Rattle.golf_syntax_trees.specs.declared.statements.Clause.TheOpen.{Stmt-F, C
 use Rattle.golf_syntax_trees.specs.declared.statements.Clause.TheFolds.{fold-Stmt, fold-Clause, map-Stmt}
 use Rattle.golf_data.specs.declared.code.Instr.{Instr}
 use Rattle.golf_code_of.specs.declared.tables.Tables.{Tables}
-use Rattle.golf_code_of.specs.Statements.{Part}
+use Rattle.golf_code_of.specs.Statements.{StatementPart}
 use Rattle.golf_code_of.specs.Selects.{ClausePart}
-use Rattle.golf_code_of.specs.Laying.{stmt_part_step}
+use Rattle.golf_code_of.specs.StatementCode.{stmt_part_step}
 use Rattle.golf_meaning_statements.specs.Flows.{Course, Flow}
 use Rattle.golf_meaning_statements.specs.Steps.{Deed, Step, var_deed, simple_deed, return_deed, block, if_deed}
 use Rattle.golf_meaning_statements.specs.Steps.{else_deed, for_deed, begin_deed}
-use Rattle.golf_meaning_statements.specs.Selecting.{ClauseStep, case_step, default_step, select_deed}
+use Rattle.golf_meaning_statements.specs.Selects.{ClauseStep, case_step, default_step, select_deed}
 use Rattle.golf_meaning_source.specs.Operations.{Taking}
 
 module _ (taking : Taking) where
@@ -33,7 +33,7 @@ module _ (taking : Taking) where
   abbrev pub step_step : Tables → Stmt-F ClauseStep Step → Step
   step_step t y = record {
     part = stmt_part_step t
-        (map-Stmt ClauseStep Step ClausePart Part (λ c. c.part) (λ x. x.part) y);
+        (map-Stmt ClauseStep Step ClausePart StatementPart (λ c. c.part) (λ x. x.part) y);
     deed = deed_step t y;
   }
 

@@ -16,34 +16,34 @@ use Rattle.golf_syntax_trees.specs.declared.statements.RangeNames.TheVariants as
 use Rattle.golf_data.specs.declared.value.Value.{Value}
 use Rattle.golf_data.specs.declared.code.Instr.{Instr}
 use Rattle.golf_model.specs.Values.{zero_of, bool_of}
-use Rattle.golf_model.specs.Calculating.{sum, difference, product, quotient, remainder}
+use Rattle.golf_model.specs.Arithmetic.{sum, difference, product, quotient, remainder}
 use Rattle.golf_check_types.specs.declared.operands.Operand.{Operand}
 use Rattle.golf_check_types.specs.declared.operands.Operand.TheVariants as operand
 use Rattle.golf_check_types.specs.declared.scopes.Scope.{Scope}
 use Rattle.golf_check_types.specs.Scopes.{begun}
 use Rattle.golf_check_types.specs.Written.{write_at}
-use Rattle.golf_check_types.specs.Judging.{judge_at}
+use Rattle.golf_check_types.specs.Judgments.{judge_at}
 use Rattle.golf_check_types.specs.Types.{is_slice, element}
 use Rattle.golf_check_types.specs.Names.{is_blank}
 use Rattle.golf_check_types.specs.Expressions.{given_by}
 use Rattle.golf_check_types.specs.declared.types.GoType.{GoType}
 use Rattle.golf_check_types.specs.Statements.{behind, is_outer, range_slots, int_type, bool_type, carried, is_new}
-use Rattle.golf_code_of.specs.declared.making.Around.{Around}
+use Rattle.golf_code_of.specs.declared.surroundings.Around.{Around}
 use Rattle.golf_code_of.specs.declared.tables.Tables.{Tables}
 use Rattle.golf_code_of.specs.Values.{zero_value}
 use Rattle.golf_code_of.specs.Calls as K
-use Rattle.golf_code_of.specs.Coding.{argument_at}
-use Rattle.golf_code_of.specs.Statements.{Part, past, within}
+use Rattle.golf_code_of.specs.ExpressionCode.{argument_at}
+use Rattle.golf_code_of.specs.Statements.{StatementPart, past, within}
 use Rattle.golf_code_of.specs.Statements as L
 use Rattle.golf_meaning_flat.specs.Worlds as W
 use Rattle.golf_meaning_flat.specs.Worlds.{Halt, World, bind, halted}
-use Rattle.golf_meaning_flat.specs.Doing.{unfit, computed, divided, compared}
+use Rattle.golf_meaning_flat.specs.InstructionEffects.{unfit, computed, divided, compared}
 use Rattle.golf_meaning_source.specs.Names.{Env}
 use Rattle.golf_meaning_source.specs.Operations.{Taking, Gives, gives, both, visible, on_two}
-use Rattle.golf_meaning_source.specs.Exprs.{Does, Location, Argument, values_of, if_none, read, store, dropped}
+use Rattle.golf_meaning_source.specs.Exprs.{Does, Location, ArgumentMeaning, values_of, if_none, read, store, dropped}
 use Rattle.golf_meaning_source.specs.Exprs.{int_value}
 use Rattle.golf_meaning_source.specs.Exprs.{name_does}
-use Rattle.golf_meaning_source.specs.Meaning.{meant, outer}
+use Rattle.golf_meaning_source.specs.ExpressionMeaning.{meant, outer}
 use Rattle.golf_meaning_statements.specs.Flows.{Course, Flow, on, after, then_flow, cut, ends_here, or_else, unfit_flow}
 use Rattle.golf_meaning_statements.specs.Flows.{guarded, by_test, tested, turned, turns, then_post}
 
@@ -83,13 +83,13 @@ Deed = Around → Scope → ℕ → Env → World → Flow
 
 -- a statement beside its code, of which only the walk and the made functions are used
 pub record Step : Type 0 where
-  pub part : Part
+  pub part : StatementPart
   pub deed : Deed
 
 abbrev pub nothing : Deed
 nothing a s n env w = Flow.Goes Course.On env w
 
-abbrev pub then_deed : Part → Deed → Deed → Deed
+abbrev pub then_deed : StatementPart → Deed → Deed → Deed
 then_deed x d e a s n env w = then_flow (d a s n env w) (e (past a (x.lay a s)) (behind s (x.walk s)) n)
 
 abbrev pub in_order : List Step → Deed
@@ -106,7 +106,7 @@ abbrev pub returned : List Value → World → Flow
 returned (v ∷ []) w = Flow.Ends (halted (Halt.Returned (Some v)) w.operations)
 returned _ w = unfit_flow w
 
-abbrev pub parts : List Step → List Part
+abbrev pub parts : List Step → List StatementPart
 parts xs = map (λ (x : Step). x.part) xs
 
 abbrev pub in_loop : ℕ → ℕ → Deed → Deed
@@ -240,11 +240,11 @@ module _ (taking : Taking) where
 
   -- Go and defer statements: receiver and arguments are evaluated now.
 
-  abbrev pub argument : Tables → ℕ → Scope → Env → Expr → Argument
+  abbrev pub argument : Tables → ℕ → Scope → Env → Expr → ArgumentMeaning
   argument t l s env e = record { meaning = (judge_at l s e).meaning; value = value_at t l s e env }
 
   -- begins a call by `go` or `defer`; the next function that is made has the number `next`
-  abbrev pub beginning : (ℕ → ℕ → Instr) → ℕ → Operand → List K.Argument → List Value → Gives
+  abbrev pub beginning : (ℕ → ℕ → Instr) → ℕ → Operand → List K.ArgumentCode → List Value → Gives
   beginning begin next (operand.Function k) xs = visible taking (begin (k + 1) (length xs)) []
   beginning begin next (operand.Method k) xs = visible taking (begin (k + 1) (length xs + 1)) []
   beginning begin next (operand.BuiltIn b) xs = visible taking (begin next (length (K.begun_parameters b xs))) []

@@ -4,10 +4,23 @@
 //! bounded number of rounds.
 #![tactic(auto)]
 
+ghost use Rattle.golf_meaning_statements.specs.FunctionLaws.{FilesAgree, FunctionsAgree};
 ghost use Rattle.golf_meaning_source.specs.Operations.{Taking};
 ghost use Rattle.golf_meaning_statements.specs.Laws.{StatementsMean};
 
 /// States that the code of a statement does what the statement does, however answers are taken.
 pub fn statements_mean()
     ensures { (taking : Taking) → StatementsMean taking }
+{}
+
+/// States that the code of a function and its source agree in both directions, for all answers.
+///
+/// There are as many arguments as parameters, and the source must not lack a rule.
+pub fn functions_agree()
+    ensures { FunctionsAgree }
+{}
+
+/// States that each function and method of a file has code of the same number that agrees with its source.
+pub fn files_agree()
+    ensures { FilesAgree }
 {}

@@ -1,10 +1,10 @@
 -- What is computed is what is derived: the objects that are reached, the live set and the dead goroutines.
--- For: `reach` (golf_model/specs/Reaching.antt) and `live_list`, `dead` (golf_model/specs/Living.antt)
+-- For: `reach` (golf_model/specs/Reach.antt) and `live_list`, `dead` (golf_model/specs/LiveSet.antt)
 -- By: induction over the list of objects, goroutines or nodes; otherwise the laws of what is reached
 use Rattle.golf_theory.specs.Maps.{find}
 use Rattle.golf_model.specs.Refs.{refs_of_goroutine}
-use Rattle.golf_model.specs.Reaching.{sources}
-use Rattle.golf_model.specs.Collecting.{prevents_removal, keeps, Keeps, retained, Retained}
+use Rattle.golf_model.specs.Reach.{sources}
+use Rattle.golf_model.specs.Collections.{prevents_removal, keeps, Keeps, retained, Retained}
 use Rattle.std.proofs.Common.{◌≡◌, ◌⊎◌, ℕ, Bool, true, false, not, ◌&&◌, List, [], ◌∷◌, ◌++◌, map, inl, inr, refl, sym}
 use Rattle.std.proofs.Common.{ap, ◌∙◌, subst, ◌==◌}
 use Rattle.std.proofs.lemmas.Bool.{or_cases, or_left, or_right, and_parts, and_from, eqb-true, eq-eqb}
@@ -20,15 +20,15 @@ use Rattle.golf_theory.proofs.Tests.{is_in-from, In-from, any_of-from, from_any_
 use Rattle.golf_data.specs.declared.value.Object.{Object}
 use Rattle.golf_model.specs.Views.{GoroutineView}
 use Rattle.golf_model.specs.Values.{refs}
-use Rattle.golf_model.specs.Waiting.{waits_of}
+use Rattle.golf_model.specs.Waiters.{waits_of}
 use Rattle.golf_model.specs.State.{State, is_running}
 use Rattle.golf_model.specs.Refs.{object_refs, goroutine_refs, waited, queue_refs, refs_if, refs_where}
 use Rattle.golf_model.specs.Refs.{goroutine_refs_where, has_finaliser}
-use Rattle.golf_model.specs.Reaching.{RefersTo, Reach, is_near, reach}
-use Rattle.golf_model.specs.Living.{Node, LiveRoot, LiveStep, Live, has_object, has_goroutine, is_awakened, awakes}
-use Rattle.golf_model.specs.Living.{is_live_next, named_objects, nodes, live_list, is_dead, dead, Dead}
+use Rattle.golf_model.specs.Reach.{RefersTo, Reach, is_near, reach}
+use Rattle.golf_model.specs.LiveSet.{Node, LiveRoot, LiveStep, Live, has_object, has_goroutine, is_awakened, awakes}
+use Rattle.golf_model.specs.LiveSet.{is_live_next, named_objects, nodes, live_list, is_dead, dead, Dead}
 
--- ---- references in what passes a test
+-- ---- references in what satisfies a test
 
 refs_if-true : (b : Bool) (o : ℕ) (xs : List ℕ) → In o (refs_if b xs) → (b ≡ true) × In o xs
 refs_if-true true o xs h = (refl, h)

@@ -1,5 +1,5 @@
 -- Waiters by rising ticket, and the first of them.
--- For: `first`, `waiters` (golf_model/specs/Waiting.antt) and `waiters_law` (src/laws.rt)
+-- For: `first`, `waiters` (golf_model/specs/Waiters.antt) and `waiters_law` (src/laws.rt)
 -- By: induction over the list of goroutines, and over the list of waiters
 use Rattle.std.proofs.Common.{◌≡◌, ℕ, ◌≤◌, true, false, cond, List, [], ◌∷◌, Option, Some, None, ◌⊎◌, inl, inr, refl}
 use Rattle.std.proofs.Common.{ap, ◌∙◌, subst, sym, arith}
@@ -8,7 +8,7 @@ use Rattle.std.proofs.lemmas.Bool.{ltb-true, ltb-false}
 use Rattle.golf_theory.specs.Membership.{In, Every}
 use Rattle.golf_data.specs.declared.goroutine.Side.{Side}
 use Rattle.golf_model.specs.Views.{GoroutineView}
-use Rattle.golf_model.specs.Waiting.{Waiter, waiter_ticket, waiter_of, earlier, first, by_ticket, enter, waiters}
+use Rattle.golf_model.specs.Waiters.{Waiter, waiter_ticket, waiter_of, earlier, first, by_ticket, enter, waiters}
 use Rattle.golf_model.specs.Laws.{head, TicketsRise, IsWaiterOf}
 
 -- ---- the first is the head

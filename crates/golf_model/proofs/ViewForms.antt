@@ -1,5 +1,5 @@
 -- Views of goroutines and frames: what is added at the end of a list stands on top.
--- For: `frame_views` (golf_model/specs/Views.antt) and `taking` (golf_model/specs/Acting.antt)
+-- For: `frame_views` (golf_model/specs/Views.antt) and `taking` (golf_model/specs/Actors.antt)
 -- By: induction over the list of values that are taken
 use Rattle.std.proofs.Common.{◌≡◌, ℕ, zero, suc, ◌<◌, List, [], ◌∷◌, ◌++◌, map, length, refl, ap, ◌∙◌, sym, arith}
 use Rattle.std.specs.Prelude.{reverse}
@@ -9,7 +9,7 @@ use Rattle.golf_data.specs.declared.value.Value.{Value}
 use Rattle.golf_data.specs.declared.goroutine.Frame.{Frame}
 use Rattle.golf_model.specs.Views.{frame_view, frame_views}
 use Rattle.golf_model.specs.Changes.{Change}
-use Rattle.golf_model.specs.Acting.{taking_from, taking}
+use Rattle.golf_model.specs.Actors.{taking_from, taking}
 
 pub reverse-push : {X : Type 0} (xs : List X) (x : X) → reverse (xs ++ x ∷ []) ≡ x ∷ reverse xs
 reverse-push xs x = reverse-append xs (x ∷ [])

@@ -11,9 +11,9 @@ use Rattle.golf_data.specs.declared.goroutine.Mode.{Mode}
 use Rattle.golf_data.specs.declared.goroutine.PanicKind.{PanicKind}
 use Rattle.golf_model.specs.Views.{FrameView}
 use Rattle.golf_model.specs.State.{call_frame}
-use Rattle.golf_model.specs.Waking.{unwinding}
+use Rattle.golf_model.specs.Wakes.{unwinding}
 use Rattle.golf_model.specs.Changes.{Change}
-use Rattle.golf_model.specs.Acting.{Actor, with_frames, next, stands, goes, dies, on_some, taking_one, taking, choose}
+use Rattle.golf_model.specs.Actors.{Actor, with_frames, next, stands, goes, dies, on_some, taking_one, taking, choose}
 
 -- the most frames of a goroutine (this runtime's rule)
 abbrev pub most_frames : ℕ

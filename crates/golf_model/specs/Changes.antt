@@ -10,7 +10,7 @@ use Rattle.golf_data.specs.declared.goroutine.Wait.{Wait}
 use Rattle.golf_data.specs.declared.goroutine.WaitKind.{WaitKind}
 use Rattle.golf_model.specs.Views.{GoroutineView}
 use Rattle.golf_model.specs.State.{State}
-use Rattle.golf_model.specs.Waking.{Waking, woken_by, released}
+use Rattle.golf_model.specs.Wakes.{Waking, woken_by, released}
 
 pub data Change : Type 0 where
   -- the object gets the next object number
@@ -35,8 +35,8 @@ pub data Change : Type 0 where
   Output : (bytes : List ℕ) → Change
   -- all goroutines that wait on the object are woken
   WakeAll : (o : ℕ) (how : Waking) → Change
-  -- a goroutine that waits on a condition is passed on to the condition's mutex
-  PassOn : (g m : ℕ) → Change
+  -- a goroutine that waits on a condition is requeued on the condition's mutex
+  Requeue : (g m : ℕ) → Change
 
 abbrev pub make : Object → State → State
 make x s = record s { objects = add (s.last_object + 1) x s.objects; last_object = s.last_object + 1 }
@@ -106,23 +106,23 @@ move_wait g m r s =
 
 -- an unlocked mutex becomes locked and the goroutine runs; for a locked one the goroutine waits from now on (package
 -- sync, `Cond.Wait`: it "locks c.L before returning"; the order is this runtime's rule)
-abbrev pub pass_on_by : Bool → ℕ → ℕ → GoroutineView → State → State
-pass_on_by false g m r s = replace m (Object.Mutex true) (become g (released r) s)
-pass_on_by true g m r s = move_wait g m r s
+abbrev pub requeue_by : Bool → ℕ → ℕ → GoroutineView → State → State
+requeue_by false g m r s = replace m (Object.Mutex true) (become g (released r) s)
+requeue_by true g m r s = move_wait g m r s
 
-abbrev pub pass_on_at : Object → ℕ → ℕ → GoroutineView → State → State
-pass_on_at (Object.Struct fields) g m r s = s
-pass_on_at (Object.Slice elements) g m r s = s
-pass_on_at (Object.Chan c) g m r s = s
-pass_on_at (Object.Mutex locked) g m r s = pass_on_by locked g m r s
-pass_on_at (Object.Group n) g m r s = s
-pass_on_at (Object.Rw n) g m r s = s
-pass_on_at (Object.Cond v) g m r s = s
+abbrev pub requeue_at : Object → ℕ → ℕ → GoroutineView → State → State
+requeue_at (Object.Struct fields) g m r s = s
+requeue_at (Object.Slice elements) g m r s = s
+requeue_at (Object.Chan c) g m r s = s
+requeue_at (Object.Mutex locked) g m r s = requeue_by locked g m r s
+requeue_at (Object.Group n) g m r s = s
+requeue_at (Object.Rw n) g m r s = s
+requeue_at (Object.Cond v) g m r s = s
 
-abbrev pub pass_on : ℕ → ℕ → Option GoroutineView → Option Object → State → State
-pass_on g m None x s = s
-pass_on g m (Some r) None s = s
-pass_on g m (Some r) (Some x) s = pass_on_at x g m r s
+abbrev pub requeue : ℕ → ℕ → Option GoroutineView → Option Object → State → State
+requeue g m None x s = s
+requeue g m (Some r) None s = s
+requeue g m (Some r) (Some x) s = requeue_at x g m r s
 
 abbrev pub apply : Change → State → State
 apply (Change.Make x) s = make x s
@@ -138,7 +138,7 @@ apply (Change.ClearFinaliser o) s = clear_finaliser o s
 apply Change.TakeQueued s = take_queued s
 apply (Change.Output bytes) s = output bytes s
 apply (Change.WakeAll o how) s = wake_all o how s
-apply (Change.PassOn g m) s = pass_on g m (find g s.goroutines) (find m s.objects) s
+apply (Change.Requeue g m) s = requeue g m (find g s.goroutines) (find m s.objects) s
 
 -- the changes one after another
 abbrev pub apply_all : List Change → State → State

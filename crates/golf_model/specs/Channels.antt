@@ -9,11 +9,11 @@ use Rattle.golf_data.specs.declared.goroutine.Side.{Side}
 use Rattle.golf_data.specs.declared.goroutine.WaitKind.{WaitKind}
 use Rattle.golf_model.specs.Views.{FrameView}
 use Rattle.golf_model.specs.State.{State}
-use Rattle.golf_model.specs.Waiting.{Waiter, first, send_wait, receive_wait}
-use Rattle.golf_model.specs.Waking.{Waking, received, resumed}
+use Rattle.golf_model.specs.Waiters.{Waiter, first, send_wait, receive_wait}
+use Rattle.golf_model.specs.Wakes.{Waking, received, resumed}
 use Rattle.golf_model.specs.Changes.{Change}
-use Rattle.golf_model.specs.Acting.{Actor, next, stands, goes, panics, blocks, taking_one, taking_two, choose}
-use Rattle.golf_model.specs.Acting.{at_reference_or, at_channel}
+use Rattle.golf_model.specs.Actors.{Actor, next, stands, goes, panics, blocks, taking_one, taking_two, choose}
+use Rattle.golf_model.specs.Actors.{at_reference_or, at_channel}
 
 -- the waiter goes on with these values
 abbrev pub served : Waiter → List Value → Change

@@ -7,10 +7,10 @@ use Rattle.golf_data.specs.declared.goroutine.PanicKind.{PanicKind}
 use Rattle.golf_data.specs.declared.goroutine.Side.{Side}
 use Rattle.golf_data.specs.declared.goroutine.WaitKind.{WaitKind}
 use Rattle.golf_model.specs.State.{State}
-use Rattle.golf_model.specs.Waiting.{Waiter, first, waiters}
+use Rattle.golf_model.specs.Waiters.{Waiter, first, waiters}
 use Rattle.golf_model.specs.Changes.{Change}
-use Rattle.golf_model.specs.Acting.{Actor, goes, dies, taking_one, at_reference, at_reference_or, at_mutex}
-use Rattle.golf_model.specs.Acting.{at_condition}
+use Rattle.golf_model.specs.Actors.{Actor, goes, dies, taking_one, at_reference, at_reference_or, at_mutex}
+use Rattle.golf_model.specs.Actors.{at_condition}
 use Rattle.golf_model.specs.Mutexes.{hands_over, blocks_on}
 use Rattle.golf_model.specs.Structures.{makes}
 
@@ -38,10 +38,10 @@ awaits a s =
     (λ m. at_reference a (λ p. at_mutex (awaits_by a rest s o p) (find p s.objects)) m) (find o s.objects)) c)
     a.frame.operands
 
--- each of the waiters is passed on to the mutex, in the order of the list
-abbrev pub passes_on : ℕ → List Waiter → List Change
-passes_on m [] = []
-passes_on m (w ∷ ws) = Change.PassOn w.number m ∷ passes_on m ws
+-- each of the waiters is requeued on the mutex, in the order of the list
+abbrev pub requeues : ℕ → List Waiter → List Change
+requeues m [] = []
+requeues m (w ∷ ws) = Change.Requeue w.number m ∷ requeues m ws
 
 abbrev pub first_only : Option Waiter → List Waiter
 first_only None = []
@@ -51,15 +51,15 @@ first_only (Some w) = w ∷ []
 abbrev pub notifies : Actor → List Value → State → List Waiter → Value → List Change
 notifies a rest s [] m = goes a rest
 notifies a rest s (w ∷ ws) m = at_reference_or []
-    (λ p. at_mutex (λ locked. goes a rest ++ passes_on p (w ∷ ws)) (find p s.objects)) m
+    (λ p. at_mutex (λ locked. goes a rest ++ requeues p (w ∷ ws)) (find p s.objects)) m
 
--- `c ->`; the first waiter, if any, is passed on
+-- `c ->`; the first waiter, if any, is requeued
 abbrev pub signals : Actor → State → List Change
 signals a s =
     taking_one (λ c rest. at_reference a (λ o. at_condition
     (notifies a rest s (first_only (first o Side.Cond s.goroutines))) (find o s.objects)) c) a.frame.operands
 
--- `c ->`; each waiter is passed on, by rising ticket (this runtime's rule)
+-- `c ->`; each waiter is requeued, by rising ticket (this runtime's rule)
 abbrev pub broadcasts : Actor → State → List Change
 broadcasts a s =
     taking_one (λ c rest. at_reference a (λ o. at_condition (notifies a rest s (waiters o Side.Cond s.goroutines))

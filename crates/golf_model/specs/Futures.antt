@@ -11,10 +11,10 @@ use Rattle.golf_model.specs.Values.{refs}
 use Rattle.golf_model.specs.State.{State, ending, start}
 use Rattle.golf_model.specs.Turn.{step}
 use Rattle.golf_model.specs.Refs.{object_refs, goroutine_refs, queue_refs}
-use Rattle.golf_model.specs.Living.{dead, live_objects}
-use Rattle.golf_model.specs.Collecting.{sets_finalisers, plain_collect, real_collect}
-use Rattle.golf_model.specs.Running.{Event, run, stops_by, finaliser_calls}
-use Rattle.golf_model.specs.Reporting.{entries, without}
+use Rattle.golf_model.specs.LiveSet.{dead, live_objects}
+use Rattle.golf_model.specs.Collections.{sets_finalisers, plain_collect, real_collect}
+use Rattle.golf_model.specs.Runs.{Event, run, stops_by, finaliser_calls}
+use Rattle.golf_model.specs.Reports.{entries, without}
 
 -- the goroutine stays as it is now whatever happens: the same frames, mode, waits and ticket
 abbrev pub Still : Code → State → ℕ → Type 0

@@ -4,13 +4,13 @@ use Rattle.golf_theory.specs.Membership.{In, Every}
 use Rattle.golf_theory.specs.Maps.{Entry}
 use Rattle.golf_data.specs.declared.goroutine.Side.{Side}
 use Rattle.golf_model.specs.Views.{GoroutineView}
-use Rattle.golf_model.specs.Waiting.{Waiter, waiter_ticket, waiter_of, first, waiters}
+use Rattle.golf_model.specs.Waiters.{Waiter, waiter_ticket, waiter_of, first, waiters}
 use Rattle.golf_model.specs.State.{State}
-use Rattle.golf_model.specs.Reaching.{Reach, reach}
+use Rattle.golf_model.specs.Reach.{Reach, reach}
 use Rattle.golf_model.specs.declared.graph.GraphParts.{GraphParts}
 use Rattle.golf_model.specs.Graph.{Least, least_places}
-use Rattle.golf_model.specs.Collecting.{Keeps, keeps, Retained, retained}
-use Rattle.golf_model.specs.Living.{Node, Live, live_list, Dead, dead}
+use Rattle.golf_model.specs.Collections.{Keeps, keeps, Retained, retained}
+use Rattle.golf_model.specs.LiveSet.{Node, Live, live_list, Dead, dead}
 
 -- the computed objects are exactly the reached ones
 abbrev pub ReachComputed : Type 0

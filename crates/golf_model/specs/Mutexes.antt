@@ -8,12 +8,12 @@ use Rattle.golf_data.specs.declared.goroutine.Side.{Side}
 use Rattle.golf_data.specs.declared.goroutine.WaitKind.{WaitKind}
 use Rattle.golf_model.specs.Values.{int_of, is_zero}
 use Rattle.golf_model.specs.State.{State}
-use Rattle.golf_model.specs.Waiting.{Waiter, first, bare_wait}
-use Rattle.golf_model.specs.Waking.{Waking, released}
+use Rattle.golf_model.specs.Waiters.{Waiter, first, bare_wait}
+use Rattle.golf_model.specs.Wakes.{Waking, released}
 use Rattle.golf_model.specs.Changes.{Change}
-use Rattle.golf_model.specs.Acting.{Actor, next, goes, panics, dies, blocks, on_some, taking_one, taking_two, choose}
-use Rattle.golf_model.specs.Acting.{at_reference, at_mutex, at_group}
-use Rattle.golf_model.specs.Calculating.{sum}
+use Rattle.golf_model.specs.Actors.{Actor, next, goes, panics, dies, blocks, on_some, taking_one, taking_two, choose}
+use Rattle.golf_model.specs.Actors.{at_reference, at_mutex, at_group}
+use Rattle.golf_model.specs.Arithmetic.{sum}
 
 -- the waiter runs, and is given nothing
 abbrev pub runs : Waiter → Change

@@ -10,10 +10,10 @@ use Rattle.golf_data.specs.declared.goroutine.WaitKind.{WaitKind}
 use Rattle.golf_model.specs.Views.{GoroutineView}
 use Rattle.golf_model.specs.Values.{is_zero, is_minus_one}
 use Rattle.golf_model.specs.State.{State}
-use Rattle.golf_model.specs.Waiting.{Waiter, waiter_ticket, first}
-use Rattle.golf_model.specs.Waking.{Waking, reads_next}
+use Rattle.golf_model.specs.Waiters.{Waiter, waiter_ticket, first}
+use Rattle.golf_model.specs.Wakes.{Waking, reads_next}
 use Rattle.golf_model.specs.Changes.{Change}
-use Rattle.golf_model.specs.Acting.{Actor, goes, dies, taking_one, choose, at_reference, at_rw}
+use Rattle.golf_model.specs.Actors.{Actor, goes, dies, taking_one, choose, at_reference, at_rw}
 use Rattle.golf_model.specs.Mutexes.{runs, blocks_on}
 
 -- the count becomes n

@@ -10,7 +10,7 @@ use Rattle.golf_data.specs.declared.goroutine.Queued.{Queued}
 use Rattle.golf_data.specs.declared.goroutine.Wait.{Wait}
 use Rattle.golf_model.specs.Views.{FrameView, GoroutineView}
 use Rattle.golf_model.specs.Values.{value_refs, refs}
-use Rattle.golf_model.specs.Waiting.{waits_of}
+use Rattle.golf_model.specs.Waiters.{waits_of}
 use Rattle.golf_model.specs.State.{State}
 
 -- the references in an object
@@ -73,12 +73,12 @@ abbrev pub refs_if : Bool → List ℕ → List ℕ
 refs_if true xs = xs
 refs_if false xs = []
 
--- the references in the objects that pass the test
+-- the references in the objects that satisfy the test
 abbrev pub refs_where : (ℕ → Bool) → List (ℕ × Object) → List ℕ
 refs_where test [] = []
 refs_where test (e ∷ es) = refs_if (test e.0) (object_refs e.1) ++ refs_where test es
 
--- the references in the goroutines that pass the test
+-- the references in the goroutines that satisfy the test
 abbrev pub goroutine_refs_where : (ℕ → Bool) → List (ℕ × GoroutineView) → List ℕ
 goroutine_refs_where test [] = []
 goroutine_refs_where test (e ∷ es) = refs_if (test e.0) (goroutine_refs e.1) ++ goroutine_refs_where test es

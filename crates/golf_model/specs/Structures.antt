@@ -10,8 +10,8 @@ use Rattle.golf_data.specs.declared.goroutine.PanicKind.{PanicKind}
 use Rattle.golf_model.specs.Values.{reference, int_of, zero_of, zeros_of}
 use Rattle.golf_model.specs.State.{State}
 use Rattle.golf_model.specs.Changes.{Change}
-use Rattle.golf_model.specs.Acting.{Actor, goes, leaves, panics, on_some, taking_one, taking_two, taking_three, choose}
-use Rattle.golf_model.specs.Acting.{at_reference, at_reference_or, at_struct, at_slice}
+use Rattle.golf_model.specs.Actors.{Actor, goes, leaves, panics, on_some, taking_one, taking_two, taking_three, choose}
+use Rattle.golf_model.specs.Actors.{at_reference, at_reference_or, at_struct, at_slice}
 
 -- a new object, with the reference to it on top of these operands
 abbrev pub makes : Actor → Object → List Value → State → List Change

@@ -13,20 +13,20 @@ use Rattle.golf_model.specs.Views.{FrameView, GoroutineView}
 use Rattle.golf_model.specs.Values.{text_of, line_bytes}
 use Rattle.golf_model.specs.State.{State, runnable, not_empty}
 use Rattle.golf_model.specs.Changes.{Change, apply_all}
-use Rattle.golf_model.specs.Acting.{Actor, goes, jumps, panics, on_some, taking_one, taking}
-use Rattle.golf_model.specs.Calculating.{pushes, loads, stores, loads_global, stores_global, drops, doubles}
-use Rattle.golf_model.specs.Calculating.{doubles_two, negates, inverts, computes, divides, compares, sum, difference}
-use Rattle.golf_model.specs.Calculating.{product, quotient, remainder, equates, jumps_unless}
+use Rattle.golf_model.specs.Actors.{Actor, goes, jumps, panics, on_some, taking_one, taking}
+use Rattle.golf_model.specs.Arithmetic.{pushes, loads, stores, loads_global, stores_global, drops, doubles}
+use Rattle.golf_model.specs.Arithmetic.{doubles_two, negates, inverts, computes, divides, compares, sum, difference}
+use Rattle.golf_model.specs.Arithmetic.{product, quotient, remainder, equates, jumps_unless}
 use Rattle.golf_model.specs.Structures.{makes, makes_struct, gets_field, sets_field, makes_slice, makes_channel}
 use Rattle.golf_model.specs.Structures.{gets_element, sets_element, measures}
 use Rattle.golf_model.specs.Channels.{sends, receives, closes}
-use Rattle.golf_model.specs.Selecting.{selects}
+use Rattle.golf_model.specs.Selects.{selects}
 use Rattle.golf_model.specs.Mutexes.{locks, unlocks, adds, waits}
 use Rattle.golf_model.specs.ReadersWriters.{write_locks, write_unlocks, read_locks, read_unlocks}
 use Rattle.golf_model.specs.Conditions.{makes_condition, gets_mutex, awaits, signals, broadcasts}
 use Rattle.golf_model.specs.Calls.{calls, spawns, defers, returns, returns_value, leaves_returning, leaves_unwinding}
-use Rattle.golf_model.specs.Finalising.{finalises, unfinalises, begins_queued}
-use Rattle.golf_model.specs.Clearing.{clearing}
+use Rattle.golf_model.specs.Finalisers.{finalises, unfinalises, begins_queued}
+use Rattle.golf_model.specs.ClearedSlots.{clearing}
 
 -- takes n operands and prints them as a line
 abbrev pub prints : Code → Actor → ℕ → List Change

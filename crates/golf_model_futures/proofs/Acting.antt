@@ -1,5 +1,5 @@
 -- The turn of a goroutine of the set: the ways in which it goes are good.
--- For: `goes`, `blocks`, `at_reference`, golf_model/specs/Acting.antt; `AllGood`, specs/Invariant.antt
+-- For: `goes`, `blocks`, `at_reference`, golf_model/specs/Actors.antt; `AllGood`, specs/Invariant.antt
 -- By: cases of the value, the object or the option that a way meets; no induction
 use Rattle.std.proofs.Common.{◌≡◌, ℕ, zero, suc, Bool, true, false, List, [], ◌∷◌, Option, Some, None, refl, ℤ}
 use Rattle.golf_theory.specs.Membership.{In, Every}
@@ -16,13 +16,13 @@ use Rattle.golf_data.specs.declared.goroutine.WaitKind.{WaitKind}
 use Rattle.golf_model.specs.Views.{FrameView, GoroutineView}
 use Rattle.golf_model.specs.Values.{value_refs, refs}
 use Rattle.golf_model.specs.State.{State}
-use Rattle.golf_model.specs.Waiting.{Waiter, waits_of, first}
-use Rattle.golf_model.specs.Waking.{fault, unwinding}
+use Rattle.golf_model.specs.Waiters.{Waiter, waits_of, first}
+use Rattle.golf_model.specs.Wakes.{fault, unwinding}
 use Rattle.golf_model.specs.Changes.{Change}
-use Rattle.golf_model.specs.Acting.{Actor, standing, next, stands, goes, jumps, leaves, panics, dies, blocks, on_some}
-use Rattle.golf_model.specs.Acting.{taking_one, taking_two, taking_three, taking_from, taking, choose, at_reference}
-use Rattle.golf_model.specs.Acting.{at_reference_or, at_struct, at_slice, at_channel, at_mutex, at_group, at_rw}
-use Rattle.golf_model.specs.Acting.{at_condition}
+use Rattle.golf_model.specs.Actors.{Actor, standing, next, stands, goes, jumps, leaves, panics, dies, blocks, on_some}
+use Rattle.golf_model.specs.Actors.{taking_one, taking_two, taking_three, taking_from, taking, choose, at_reference}
+use Rattle.golf_model.specs.Actors.{at_reference_or, at_struct, at_slice, at_channel, at_mutex, at_group, at_rw}
+use Rattle.golf_model.specs.Actors.{at_condition}
 use Rattle.golf_model.specs.Refs.{object_refs, wait_refs, goroutine_refs, queue_refs, waited}
 use Rattle.golf_model_futures.specs.Invariant.{AllGood, ActorIn, FrameIn}
 use Rattle.golf_model_futures.proofs.RefLaws.{Val, Vals, vals-cons, vals-head, vals-tail, frames-cons, goroutine-both}

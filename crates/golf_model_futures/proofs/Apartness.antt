@@ -1,5 +1,5 @@
 -- What a removed goroutine reaches stays apart from all that goes on.
--- For: `recovery_unseen`, src/lib.rt; `plain_collect`, `removed`, golf_model/specs/Collecting.antt
+-- For: `recovery_unseen`, src/lib.rt; `plain_collect`, `removed`, golf_model/specs/Collections.antt
 -- By: cases of how an object would be a member of the closed set; no induction
 use Rattle.std.proofs.Common.{◌≡◌, ℕ, ◌≤◌, true, false, not, List, [], inl, inr, sym, ap, subst, arith}
 use Rattle.std.proofs.lemmas.Bool.{or_parts, both_ways}
@@ -14,9 +14,9 @@ use Rattle.golf_data.specs.declared.value.Object.{Object}
 use Rattle.golf_model.specs.Views.{GoroutineView}
 use Rattle.golf_model.specs.State.{State}
 use Rattle.golf_model.specs.Refs.{object_refs, goroutine_refs, has_finaliser, refs_of_goroutine}
-use Rattle.golf_model.specs.Reaching.{RefersTo, reach, sources}
-use Rattle.golf_model.specs.Living.{Node, Live, live_list, has_object}
-use Rattle.golf_model.specs.Collecting.{plain_collect}
+use Rattle.golf_model.specs.Reach.{RefersTo, reach, sources}
+use Rattle.golf_model.specs.LiveSet.{Node, Live, live_list, has_object}
+use Rattle.golf_model.specs.Collections.{plain_collect}
 use Rattle.golf_model.specs.Futures.{Numbered, UpTo}
 use Rattle.golf_model.proofs.Agreeing.{reach-sound, live_list-complete, has_object-complete}
 use Rattle.golf_model_futures.specs.Invariant.{Confined}

@@ -1,5 +1,5 @@
 -- After the clearing of a turn the goroutine refers to less, and a cut state is cleared like the whole one.
--- For: `clearing`, `clears`, golf_model/specs/Clearing.antt
+-- For: `clearing`, `clears`, golf_model/specs/ClearedSlots.antt
 -- By: cases of the goroutine, its mode and its frames; no induction
 use Rattle.std.proofs.Common.{◌≡◌, ℕ, Bool, true, false, List, [], ◌∷◌, Option, Some, None, refl, ap, subst}
 use Rattle.golf_theory.specs.Membership.{Every}
@@ -11,8 +11,8 @@ use Rattle.golf_data.specs.declared.goroutine.Mode.{Mode}
 use Rattle.golf_model.specs.Views.{FrameView, GoroutineView}
 use Rattle.golf_model.specs.State.{State, is_running}
 use Rattle.golf_model.specs.Changes.{apply_all}
-use Rattle.golf_model.specs.Clearing.{mask_at, stays_in, cleared, clears_in, clears, clearing}
-use Rattle.golf_model.specs.Collecting.{cut}
+use Rattle.golf_model.specs.ClearedSlots.{mask_at, stays_in, cleared, clears_in, clears, clearing}
+use Rattle.golf_model.specs.Collections.{cut}
 use Rattle.golf_model.specs.Refs.{frames_refs, goroutine_refs}
 use Rattle.golf_model_futures.specs.Invariant.{AllGood, Closed, FrameIn}
 use Rattle.golf_model_futures.proofs.RefLaws.{vals-cleared, frames-cons, frames-head, frames-tail, goroutine-frames}

@@ -17,10 +17,10 @@ use Rattle.golf_data.specs.declared.goroutine.Wait.{Wait}
 use Rattle.golf_model.specs.Views.{GoroutineView}
 use Rattle.golf_model.specs.Values.{value_refs, refs}
 use Rattle.golf_model.specs.State.{State}
-use Rattle.golf_model.specs.Waiting.{waits_of}
-use Rattle.golf_model.specs.Waking.{Waking, woken_by, released}
-use Rattle.golf_model.specs.Changes.{Change, apply, replace, become, behind_first, moved, moved_waits, pass_on}
-use Rattle.golf_model.specs.Changes.{pass_on_at, pass_on_by}
+use Rattle.golf_model.specs.Waiters.{waits_of}
+use Rattle.golf_model.specs.Wakes.{Waking, woken_by, released}
+use Rattle.golf_model.specs.Changes.{Change, apply, replace, become, behind_first, moved, moved_waits, requeue}
+use Rattle.golf_model.specs.Changes.{requeue_at, requeue_by}
 use Rattle.golf_model.specs.Refs.{object_refs, wait_refs, goroutine_refs, queue_refs}
 use Rattle.golf_model_futures.specs.Invariant.{Closed, Good, GoodWaking}
 use Rattle.golf_model_futures.proofs.RefLaws.{vals-set, goroutine-both, goroutine-frames, goroutine-waits}
@@ -36,7 +36,7 @@ closed-ground O G s c = record {
   awake = c.awake;
 }
 
--- the waits of a goroutine that is passed on
+-- the waits of a goroutine that is requeued
 pub moved_waits-in : (O : ℕ → Type 0) (m : ℕ) (ws : List Wait) → O m → Every O (wait_refs ws)
     → Every O (wait_refs (moved_waits m ws))
 moved_waits-in O m [] i a = tt
@@ -158,26 +158,26 @@ module _ (O G : ℕ → Type 0) (s : State) (c : Closed s O G) where
           subst (λ z. (G g × Every O (goroutine_refs z)) ⊎ Entry s.goroutines g z) (sym r.2)
           (case g r.0 r.1 (woken-cases how o r.0))
 
--- passing on
+-- requeueing
 module _ (O G : ℕ → Type 0) (s : State) (c : Closed s O G) (g m : ℕ) (i : G g) (j : O m) where
-  closed-pass_on_by : (locked : Bool) (r : GoroutineView) → Every O (goroutine_refs r)
-      → Closed (pass_on_by locked g m r s) O G
-  closed-pass_on_by false r a = closed-replace O G (become g (released r) s)
+  closed-requeue_by : (locked : Bool) (r : GoroutineView) → Every O (goroutine_refs r)
+      → Closed (requeue_by locked g m r s) O G
+  closed-requeue_by false r a = closed-replace O G (become g (released r) s)
       (closed-put O G s c g (released r) s.next_ticket i (released-in O r a)) m (Object.Mutex true) tt
-  closed-pass_on_by true r a =
+  closed-requeue_by true r a =
       let q : GoroutineView = record r { mode = moved m s.next_ticket r.mode } in
       closed-put O G s c g q (s.next_ticket + 1) i
       (goroutine-both O q (goroutine-frames O r a) (moved-in O m s.next_ticket r.mode j (goroutine-waits O r a)))
 
-  closed-pass_on_at : (x : Object) (r : GoroutineView) → Every O (goroutine_refs r) → Closed (pass_on_at x g m r s) O G
-  closed-pass_on_at (Object.Mutex locked) r a = closed-pass_on_by locked r a
-  closed-pass_on_at _ r a = c
+  closed-requeue_at : (x : Object) (r : GoroutineView) → Every O (goroutine_refs r) → Closed (requeue_at x g m r s) O G
+  closed-requeue_at (Object.Mutex locked) r a = closed-requeue_by locked r a
+  closed-requeue_at _ r a = c
 
-  closed-pass_on : (r : Option GoroutineView) (x : Option Object)
-      → ((q : GoroutineView) → r ≡ Some q → Every O (goroutine_refs q)) → Closed (pass_on g m r x s) O G
-  closed-pass_on None x h = c
-  closed-pass_on (Some r) None h = c
-  closed-pass_on (Some r) (Some x) h = closed-pass_on_at x r (h r refl)
+  closed-requeue : (r : Option GoroutineView) (x : Option Object)
+      → ((q : GoroutineView) → r ≡ Some q → Every O (goroutine_refs q)) → Closed (requeue g m r x s) O G
+  closed-requeue None x h = c
+  closed-requeue (Some r) None h = c
+  closed-requeue (Some r) (Some x) h = closed-requeue_at x r (h r refl)
 
 -- once for each kind of change
 pub closed_change : (O G F : ℕ → Type 0) (s : State) (c : Change) → Closed s O G → Good O G F c → Closed (apply c s) O G
@@ -219,6 +219,6 @@ closed_change O G F s Change.TakeQueued h a =
 closed_change O G F s (Change.Output bytes) h a =
     closed-rest O G s h s.globals s.queue (s.output ++ bytes) s.recorded h.globals h.queue
 closed_change O G F s (Change.WakeAll o how) h a = closed-wake_all O G s h o how a.0 a.1
-closed_change O G F s (Change.PassOn g m) h a =
-    closed-pass_on O G s h g m a.0 a.1 (find g s.goroutines) (find m s.objects)
+closed_change O G F s (Change.Requeue g m) h a =
+    closed-requeue O G s h g m a.0 a.1 (find g s.goroutines) (find m s.objects)
     (λ q e. h.goroutines g q a.0 (Entry-find g s.goroutines q e))

@@ -1,5 +1,5 @@
 -- A collection keeps closed sets: the finalised objects that it queues join them.
--- For: `plain_collect`, golf_model/specs/Collecting.antt; `Closed`, specs/Invariant.antt
+-- For: `plain_collect`, golf_model/specs/Collections.antt; `Closed`, specs/Invariant.antt
 -- By: induction over the lists of entries, of waits and of queued calls
 use Rattle.std.proofs.Common.{◌≡◌, ℕ, Bool, true, false, not, List, [], ◌∷◌, ◌++◌, ◌⊎◌, inl, inr, refl, sym, ap, ◌∙◌}
 use Rattle.std.proofs.Common.{subst}
@@ -17,11 +17,11 @@ use Rattle.golf_data.specs.declared.goroutine.Wait.{Wait}
 use Rattle.golf_model.specs.Views.{GoroutineView}
 use Rattle.golf_model.specs.Values.{value_refs, refs}
 use Rattle.golf_model.specs.State.{State}
-use Rattle.golf_model.specs.Waiting.{waits_of}
+use Rattle.golf_model.specs.Waiters.{waits_of}
 use Rattle.golf_model.specs.Refs.{object_refs, frames_refs, wait_refs, goroutine_refs, queue_refs, waited, refs_where}
 use Rattle.golf_model.specs.Refs.{refs_if, goroutine_refs_where}
-use Rattle.golf_model.specs.Reaching.{reach, sources, is_near}
-use Rattle.golf_model.specs.Collecting.{queued, plain_collect}
+use Rattle.golf_model.specs.Reach.{reach, sources, is_near}
+use Rattle.golf_model.specs.Collections.{queued, plain_collect}
 use Rattle.golf_model_futures.specs.Invariant.{Closed, Queueing}
 
 pub In-refs_if : (b : Bool) (o : ℕ) (xs : List ℕ) → b ≡ true → In o xs → In o (refs_if b xs)

@@ -9,8 +9,8 @@ use Rattle.golf_theory.proofs.Agreements.{agree-map_values}
 use Rattle.golf_data.specs.declared.value.Object.{Object}
 use Rattle.golf_model.specs.Views.{GoroutineView}
 use Rattle.golf_model.specs.State.{State}
-use Rattle.golf_model.specs.Waking.{woken_by}
-use Rattle.golf_model.specs.Changes.{Change, apply, pass_on, pass_on_at, pass_on_by}
+use Rattle.golf_model.specs.Wakes.{woken_by}
+use Rattle.golf_model.specs.Changes.{Change, apply, requeue, requeue_at, requeue_by}
 use Rattle.golf_model_futures.specs.Invariant.{Closed, Confined, Good}
 use Rattle.golf_model_futures.proofs.Waking.{woken-still}
 
@@ -33,30 +33,30 @@ module _ (O G : ℕ → Type 0) where
   but_one : (P : ℕ → Type 0) (g : ℕ) → P g → (k : ℕ) → not (k == g) ≡ false → P k
   but_one P g p k f = subst P (sym (eqb-true k g (not-false (k == g) f))) p
 
-  confined-pass_on_by : (s : State) (g m : ℕ) (locked : Bool) (r : GoroutineView) → G g → O m
-      → Confined O G s (pass_on_by locked g m r s)
-  confined-pass_on_by s g m false r i j =
+  confined-requeue_by : (s : State) (g m : ℕ) (locked : Bool) (r : GoroutineView) → G g → O m
+      → Confined O G s (requeue_by locked g m r s)
+  confined-requeue_by s g m false r i j =
       record {
         objects = agree-put O m (Object.Mutex true) s.objects j;
         finalisers = agree-same O s.finalisers;
         goroutines = agree-put G g _ s.goroutines i;
       }
-  confined-pass_on_by s g m true r i j = record {
+  confined-requeue_by s g m true r i j = record {
     objects = agree-same O s.objects;
     finalisers = agree-same O s.finalisers;
     goroutines = agree-put G g _ s.goroutines i;
   }
 
-  confined-pass_on_at : (s : State) (g m : ℕ) (x : Object) (r : GoroutineView) → G g → O m
-      → Confined O G s (pass_on_at x g m r s)
-  confined-pass_on_at s g m (Object.Mutex locked) r i j = confined-pass_on_by s g m locked r i j
-  confined-pass_on_at s g m _ r i j = confined-same s
+  confined-requeue_at : (s : State) (g m : ℕ) (x : Object) (r : GoroutineView) → G g → O m
+      → Confined O G s (requeue_at x g m r s)
+  confined-requeue_at s g m (Object.Mutex locked) r i j = confined-requeue_by s g m locked r i j
+  confined-requeue_at s g m _ r i j = confined-same s
 
-  confined-pass_on : (s : State) (g m : ℕ) (r : Option GoroutineView) (x : Option Object) → G g → O m
-      → Confined O G s (pass_on g m r x s)
-  confined-pass_on s g m None x i j = confined-same s
-  confined-pass_on s g m (Some r) None i j = confined-same s
-  confined-pass_on s g m (Some r) (Some x) i j = confined-pass_on_at s g m x r i j
+  confined-requeue : (s : State) (g m : ℕ) (r : Option GoroutineView) (x : Option Object) → G g → O m
+      → Confined O G s (requeue g m r x s)
+  confined-requeue s g m None x i j = confined-same s
+  confined-requeue s g m (Some r) None i j = confined-same s
+  confined-requeue s g m (Some r) (Some x) i j = confined-requeue_at s g m x r i j
 
   -- once for each kind of change
   pub confined_change : (F : ℕ → Type 0) (s : State) (c : Change) → Closed s O G → Good O G F c
@@ -141,4 +141,4 @@ module _ (O G : ℕ → Type 0) where
         goroutines = agree-map_values G (λ g. woken_by how o) s.goroutines
             (λ g r n e. woken-still how o r (λ w. n (h.awake g r o e w a.0)));
       }
-  confined_change F s (Change.PassOn g m) h a = confined-pass_on s g m (find g s.goroutines) (find m s.objects) a.0 a.1
+  confined_change F s (Change.Requeue g m) h a = confined-requeue s g m (find g s.goroutines) (find m s.objects) a.0 a.1

@@ -1,5 +1,5 @@
 -- A collection of a cut state is the collection, cut.
--- For: `plain_collect`, `cut`, golf_model/specs/Collecting.antt
+-- For: `plain_collect`, `cut`, golf_model/specs/Collections.antt
 -- By: induction over the path by which an object is reached
 use Rattle.std.proofs.Common.{◌≡◌, ℕ, Bool, true, not, List, [], ◌++◌, ◌⊎◌, inl, inr, refl, ap}
 use Rattle.std.proofs.lemmas.Bool.{cases_Bool, not-false}
@@ -16,8 +16,8 @@ use Rattle.golf_model.specs.Views.{GoroutineView}
 use Rattle.golf_model.specs.Values.{refs}
 use Rattle.golf_model.specs.State.{State}
 use Rattle.golf_model.specs.Refs.{object_refs, goroutine_refs, queue_refs, goroutine_refs_where, has_finaliser}
-use Rattle.golf_model.specs.Reaching.{RefersTo, Reach, reach, sources}
-use Rattle.golf_model.specs.Collecting.{queued, queue_outside, plain_collect, cut}
+use Rattle.golf_model.specs.Reach.{RefersTo, Reach, reach, sources}
+use Rattle.golf_model.specs.Collections.{queued, queue_outside, plain_collect, cut}
 use Rattle.golf_model.specs.Futures.{Numbered}
 use Rattle.golf_model.proofs.Agreeing.{reach-sound, reach-complete, refs_where-sound, goroutine_refs_where-sound}
 use Rattle.golf_model_futures.proofs.Collecting.{In-goroutine_refs_where, In-refs_where}

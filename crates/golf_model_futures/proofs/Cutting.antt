@@ -1,19 +1,19 @@
 -- A change of a state that is cut down is that change cut down.
--- For: `cut`, golf_model/specs/Collecting.antt; `KeepsFresh`, specs/Cutting.antt
+-- For: `cut`, golf_model/specs/Collections.antt; `KeepsFresh`, specs/CutStates.antt
 -- By: cases of the change, then induction over the list of changes
 use Rattle.std.proofs.Common.{◌≡◌, ℕ, ◌+◌, ◌<◌, ◌≤◌, Bool, true, false, not, List, [], ◌∷◌, Option, Some, None, refl}
 use Rattle.std.proofs.Common.{sym, ap, ◌∙◌, arith, ◌==◌}
 use Rattle.golf_theory.specs.Maps.{find, only}
 use Rattle.golf_theory.proofs.MapCuts.{only-put, only-add, only-swap, only-map_values}
 use Rattle.golf_theory.proofs.MapFinds.{find-only}
-use Rattle.golf_model_futures.specs.Cutting.{KeepsFresh}
+use Rattle.golf_model_futures.specs.CutStates.{KeepsFresh}
 use Rattle.golf_data.specs.declared.value.Object.{Object}
 use Rattle.golf_data.specs.declared.goroutine.Mode.{Mode}
 use Rattle.golf_model.specs.Views.{GoroutineView}
 use Rattle.golf_model.specs.State.{State}
-use Rattle.golf_model.specs.Waking.{woken_by, released}
-use Rattle.golf_model.specs.Changes.{Change, apply, apply_all, make, spawn, moved, pass_on, pass_on_at, pass_on_by}
-use Rattle.golf_model.specs.Collecting.{cut}
+use Rattle.golf_model.specs.Wakes.{woken_by, released}
+use Rattle.golf_model.specs.Changes.{Change, apply, apply_all, make, spawn, moved, requeue, requeue_at, requeue_by}
+use Rattle.golf_model.specs.Collections.{cut}
 use Rattle.golf_model_futures.specs.Invariant.{Good, Sound, last_after, finalisable_after}
 use Rattle.golf_model_futures.proofs.Changing.{fresh-after, rest-sound}
 
@@ -29,24 +29,24 @@ module _ (stays kept : ℕ → Bool) where
   abbrev pub Stays : ℕ → Type 0
   Stays g = stays g ≡ true
 
-  cut-pass_on_by : (s : State) (g m : ℕ) (locked : Bool) (r : GoroutineView)
-      → pass_on_by locked g m r (cut stays kept s) ≡ cut stays kept (pass_on_by locked g m r s)
-  cut-pass_on_by s g m false r = parts s _ _ _ _ (sym (only-put kept m (Object.Mutex true) s.objects))
+  cut-requeue_by : (s : State) (g m : ℕ) (locked : Bool) (r : GoroutineView)
+      → requeue_by locked g m r (cut stays kept s) ≡ cut stays kept (requeue_by locked g m r s)
+  cut-requeue_by s g m false r = parts s _ _ _ _ (sym (only-put kept m (Object.Mutex true) s.objects))
       (sym (only-put stays g (released r) s.goroutines))
-  cut-pass_on_by s g m true r =
+  cut-requeue_by s g m true r =
       let q : GoroutineView = record r { mode = moved m s.next_ticket r.mode } in
       parts (record s { next_ticket = s.next_ticket + 1 }) _ _ _ _ refl (sym (only-put stays g q s.goroutines))
 
-  cut-pass_on_at : (s : State) (g m : ℕ) (x : Object) (r : GoroutineView)
-      → pass_on_at x g m r (cut stays kept s) ≡ cut stays kept (pass_on_at x g m r s)
-  cut-pass_on_at s g m (Object.Mutex locked) r = cut-pass_on_by s g m locked r
-  cut-pass_on_at s g m _ r = refl
+  cut-requeue_at : (s : State) (g m : ℕ) (x : Object) (r : GoroutineView)
+      → requeue_at x g m r (cut stays kept s) ≡ cut stays kept (requeue_at x g m r s)
+  cut-requeue_at s g m (Object.Mutex locked) r = cut-requeue_by s g m locked r
+  cut-requeue_at s g m _ r = refl
 
-  cut-pass_on : (s : State) (g m : ℕ) (r : Option GoroutineView) (x : Option Object)
-      → pass_on g m r x (cut stays kept s) ≡ cut stays kept (pass_on g m r x s)
-  cut-pass_on s g m None x = refl
-  cut-pass_on s g m (Some r) None = refl
-  cut-pass_on s g m (Some r) (Some x) = cut-pass_on_at s g m x r
+  cut-requeue : (s : State) (g m : ℕ) (r : Option GoroutineView) (x : Option Object)
+      → requeue g m r x (cut stays kept s) ≡ cut stays kept (requeue g m r x s)
+  cut-requeue s g m None x = refl
+  cut-requeue s g m (Some r) None = refl
+  cut-requeue s g m (Some r) (Some x) = cut-requeue_at s g m x r
 
   -- once for each kind of change
   pub cut_change : (F : ℕ → Type 0) (s : State) (c : Change) → KeepsFresh stays kept s → Good Kept Stays F c
@@ -63,35 +63,35 @@ module _ (stays kept : ℕ → Bool) where
   cut_change F s (Change.Leave g) f a = parts s _ _ _ _ refl (only-swap (λ h. not (h == g)) stays s.goroutines)
   cut_change F s (Change.WakeAll o how) f a =
       parts s _ _ _ _ refl (sym (only-map_values (λ g. woken_by how o) stays s.goroutines))
-  cut_change F s (Change.PassOn g m) f a =
-      ap (λ (r : Option GoroutineView). pass_on g m r (find m (only kept s.objects)) (cut stays kept s))
+  cut_change F s (Change.Requeue g m) f a =
+      ap (λ (r : Option GoroutineView). requeue g m r (find m (only kept s.objects)) (cut stays kept s))
       (find-only stays s.goroutines g a.0)
-      ∙ ap (λ (x : Option Object). pass_on g m (find g s.goroutines) x (cut stays kept s))
+      ∙ ap (λ (x : Option Object). requeue g m (find g s.goroutines) x (cut stays kept s))
       (find-only kept s.objects m a.1)
-      ∙ cut-pass_on s g m (find g s.goroutines) (find m s.objects)
+      ∙ cut-requeue s g m (find g s.goroutines) (find m s.objects)
   cut_change F s _ f a = refl
 
 -- numbers are given in rising order
 grows-by : (s : State) (g m : ℕ) (locked : Bool) (r : GoroutineView)
-    → (s.last_object ≤ (pass_on_by locked g m r s).last_object)
-    × (s.next_goroutine ≤ (pass_on_by locked g m r s).next_goroutine)
+    → (s.last_object ≤ (requeue_by locked g m r s).last_object)
+    × (s.next_goroutine ≤ (requeue_by locked g m r s).next_goroutine)
 grows-by s g m true r = (omega arith, omega arith)
 grows-by s g m false r = (omega arith, omega arith)
 
-grows-at : (s : State) (g m : ℕ) (x : Object) (r : GoroutineView) → (s.last_object ≤ (pass_on_at x g m r s).last_object)
-    × (s.next_goroutine ≤ (pass_on_at x g m r s).next_goroutine)
+grows-at : (s : State) (g m : ℕ) (x : Object) (r : GoroutineView) → (s.last_object ≤ (requeue_at x g m r s).last_object)
+    × (s.next_goroutine ≤ (requeue_at x g m r s).next_goroutine)
 grows-at s g m (Object.Mutex locked) r = grows-by s g m locked r
 grows-at s g m _ r = (omega arith, omega arith)
 
-grows-pass_on : (s : State) (g m : ℕ) (r : Option GoroutineView) (x : Option Object)
-    → (s.last_object ≤ (pass_on g m r x s).last_object) × (s.next_goroutine ≤ (pass_on g m r x s).next_goroutine)
-grows-pass_on s g m None x = (omega arith, omega arith)
-grows-pass_on s g m (Some r) None = (omega arith, omega arith)
-grows-pass_on s g m (Some r) (Some x) = grows-at s g m x r
+grows-requeue : (s : State) (g m : ℕ) (r : Option GoroutineView) (x : Option Object)
+    → (s.last_object ≤ (requeue g m r x s).last_object) × (s.next_goroutine ≤ (requeue g m r x s).next_goroutine)
+grows-requeue s g m None x = (omega arith, omega arith)
+grows-requeue s g m (Some r) None = (omega arith, omega arith)
+grows-requeue s g m (Some r) (Some x) = grows-at s g m x r
 
 pub grows : (s : State) (c : Change) → (s.last_object ≤ (apply c s).last_object)
     × (s.next_goroutine ≤ (apply c s).next_goroutine)
-grows s (Change.PassOn g m) = grows-pass_on s g m (find g s.goroutines) (find m s.objects)
+grows s (Change.Requeue g m) = grows-requeue s g m (find g s.goroutines) (find m s.objects)
 grows s _ = (omega arith, omega arith)
 
 module _ (stays kept : ℕ → Bool) where

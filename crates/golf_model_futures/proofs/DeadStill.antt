@@ -12,9 +12,9 @@ use Rattle.golf_data.specs.declared.value.Object.{Object}
 use Rattle.golf_model.specs.Views.{GoroutineView}
 use Rattle.golf_model.specs.Values.{refs}
 use Rattle.golf_model.specs.State.{State}
-use Rattle.golf_model.specs.Waiting.{waits_of}
+use Rattle.golf_model.specs.Waiters.{waits_of}
 use Rattle.golf_model.specs.Refs.{object_refs, goroutine_refs, queue_refs, waited}
-use Rattle.golf_model.specs.Living.{Node, Live, LiveRoot, LiveStep}
+use Rattle.golf_model.specs.LiveSet.{Node, Live, LiveRoot, LiveStep}
 use Rattle.golf_model.specs.Futures.{Numbered, UpTo}
 use Rattle.golf_model_futures.specs.Invariant.{Closed}
 use Rattle.golf_model_futures.specs.Laws.{DeadAreStill}

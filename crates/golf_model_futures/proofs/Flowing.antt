@@ -1,5 +1,5 @@
 -- Sets that references do not leave stay so under each good change, each list of them and each collection.
--- For: `apply_all`, golf_model/specs/Changes.antt; `plain_collect`, golf_model/specs/Collecting.antt
+-- For: `apply_all`, golf_model/specs/Changes.antt; `plain_collect`, golf_model/specs/Collections.antt
 -- By: cases of the change, then induction over the list of changes
 use Rattle.std.proofs.Common.{◌≡◌, ℕ, ◌+◌, ◌<◌, ◌≤◌, Bool, true, false, not, List, [], ◌∷◌, ◌++◌, filter, Option, Some}
 use Rattle.std.proofs.Common.{None, ◌⊎◌, inl, inr, refl, sym, subst, arith, ◌==◌, slice_set}
@@ -18,12 +18,12 @@ use Rattle.golf_data.specs.declared.goroutine.Queued.{Queued}
 use Rattle.golf_model.specs.Views.{GoroutineView}
 use Rattle.golf_model.specs.Values.{refs}
 use Rattle.golf_model.specs.State.{State}
-use Rattle.golf_model.specs.Waking.{woken_by, released}
-use Rattle.golf_model.specs.Changes.{Change, apply, apply_all, replace, become, behind_first, moved, pass_on}
-use Rattle.golf_model.specs.Changes.{pass_on_at, pass_on_by}
+use Rattle.golf_model.specs.Wakes.{woken_by, released}
+use Rattle.golf_model.specs.Changes.{Change, apply, apply_all, replace, become, behind_first, moved, requeue}
+use Rattle.golf_model.specs.Changes.{requeue_at, requeue_by}
 use Rattle.golf_model.specs.Refs.{object_refs, goroutine_refs, queue_refs}
-use Rattle.golf_model.specs.Reaching.{reach, sources}
-use Rattle.golf_model.specs.Collecting.{queued, plain_collect}
+use Rattle.golf_model.specs.Reach.{reach, sources}
+use Rattle.golf_model.specs.Collections.{queued, plain_collect}
 use Rattle.golf_model_futures.specs.Invariant.{Good, Sound, finalisable_after, last_after}
 use Rattle.golf_model_futures.proofs.RefLaws.{vals-set, goroutine-both, goroutine-frames, goroutine-waits}
 use Rattle.golf_model_futures.proofs.Waking.{woken-in, released-in}
@@ -110,24 +110,24 @@ module _ (O G : ℕ → Type 0) (s : State) (c : Flow O G s) where
       ])
 
 module _ (O G : ℕ → Type 0) (s : State) (c : Flow O G s) (g m : ℕ) (i : G g) (j : O m) where
-  flow-pass_on_by : (locked : Bool) (r : GoroutineView) → Every O (goroutine_refs r)
-      → Flow O G (pass_on_by locked g m r s)
-  flow-pass_on_by false r a = flow-replace O G (become g (released r) s)
+  flow-requeue_by : (locked : Bool) (r : GoroutineView) → Every O (goroutine_refs r)
+      → Flow O G (requeue_by locked g m r s)
+  flow-requeue_by false r a = flow-replace O G (become g (released r) s)
       (flow-put O G s c g (released r) s.next_ticket (released-in O r a)) m (Object.Mutex true) tt
-  flow-pass_on_by true r a =
+  flow-requeue_by true r a =
       let q : GoroutineView = record r { mode = moved m s.next_ticket r.mode } in
       flow-put O G s c g q (s.next_ticket + 1)
       (goroutine-both O q (goroutine-frames O r a) (moved-in O m s.next_ticket r.mode j (goroutine-waits O r a)))
 
-  flow-pass_on_at : (x : Object) (r : GoroutineView) → Every O (goroutine_refs r) → Flow O G (pass_on_at x g m r s)
-  flow-pass_on_at (Object.Mutex locked) r a = flow-pass_on_by locked r a
-  flow-pass_on_at _ r a = c
+  flow-requeue_at : (x : Object) (r : GoroutineView) → Every O (goroutine_refs r) → Flow O G (requeue_at x g m r s)
+  flow-requeue_at (Object.Mutex locked) r a = flow-requeue_by locked r a
+  flow-requeue_at _ r a = c
 
-  flow-pass_on : (r : Option GoroutineView) (x : Option Object)
-      → ((q : GoroutineView) → r ≡ Some q → Every O (goroutine_refs q)) → Flow O G (pass_on g m r x s)
-  flow-pass_on None x h = c
-  flow-pass_on (Some r) None h = c
-  flow-pass_on (Some r) (Some x) h = flow-pass_on_at x r (h r refl)
+  flow-requeue : (r : Option GoroutineView) (x : Option Object)
+      → ((q : GoroutineView) → r ≡ Some q → Every O (goroutine_refs q)) → Flow O G (requeue g m r x s)
+  flow-requeue None x h = c
+  flow-requeue (Some r) None h = c
+  flow-requeue (Some r) (Some x) h = flow-requeue_at x r (h r refl)
 
 -- once for each kind of change
 pub flow_change : (O G F : ℕ → Type 0) (s : State) (c : Change) → Flow O G s → Good O G F c → Flow O G (apply c s)
@@ -170,7 +170,7 @@ flow_change O G F s (Change.WakeAll o how) h a =
     (λ g q m e.
     let r = Entry-map_values_back (λ k. woken_by how o) s.goroutines g q e in
     inl (subst (λ z. Every O (goroutine_refs z)) (sym r.2) (woken-in O how o r.0 a.1 (h.goroutines g r.0 m r.1))))
-flow_change O G F s (Change.PassOn g m) h a = flow-pass_on O G s h g m a.0 a.1 (find g s.goroutines) (find m s.objects)
+flow_change O G F s (Change.Requeue g m) h a = flow-requeue O G s h g m a.0 a.1 (find g s.goroutines) (find m s.objects)
     (λ q e. h.goroutines g q a.0 (Entry-find g s.goroutines q e))
 
 module _ (O G : ℕ → Type 0) where

@@ -1,5 +1,5 @@
 -- Values, variables, arithmetic, comparisons and jumps move what their goroutine refers to.
--- For: `computes`, `loads`, `jumps_unless`, golf_model/specs/Calculating.antt; `AllGood`, specs/Invariant.antt
+-- For: `computes`, `loads`, `jumps_unless`, golf_model/specs/Arithmetic.antt; `AllGood`, specs/Invariant.antt
 -- By: cases of the operands; no induction
 use Rattle.std.proofs.Common.{ℕ, ◌+◌, Bool, not, List, ◌∷◌, slice_get, slice_set, ℤ}
 use Rattle.std.specs.Int.{w64, int_wrapping_neg}
@@ -8,10 +8,10 @@ use Rattle.golf_data.specs.declared.goroutine.PanicKind.{PanicKind}
 use Rattle.golf_model.specs.Values.{int_of, bool_of, is_zero, equality}
 use Rattle.golf_model.specs.State.{State}
 use Rattle.golf_model.specs.Changes.{Change}
-use Rattle.golf_model.specs.Acting.{Actor}
-use Rattle.golf_model.specs.Calculating.{pushes, loads, stores, loads_global, stores_global, drops, doubles}
-use Rattle.golf_model.specs.Calculating.{doubles_two, negates, inverts, two_ints, computes, divides, compares, equates}
-use Rattle.golf_model.specs.Calculating.{jumps_unless}
+use Rattle.golf_model.specs.Actors.{Actor}
+use Rattle.golf_model.specs.Arithmetic.{pushes, loads, stores, loads_global, stores_global, drops, doubles}
+use Rattle.golf_model.specs.Arithmetic.{doubles_two, negates, inverts, two_ints, computes, divides, compares, equates}
+use Rattle.golf_model.specs.Arithmetic.{jumps_unless}
 use Rattle.golf_model_futures.specs.Invariant.{AllGood, ActorIn}
 use Rattle.golf_model_futures.proofs.RefLaws.{Val, Vals, vals-cons, vals-set, vals-get}
 use Rattle.golf_model_futures.proofs.Acting.{Ground, all-on_some, all-choose, all-taking_one, all-taking_two}

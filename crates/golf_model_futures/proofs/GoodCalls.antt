@@ -1,5 +1,5 @@
 -- Calls, goroutines, deferred calls, returns and finalisers: they move what their goroutine refers to.
--- For: `calls`, `returns`, golf_model/specs/Calls.antt; `finalises`, golf_model/specs/Finalising.antt
+-- For: `calls`, `returns`, golf_model/specs/Calls.antt; `finalises`, golf_model/specs/Finalisers.antt
 -- By: cases of the operands, the frames and the deferred calls; no induction
 use Rattle.std.proofs.Common.{◌≡◌, ℕ, ◌+◌, ◌-◌, Bool, true, false, List, [], ◌∷◌, length, Option, Some, None, refl}
 use Rattle.std.proofs.Common.{subst, slice_get, ◌==◌}
@@ -22,14 +22,14 @@ use Rattle.golf_model.specs.Views.{FrameView, GoroutineView}
 use Rattle.golf_model.specs.Values.{refs}
 use Rattle.golf_data.specs.Masks.{stays_under}
 use Rattle.golf_model.specs.State.{State, call_frame, opened}
-use Rattle.golf_model.specs.Waking.{unwinding}
-use Rattle.golf_model.specs.Waiting.{waits_of}
+use Rattle.golf_model.specs.Wakes.{unwinding}
+use Rattle.golf_model.specs.Waiters.{waits_of}
 use Rattle.golf_model.specs.Changes.{Change}
-use Rattle.golf_model.specs.Acting.{Actor, with_frames, next, goes, dies, panics, choose, at_reference}
+use Rattle.golf_model.specs.Actors.{Actor, with_frames, next, goes, dies, panics, choose, at_reference}
 use Rattle.golf_model.specs.Calls.{is_full, enters, calls, spawns, defers, ends, ends_returning, handed_back}
 use Rattle.golf_model.specs.Calls.{returns_to, unwinds_to, returns_by, returns, returns_value, begins_deferred}
 use Rattle.golf_model.specs.Calls.{leaves_returning, leaves_unwinding}
-use Rattle.golf_model.specs.Finalising.{finalises_by, finalises, unfinalises, begins_queued}
+use Rattle.golf_model.specs.Finalisers.{finalises_by, finalises, unfinalises, begins_queued}
 use Rattle.golf_model.specs.Refs.{frames_refs, goroutine_refs, deferred_refs, option_refs, queue_refs, wait_refs}
 use Rattle.golf_model_futures.specs.Invariant.{AllGood, Nothing, Sound, ActorIn, FrameIn}
 use Rattle.golf_model_futures.proofs.RefLaws.{Val, Vals, vals-cons, vals-append, vals-replicate, vals-cleared}

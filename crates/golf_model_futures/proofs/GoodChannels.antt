@@ -1,5 +1,5 @@
 -- Channels and `select`: they move what their goroutine refers to.
--- For: `sends`, `receives`, golf_model/specs/Channels.antt; `selects`, golf_model/specs/Selecting.antt
+-- For: `sends`, `receives`, golf_model/specs/Channels.antt; `selects`, golf_model/specs/Selects.antt
 -- By: cases of the channel and its first waiter; induction over the offers of a `select`
 use Rattle.std.proofs.Common.{◌≡◌, ℕ, ◌%◌, Bool, true, false, List, [], ◌∷◌, ◌++◌, length, Option, Some, None, refl}
 use Rattle.std.proofs.Common.{nat_lt}
@@ -16,16 +16,16 @@ use Rattle.golf_data.specs.declared.goroutine.WaitKind.{WaitKind}
 use Rattle.golf_model.specs.Views.{FrameView}
 use Rattle.golf_model.specs.Values.{value_refs, refs}
 use Rattle.golf_model.specs.State.{State}
-use Rattle.golf_model.specs.Waiting.{Waiter, first, send_wait, receive_wait}
-use Rattle.golf_model.specs.Waking.{Waking, received}
+use Rattle.golf_model.specs.Waiters.{Waiter, first, send_wait, receive_wait}
+use Rattle.golf_model.specs.Wakes.{Waking, received}
 use Rattle.golf_model.specs.Changes.{Change}
-use Rattle.golf_model.specs.Acting.{Actor, next, stands, goes}
+use Rattle.golf_model.specs.Actors.{Actor, next, stands, goes}
 use Rattle.golf_model.specs.Channels.{served, buffers, sends_to, sends_on, sends, given, sent_by, sender_served}
 use Rattle.golf_model.specs.Channels.{receives_unbuffered, receives_from, receives_on, receives, closes_open, closes}
-use Rattle.golf_model.specs.Selecting.{Offer, Taken, take_receive, take_send, take_case, and_case, offers_of}
-use Rattle.golf_model.specs.Selecting.{all_on_channels, is_ready, kept_if, ready, proceeds_by, proceeds, wait_of}
-use Rattle.golf_model.specs.Selecting.{case_waits, offered_waits, select_kind, selects_none, selects_one, chosen}
-use Rattle.golf_model.specs.Selecting.{selects_from, selects}
+use Rattle.golf_model.specs.Selects.{Offer, Taken, take_receive, take_send, take_case, and_case, offers_of}
+use Rattle.golf_model.specs.Selects.{all_on_channels, is_ready, kept_if, ready, proceeds_by, proceeds, wait_of}
+use Rattle.golf_model.specs.Selects.{case_waits, offered_waits, select_kind, selects_none, selects_one, chosen}
+use Rattle.golf_model.specs.Selects.{selects_from, selects}
 use Rattle.golf_model.specs.Refs.{wait_refs}
 use Rattle.golf_model_futures.specs.Invariant.{AllGood, Good, Nothing, ActorIn, FrameIn}
 use Rattle.golf_model_futures.proofs.RefLaws.{Val, Vals, vals-cons, vals-head, vals-tail, vals-append, waits-append}

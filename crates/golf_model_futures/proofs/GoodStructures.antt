@@ -13,7 +13,7 @@ use Rattle.golf_data.specs.declared.goroutine.PanicKind.{PanicKind}
 use Rattle.golf_model.specs.Values.{int_of, reference, zero_of, zeros_of}
 use Rattle.golf_model.specs.State.{State}
 use Rattle.golf_model.specs.Changes.{Change}
-use Rattle.golf_model.specs.Acting.{Actor, goes, panics}
+use Rattle.golf_model.specs.Actors.{Actor, goes, panics}
 use Rattle.golf_model.specs.Structures.{makes, makes_struct, gets_field, sets_field, is_bad_size, makes_slice}
 use Rattle.golf_model.specs.Structures.{makes_channel, new_channel, element, within, gets_element, sets_element}
 use Rattle.golf_model.specs.Structures.{length_of, measures}

@@ -12,17 +12,17 @@ use Rattle.golf_data.specs.declared.goroutine.Side.{Side}
 use Rattle.golf_data.specs.declared.goroutine.WaitKind.{WaitKind}
 use Rattle.golf_model.specs.Values.{int_of, is_zero, is_minus_one}
 use Rattle.golf_model.specs.State.{State}
-use Rattle.golf_model.specs.Waiting.{Waiter, waiter_ticket, first, waiters, bare_wait}
-use Rattle.golf_model.specs.Waking.{Waking}
+use Rattle.golf_model.specs.Waiters.{Waiter, waiter_ticket, first, waiters, bare_wait}
+use Rattle.golf_model.specs.Wakes.{Waking}
 use Rattle.golf_model.specs.Changes.{Change}
-use Rattle.golf_model.specs.Acting.{Actor, next, goes, choose}
-use Rattle.golf_model.specs.Calculating.{sum}
+use Rattle.golf_model.specs.Actors.{Actor, next, goes, choose}
+use Rattle.golf_model.specs.Arithmetic.{sum}
 use Rattle.golf_model.specs.Mutexes.{runs, blocks_on, locks_by, locks, hands_over, unlocks_by, unlocks, counts, adds}
 use Rattle.golf_model.specs.Mutexes.{waits}
 use Rattle.golf_model.specs.ReadersWriters.{serves_first, serves, write_locks, write_unlocks_by, write_unlocks}
 use Rattle.golf_model.specs.ReadersWriters.{most_readers, read_locks_by, read_locks, read_leaves, read_unlocks_by}
 use Rattle.golf_model.specs.ReadersWriters.{read_unlocks}
-use Rattle.golf_model.specs.Conditions.{gets_mutex, awaits_by, awaits, passes_on, first_only, notifies, signals}
+use Rattle.golf_model.specs.Conditions.{gets_mutex, awaits_by, awaits, requeues, first_only, notifies, signals}
 use Rattle.golf_model.specs.Conditions.{broadcasts}
 use Rattle.golf_model_futures.specs.Invariant.{AllGood, Good, Nothing, ActorIn}
 use Rattle.golf_model_futures.proofs.RefLaws.{Val, Vals, vals-cons}
@@ -174,18 +174,18 @@ module _ (O G : ℕ → Type 0) (s : State) (c : Ground s O G) (a : Actor) (i : 
       (λ v k. good-at_reference O G a i _ v k
       (λ p n. all-at_mutex (AllGood O G) tt _ (find p s.objects) (λ b. good-awaits_by rest o p b r m n)))))
 
-  good-passes_on : (p : ℕ) (ws : List Waiter) → O p → ((w : Waiter) → In w ws → G w.number)
-      → AllGood O G (passes_on p ws)
-  good-passes_on p [] m h = tt
-  good-passes_on p (w ∷ ws) m h = ((h w (inl refl), m), good-passes_on p ws m (λ v j. h v (inr j)))
+  good-requeues : (p : ℕ) (ws : List Waiter) → O p → ((w : Waiter) → In w ws → G w.number)
+      → AllGood O G (requeues p ws)
+  good-requeues p [] m h = tt
+  good-requeues p (w ∷ ws) m h = ((h w (inl refl), m), good-requeues p ws m (λ v j. h v (inr j)))
 
   good-notifies : (rest : List Value) (ws : List Waiter) (v : Value) → Vals O rest → Val O v
       → ((w : Waiter) → In w ws → G w.number) → AllGood O G (notifies a rest s ws v)
   good-notifies rest [] v r k h = good-goes O G a i rest r
   good-notifies rest (w ∷ ws) v r k h = all-at_reference_or (AllGood O G) tt O [] _ v k tt
       (λ p m. all-at_mutex (AllGood O G) tt _ (find p s.objects)
-      (λ locked. all_good-append O G (goes a rest) (passes_on p (w ∷ ws)) (good-goes O G a i rest r)
-      (good-passes_on p (w ∷ ws) m h)))
+      (λ locked. all_good-append O G (goes a rest) (requeues p (w ∷ ws)) (good-goes O G a i rest r)
+      (good-requeues p (w ∷ ws) m h)))
 
   first_only-in : (o : ℕ) (m : Option Waiter) → first o Side.Cond s.goroutines ≡ m → O o → (w : Waiter)
       → In w (first_only m) → G w.number

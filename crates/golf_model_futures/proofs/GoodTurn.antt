@@ -18,13 +18,13 @@ use Rattle.golf_model.specs.Views.{FrameView, GoroutineView}
 use Rattle.golf_model.specs.Values.{text_of, line_bytes}
 use Rattle.golf_model.specs.State.{State}
 use Rattle.golf_model.specs.Changes.{Change}
-use Rattle.golf_model.specs.Acting.{Actor}
-use Rattle.golf_model.specs.Calculating.{sum, difference, product, quotient, remainder}
-use Rattle.golf_model.specs.Collecting.{is_setting}
+use Rattle.golf_model.specs.Actors.{Actor}
+use Rattle.golf_model.specs.Arithmetic.{sum, difference, product, quotient, remainder}
+use Rattle.golf_model.specs.Collections.{is_setting}
 use Rattle.golf_model.specs.Turn.{prints, panics_with, changes, line_at, return_line, acting, performs, frame_changes}
 use Rattle.golf_model.specs.Turn.{goroutine_changes, turn_of, turn_changes}
 use Rattle.golf_model.specs.Refs.{frames_refs, goroutine_refs, leaving_refs}
-use Rattle.golf_model.specs.Finalising.{begins_queued}
+use Rattle.golf_model.specs.Finalisers.{begins_queued}
 use Rattle.golf_model.specs.Calls.{leaves_returning, leaves_unwinding}
 use Rattle.golf_model_futures.specs.Invariant.{AllGood, Sound, ActorIn, Unfinalised}
 use Rattle.golf_model_futures.proofs.RefLaws.{frames-head, frames-tail, goroutine-frames}

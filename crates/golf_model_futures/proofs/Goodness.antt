@@ -5,7 +5,7 @@ use Rattle.std.proofs.Common.{ℕ, List, [], ◌∷◌, ◌++◌, inl}
 use Rattle.golf_theory.specs.Membership.{Every}
 use Rattle.golf_theory.proofs.Lists.{Every-weaker}
 use Rattle.golf_model.specs.Values.{value_refs}
-use Rattle.golf_model.specs.Waking.{Waking}
+use Rattle.golf_model.specs.Wakes.{Waking}
 use Rattle.golf_model.specs.Changes.{Change}
 use Rattle.golf_model.specs.Refs.{object_refs, frames_refs, wait_refs, goroutine_refs}
 use Rattle.golf_model_futures.specs.Invariant.{Good, GoodWaking, AllGood, Nothing, Sound, objects_after, last_after}
@@ -34,7 +34,7 @@ module _ (O O' G G' F F' : ℕ → Type 0) (o : (x : ℕ) → O x → O' x) (g :
   good-wider (Change.SetFinaliser p k) a = (o p a.0, f p a.1)
   good-wider (Change.ClearFinaliser p) a = o p a
   good-wider (Change.WakeAll p how) a = (o p a.0, waking-wider how a.1)
-  good-wider (Change.PassOn h m) a = (g h a.0, o m a.1)
+  good-wider (Change.Requeue h m) a = (g h a.0, o m a.1)
   good-wider _ a = tt
 
 pub all_good-append : (O G : ℕ → Type 0) (cs ds : List Change) → AllGood O G cs → AllGood O G ds

@@ -15,11 +15,11 @@ use Rattle.golf_data.specs.declared.value.Object.{Object}
 use Rattle.golf_data.specs.declared.code.Code.{Code}
 use Rattle.golf_model.specs.Views.{FrameView, GoroutineView}
 use Rattle.golf_model.specs.State.{State, start, call_frame, runnable}
-use Rattle.golf_model.specs.Changes.{Change, apply, apply_all, pass_on, pass_on_at, pass_on_by}
+use Rattle.golf_model.specs.Changes.{Change, apply, apply_all, requeue, requeue_at, requeue_by}
 use Rattle.golf_model.specs.Turn.{turned, clears_nothing, cleared_after, step, turn_changes, whose_turn}
 use Rattle.golf_model.specs.Refs.{frames_refs}
-use Rattle.golf_model.specs.Reaching.{reach, sources}
-use Rattle.golf_model.specs.Collecting.{queued, plain_collect, cut, sets_finalisers, real_collect}
+use Rattle.golf_model.specs.Reach.{reach, sources}
+use Rattle.golf_model.specs.Collections.{queued, plain_collect, cut, sets_finalisers, real_collect}
 use Rattle.golf_model.specs.Futures.{Numbered, UpTo, Leads}
 use Rattle.golf_model_futures.specs.Invariant.{Sound, objects_after, last_after, finalisable_after, Unfinalised}
 use Rattle.golf_model_futures.proofs.RefLaws.{frames-cons}
@@ -35,38 +35,38 @@ use Rattle.golf_model_futures.proofs.Numbering.{numbered-finalisers, numbered-re
 use Rattle.golf_model_futures.proofs.Numbering.{goroutine-in}
 use Rattle.golf_model_futures.proofs.Staying.{turn-running}
 
--- passing on gives no number and no finaliser
+-- requeueing gives no number and no finaliser
 module _ (s : State) (g m : ℕ) where
   abbrev Same : State → Type 0
   Same t = (t.last_object ≡ s.last_object) × (t.next_goroutine ≡ s.next_goroutine) × (t.finalisers ≡ s.finalisers)
 
-  same-by : (locked : Bool) (r : GoroutineView) → Same (pass_on_by locked g m r s)
+  same-by : (locked : Bool) (r : GoroutineView) → Same (requeue_by locked g m r s)
   same-by true r = (refl, refl, refl)
   same-by false r = (refl, refl, refl)
 
-  same-at : (x : Object) (r : GoroutineView) → Same (pass_on_at x g m r s)
+  same-at : (x : Object) (r : GoroutineView) → Same (requeue_at x g m r s)
   same-at (Object.Mutex locked) r = same-by locked r
   same-at _ r = (refl, refl, refl)
 
-  pub same-pass_on : (r : Option GoroutineView) (x : Option Object) → Same (pass_on g m r x s)
-  same-pass_on None x = (refl, refl, refl)
-  same-pass_on (Some r) None = (refl, refl, refl)
-  same-pass_on (Some r) (Some x) = same-at x r
+  pub same-requeue : (r : Option GoroutineView) (x : Option Object) → Same (requeue g m r x s)
+  same-requeue None x = (refl, refl, refl)
+  same-requeue (Some r) None = (refl, refl, refl)
+  same-requeue (Some r) (Some x) = same-at x r
 
 pub last-apply : (s : State) (c : Change) → last_after c s.last_object ≡ (apply c s).last_object
-last-apply s (Change.PassOn g m) = sym (same-pass_on s g m (find g s.goroutines) (find m s.objects)).0
+last-apply s (Change.Requeue g m) = sym (same-requeue s g m (find g s.goroutines) (find m s.objects)).0
 last-apply s _ = refl
 
 given-after : (s : State) (c : Change) (o : ℕ) → objects_after c (Given s) s.last_object o → Given (apply c s) o
 given-after s (Change.Make x) o a = elim a [ inl b ↦ omega arith | inr b ↦ omega arith ]
-given-after s (Change.PassOn g m) o a = subst (λ n. o ≤ n)
-    (sym (same-pass_on s g m (find g s.goroutines) (find m s.objects)).0) a
+given-after s (Change.Requeue g m) o a = subst (λ n. o ≤ n)
+    (sym (same-requeue s g m (find g s.goroutines) (find m s.objects)).0) a
 given-after s _ o a = a
 
 started-after : (s : State) (c : Change) (h : ℕ) → Started s h → Started (apply c s) h
 started-after s (Change.Spawn r) h a = omega arith
-started-after s (Change.PassOn g m) h a =
-    subst (λ n. h < n) (sym (same-pass_on s g m (find g s.goroutines) (find m s.objects)).1) a
+started-after s (Change.Requeue g m) h a =
+    subst (λ n. h < n) (sym (same-requeue s g m (find g s.goroutines) (find m s.objects)).1) a
 started-after s _ h a = a
 
 unfinalised-after : (s : State) (c : Change) (o : ℕ) → finalisable_after c (Unfinalised s) o → Unfinalised (apply c s) o
@@ -74,9 +74,9 @@ unfinalised-after s (Change.SetFinaliser p k) o a = absurd a
 unfinalised-after s (Change.ClearFinaliser p) o a =
     find-none o (only (λ q. not (q == p)) s.finalisers)
     (λ f e. none-find o s.finalisers f a (Entry-only (λ q. not (q == p)) s.finalisers o f e).1)
-unfinalised-after s (Change.PassOn g m) o a =
+unfinalised-after s (Change.Requeue g m) o a =
     subst (λ (fs : List (ℕ × ℕ)). find o fs ≡ None)
-    (sym (same-pass_on s g m (find g s.goroutines) (find m s.objects)).2) a
+    (sym (same-requeue s g m (find g s.goroutines) (find m s.objects)).2) a
 unfinalised-after s _ o a = a
 
 -- sound changes keep numbers in order

@@ -38,3 +38,10 @@ pub mod Stopping
 pub mod Presence
 pub mod Printing
 pub mod Tellings
+pub mod OrderedCollecting
+pub mod Ways
+pub mod Instructions
+pub mod Keeping
+pub mod Whole
+pub mod OrderedLeading
+pub mod FinaliserGoroutine

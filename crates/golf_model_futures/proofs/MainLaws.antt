@@ -2,7 +2,7 @@
 -- For: `dead_are_still`, `turn_laws`, `real_runs_agree`, src/lib.rt
 -- By: the lemmas of the other files; no induction
 use Rattle.golf_model_futures.specs.Invariant.{Nothing, Unfinalised}
-use Rattle.golf_model_futures.specs.Cutting.{Passes}
+use Rattle.golf_model_futures.specs.CutStates.{IsKeptBy}
 use Rattle.golf_model_futures.proofs.Presence.{references-present, stops-whole}
 use Rattle.golf_model_futures.proofs.Printing.{run-prefixed}
 use Rattle.golf_model_futures.specs.Laws.{DeadAreStill, LeadsNumber, LiveIsClosed, ChangesKeep, InstructionsMoveMembers}
@@ -34,31 +34,33 @@ live_is_closed s n = closed-live s n
 
 pub changes_keep : ChangesKeep
 changes_keep s c kept stays h a = (
-  closed_change (Passes kept) (Passes stays) Nothing s c h a,
-  confined_change (Passes kept) (Passes stays) Nothing s c h a,
+  closed_change (IsKeptBy kept) (IsKeptBy stays) Nothing s c h a,
+  confined_change (IsKeptBy kept) (IsKeptBy stays) Nothing s c h a,
 )
 
 pub instructions_move_members : InstructionsMoveMembers
 instructions_move_members code s kept stays h a i k choice =
-    sound_changes (Passes kept) (Passes stays) (Unfinalised s) code s
-    (closed-ground (Passes kept) (Passes stays) s h) a i k choice (λ t o u. u)
+    sound_changes (IsKeptBy kept) (IsKeptBy stays) (Unfinalised s) code s
+    (closed-ground (IsKeptBy kept) (IsKeptBy stays) s h) a i k choice (λ t o u. u)
 
 pub instructions_same : InstructionsSame
 instructions_same code s kept stays h a i k choice =
-    same_changes stays kept (Passes kept) (Passes stays) s (closed-ground (Passes kept) (Passes stays) s h) (λ o m. m)
+    same_changes stays kept (IsKeptBy kept) (IsKeptBy stays) s (closed-ground (IsKeptBy kept) (IsKeptBy stays) s h)
+    (λ o m. m)
     (λ g m. m) a i code k choice
 
 pub collections_keep : CollectionsKeep
-collections_keep s kept stays h = closed-collect (Passes kept) (Passes stays) s h
+collections_keep s kept stays h = closed-collect (IsKeptBy kept) (IsKeptBy stays) s h
 
 pub turns_keep : TurnsKeep
 turns_keep code s k kept stays h = (
-  step-closed code (Passes stays) (Passes kept) s h k,
-  step-confined code (Passes stays) (Passes kept) s h k,
+  step-closed code (IsKeptBy stays) (IsKeptBy kept) s h k,
+  step-confined code (IsKeptBy stays) (IsKeptBy kept) s h k,
 )
 
 pub turns_cut : TurnsCut
-turns_cut code s k kept stays h f = cut_step stays kept (Passes kept) (Passes stays) s h (λ o m. m) (λ g m. m) code k f
+turns_cut code s k kept stays h f = cut_step stays kept (IsKeptBy kept) (IsKeptBy stays) s h (λ o m. m)
+    (λ g m. m) code k f
 
 pub recovery_unseen : RecoveryUnseen
 recovery_unseen code s recover events l = recovery-unseen code s recover events l

@@ -1,5 +1,5 @@
 -- Collections of a state and of the state without what was removed agree, whether the code sets finalisers or not.
--- For: `recovery_unseen`, src/lib.rt; `plain_collect`, `cut`, `sets_finalisers`, golf_model/specs/Collecting.antt
+-- For: `recovery_unseen`, src/lib.rt; `plain_collect`, `cut`, `sets_finalisers`, golf_model/specs/Collections.antt
 -- By: induction over the moves that lead to the state, and over the list of changes
 use Rattle.std.proofs.Common.{◌≡◌, ℕ, ◌/◌, Bool, true, false, not, ◌&&◌, inl, ◌==◌, List, [], ◌∷◌, length, Option, Some}
 use Rattle.std.proofs.Common.{None, refl, ap, ◌∙◌, subst, slice_get}
@@ -18,11 +18,11 @@ use Rattle.golf_data.specs.declared.code.CodeLine.{CodeLine}
 use Rattle.golf_model.specs.State.{State, runnable}
 use Rattle.golf_model.specs.Views.{GoroutineView}
 use Rattle.golf_model.specs.Refs.{goroutine_refs, refs_of_goroutine, has_finaliser}
-use Rattle.golf_model.specs.Living.{Node, Live, live_list, has_object}
+use Rattle.golf_model.specs.LiveSet.{Node, Live, live_list, has_object}
 use Rattle.golf_model.specs.Changes.{Change, apply, apply_all}
 use Rattle.golf_model.specs.Turn.{line_at, clears_nothing, turned, cleared_after, step, turn_changes, whose_turn}
-use Rattle.golf_model.specs.Reaching.{RefersTo, reach, sources}
-use Rattle.golf_model.specs.Collecting.{plain_collect, is_setting, sets_finalisers, prevents_removal}
+use Rattle.golf_model.specs.Reach.{RefersTo, reach, sources}
+use Rattle.golf_model.specs.Collections.{plain_collect, is_setting, sets_finalisers, prevents_removal}
 use Rattle.golf_model.specs.Futures.{Numbered, Leads}
 use Rattle.golf_model.proofs.Agreeing.{reach-sound, live_list-sound, has_object-sound}
 use Rattle.golf_model_futures.specs.Invariant.{Closed, Good, Sound, Nothing, Unfinalised, objects_after, last_after}
@@ -35,7 +35,7 @@ use Rattle.golf_model_futures.proofs.Clearing.{finalisers-clearing}
 use Rattle.golf_model_futures.proofs.Staying.{turn-running, turn-sound, behind-sound, step-confined}
 use Rattle.golf_model_futures.proofs.DeadStill.{LiveObject, LiveGoroutine, closed-live}
 use Rattle.golf_model_futures.proofs.Numbering.{Given, Started, numbered-ground}
-use Rattle.golf_model_futures.proofs.Leading.{same-pass_on, leads-numbered}
+use Rattle.golf_model_futures.proofs.Leading.{same-requeue, leads-numbered}
 use Rattle.golf_model_futures.proofs.Flowing.{Flow, flow_changes, flow-collect}
 use Rattle.golf_model_futures.proofs.Removing.{GoneOk, stays_by, kept_by, kept-fresh, stays-fresh, live-kept}
 use Rattle.golf_model_futures.proofs.Removing.{live-stays, flow-kept}
@@ -76,7 +76,7 @@ none_after : (O G : ℕ → Type 0) (s : State) (c : Change) → s.finalisers �
     → (apply c s).finalisers ≡ []
 none_after O G s (Change.SetFinaliser p k) h a = absurd a.1
 none_after O G s (Change.ClearFinaliser p) h a = ap (only (λ q. not (q == p))) h
-none_after O G s (Change.PassOn g m) h a = (same-pass_on s g m (find g s.goroutines) (find m s.objects)).2 ∙ h
+none_after O G s (Change.Requeue g m) h a = (same-requeue s g m (find g s.goroutines) (find m s.objects)).2 ∙ h
 none_after O G s _ h a = h
 
 still_none : (c : Change) (o : ℕ) → finalisable_after c Nothing o → Nothing o
@@ -93,7 +93,7 @@ still_none (Change.ClearFinaliser p) o a = a
 still_none Change.TakeQueued o a = a
 still_none (Change.Output bytes) o a = a
 still_none (Change.WakeAll p how) o a = a
-still_none (Change.PassOn g m) o a = a
+still_none (Change.Requeue g m) o a = a
 
 none-changes : (O G : ℕ → Type 0) (n : ℕ) (cs : List Change) (s : State) → s.finalisers ≡ [] → Sound O G Nothing n cs
     → (apply_all cs s).finalisers ≡ []

@@ -19,9 +19,9 @@ use Rattle.golf_data.specs.declared.goroutine.Queued.{Queued}
 use Rattle.golf_model.specs.Views.{GoroutineView}
 use Rattle.golf_model.specs.Values.{refs}
 use Rattle.golf_model.specs.State.{State}
-use Rattle.golf_model.specs.Waking.{woken_by, released}
-use Rattle.golf_model.specs.Changes.{Change, apply, replace, become, behind_first, moved, pass_on, pass_on_at}
-use Rattle.golf_model.specs.Changes.{pass_on_by}
+use Rattle.golf_model.specs.Wakes.{woken_by, released}
+use Rattle.golf_model.specs.Changes.{Change, apply, replace, become, behind_first, moved, requeue, requeue_at}
+use Rattle.golf_model.specs.Changes.{requeue_by}
 use Rattle.golf_model.specs.Refs.{object_refs, goroutine_refs, queue_refs}
 use Rattle.golf_model.specs.Futures.{Numbered, UpTo}
 use Rattle.golf_model_futures.specs.Invariant.{Good, Unfinalised}
@@ -141,26 +141,26 @@ module _ (s : State) (n : Numbered s) where
       ])
 
 module _ (s : State) (n : Numbered s) (g m : ℕ) (j : m ≤ s.last_object) where
-  numbered-pass_on_by : (locked : Bool) (r : GoroutineView) → UpTo s.last_object (goroutine_refs r)
-      → Numbered (pass_on_by locked g m r s)
-  numbered-pass_on_by false r a = numbered-replace (become g (released r) s)
+  numbered-requeue_by : (locked : Bool) (r : GoroutineView) → UpTo s.last_object (goroutine_refs r)
+      → Numbered (requeue_by locked g m r s)
+  numbered-requeue_by false r a = numbered-replace (become g (released r) s)
       (numbered-put s n g (released r) s.next_ticket (released-in (Given s) r a)) m (Object.Mutex true) tt
-  numbered-pass_on_by true r a =
+  numbered-requeue_by true r a =
       let q : GoroutineView = record r { mode = moved m s.next_ticket r.mode } in
       numbered-put s n g q (s.next_ticket + 1)
       (goroutine-both (Given s) q (goroutine-frames (Given s) r a)
       (moved-in (Given s) m s.next_ticket r.mode j (goroutine-waits (Given s) r a)))
 
-  numbered-pass_on_at : (x : Object) (r : GoroutineView) → UpTo s.last_object (goroutine_refs r)
-      → Numbered (pass_on_at x g m r s)
-  numbered-pass_on_at (Object.Mutex locked) r a = numbered-pass_on_by locked r a
-  numbered-pass_on_at _ r a = n
+  numbered-requeue_at : (x : Object) (r : GoroutineView) → UpTo s.last_object (goroutine_refs r)
+      → Numbered (requeue_at x g m r s)
+  numbered-requeue_at (Object.Mutex locked) r a = numbered-requeue_by locked r a
+  numbered-requeue_at _ r a = n
 
-  numbered-pass_on : (r : Option GoroutineView) (x : Option Object)
-      → ((q : GoroutineView) → r ≡ Some q → UpTo s.last_object (goroutine_refs q)) → Numbered (pass_on g m r x s)
-  numbered-pass_on None x h = n
-  numbered-pass_on (Some r) None h = n
-  numbered-pass_on (Some r) (Some x) h = numbered-pass_on_at x r (h r refl)
+  numbered-requeue : (r : Option GoroutineView) (x : Option Object)
+      → ((q : GoroutineView) → r ≡ Some q → UpTo s.last_object (goroutine_refs q)) → Numbered (requeue g m r x s)
+  numbered-requeue None x h = n
+  numbered-requeue (Some r) None h = n
+  numbered-requeue (Some r) (Some x) h = numbered-requeue_at x r (h r refl)
 
 -- once for each kind of change
 pub numbered_change : (s : State) (c : Change) → Numbered s → Good (Given s) (Started s) (Unfinalised s) c
@@ -219,6 +219,6 @@ numbered_change s (Change.WakeAll o how) n a =
     let r = Entry-map_values_back (λ h. woken_by how o) s.goroutines g q e in
     subst (λ z. UpTo s.last_object (goroutine_refs z)) (sym r.2)
     (woken-in (Given s) how o r.0 a.1 (goroutine-in s n g r.0 r.1)))
-numbered_change s (Change.PassOn g m) n a =
-    numbered-pass_on s n g m a.1 (find g s.goroutines) (find m s.objects)
+numbered_change s (Change.Requeue g m) n a =
+    numbered-requeue s n g m a.1 (find g s.goroutines) (find m s.objects)
     (λ q e. goroutine-in s n g q (Entry-find g s.goroutines q e))

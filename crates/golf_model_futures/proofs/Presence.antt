@@ -15,11 +15,11 @@ use Rattle.golf_data.specs.declared.value.Object.{Object}
 use Rattle.golf_data.specs.declared.code.Code.{Code}
 use Rattle.golf_model.specs.Views.{FrameView, GoroutineView}
 use Rattle.golf_model.specs.State.{State, start, call_frame, runnable}
-use Rattle.golf_model.specs.Changes.{Change, apply, apply_all, pass_on, pass_on_at, pass_on_by}
+use Rattle.golf_model.specs.Changes.{Change, apply, apply_all, requeue, requeue_at, requeue_by}
 use Rattle.golf_model.specs.Turn.{turned, clears_nothing, cleared_after, step, turn_changes, whose_turn}
 use Rattle.golf_model.specs.Refs.{frames_refs, goroutine_refs}
-use Rattle.golf_model.specs.Collecting.{plain_collect}
-use Rattle.golf_model.specs.Running.{Event, run, stops}
+use Rattle.golf_model.specs.Collections.{plain_collect}
+use Rattle.golf_model.specs.Runs.{Event, run, stops}
 use Rattle.golf_model.specs.Presence.{Present, IsWhole}
 use Rattle.golf_model.specs.Futures.{Numbered, UpTo}
 use Rattle.golf_model_futures.proofs.RefLaws.{frames-cons}
@@ -85,17 +85,17 @@ module _ (s : State) (x : Object) where
     ];
   }
 
--- passing on makes nothing
+-- requeueing makes nothing
 module _ (s : State) (g m : ℕ) where
-  passed-by : (locked : Bool) (r : GoroutineView) → SameHere s (pass_on_by locked g m r s)
-  passed-by true r = here-same s (pass_on_by true g m r s) refl refl
-  passed-by false r = here-same s (pass_on_by false g m r s) (keys-put m (Object.Mutex true) s.objects) refl
+  passed-by : (locked : Bool) (r : GoroutineView) → SameHere s (requeue_by locked g m r s)
+  passed-by true r = here-same s (requeue_by true g m r s) refl refl
+  passed-by false r = here-same s (requeue_by false g m r s) (keys-put m (Object.Mutex true) s.objects) refl
 
-  passed-at : (x : Object) (r : GoroutineView) → SameHere s (pass_on_at x g m r s)
+  passed-at : (x : Object) (r : GoroutineView) → SameHere s (requeue_at x g m r s)
   passed-at (Object.Mutex locked) r = passed-by locked r
   passed-at _ r = here-same s s refl refl
 
-  passed-here : (r : Option GoroutineView) (x : Option Object) → SameHere s (pass_on g m r x s)
+  passed-here : (r : Option GoroutineView) (x : Option Object) → SameHere s (requeue g m r x s)
   passed-here None x = here-same s s refl refl
   passed-here (Some r) None = here-same s s refl refl
   passed-here (Some r) (Some x) = passed-at x r
@@ -114,7 +114,7 @@ here-change s (Change.ClearFinaliser p) = here-same s (apply (Change.ClearFinali
 here-change s Change.TakeQueued = here-same s (apply Change.TakeQueued s) refl refl
 here-change s (Change.Output bytes) = here-same s (apply (Change.Output bytes) s) refl refl
 here-change s (Change.WakeAll p how) = here-same s (apply (Change.WakeAll p how) s) refl refl
-here-change s (Change.PassOn g m) = passed-here s g m (find g s.goroutines) (find m s.objects)
+here-change s (Change.Requeue g m) = passed-here s g m (find g s.goroutines) (find m s.objects)
 
 here-then : (s t u : State) → SameHere s t → SameHere t u → SameHere s u
 here-then s t u first rest = record { on = λ o h. rest.on o (first.on o h); back = λ o h. first.back o (rest.back o h) }

@@ -1,5 +1,5 @@
 -- What was printed before changes nothing: a state with more output goes the same way.
--- For: `printing_is_apart`, src/lib.rt; `prefixed`, specs/Printing.antt
+-- For: `printing_is_apart`, src/lib.rt; `prefixed`, specs/EarlierOutput.antt
 -- By: induction over the lists of events, of changes and of offers
 use Rattle.std.proofs.Common.{◌≡◌, ℕ, ◌+◌, ◌/◌, Bool, true, false, not, ◌&&◌, ◌||◌, List, [], ◌∷◌, ◌++◌, length, Option}
 use Rattle.std.proofs.Common.{Some, None, refl, ap, ◌∙◌, append_assoc}
@@ -14,18 +14,18 @@ use Rattle.golf_data.specs.declared.goroutine.Leaving.{Leaving}
 use Rattle.golf_data.specs.declared.report.Book.{Book}
 use Rattle.golf_model.specs.Views.{FrameView, GoroutineView}
 use Rattle.golf_model.specs.State.{State, not_empty, runnable}
-use Rattle.golf_model.specs.Changes.{Change, apply, apply_all, pass_on, pass_on_at, pass_on_by}
-use Rattle.golf_model.specs.Acting.{Actor, choose, at_reference_or}
-use Rattle.golf_model.specs.Selecting.{Offer, Taken, offers_of, is_nil_or_channel, all_on_channels, is_ready_on}
-use Rattle.golf_model.specs.Selecting.{is_ready, kept_if, ready, proceeds_by, chosen, selects_one, selects_from}
-use Rattle.golf_model.specs.Clearing.{clearing}
+use Rattle.golf_model.specs.Changes.{Change, apply, apply_all, requeue, requeue_at, requeue_by}
+use Rattle.golf_model.specs.Actors.{Actor, choose, at_reference_or}
+use Rattle.golf_model.specs.Selects.{Offer, Taken, offers_of, is_nil_or_channel, all_on_channels, is_ready_on}
+use Rattle.golf_model.specs.Selects.{is_ready, kept_if, ready, proceeds_by, chosen, selects_one, selects_from}
+use Rattle.golf_model.specs.ClearedSlots.{clearing}
 use Rattle.golf_model.specs.Turn.{changes, line_at, performs, frame_changes, goroutine_changes, turn_of, turn_changes}
 use Rattle.golf_model.specs.Turn.{whose_turn, turned, cleared_after, step, wants_collection, clears_nothing}
-use Rattle.golf_model.specs.Reaching.{reach, sources}
-use Rattle.golf_model.specs.Collecting.{plain_collect, queue_outside}
-use Rattle.golf_model.specs.Running.{Event, has_ended, collected_if, happens_in, happens, run}
-use Rattle.golf_model_futures.specs.Printing.{prefixed}
-use Rattle.golf_model.specs.Reporting.{entries, entry_of}
+use Rattle.golf_model.specs.Reach.{reach, sources}
+use Rattle.golf_model.specs.Collections.{plain_collect, queue_outside}
+use Rattle.golf_model.specs.Runs.{Event, has_ended, collected_if, happens_in, happens, run}
+use Rattle.golf_model_futures.specs.EarlierOutput.{prefixed}
+use Rattle.golf_model.specs.Reports.{entries, entry_of}
 
 -- `select`
 module _ (w : List ℕ) (s : State) where
@@ -108,26 +108,26 @@ module _ (w : List ℕ) (code : Code) where
   same-turn choice s None = refl
   same-turn choice s (Some g) = same-turn_of g choice s (find g s.goroutines)
 
-  -- passing on
+  -- requeueing
   passed-by : (locked : Bool) (g m : ℕ) (r : GoroutineView) (s : State)
-      → pass_on_by locked g m r (prefixed w s) ≡ prefixed w (pass_on_by locked g m r s)
+      → requeue_by locked g m r (prefixed w s) ≡ prefixed w (requeue_by locked g m r s)
   passed-by true g m r s = refl
   passed-by false g m r s = refl
 
   passed-at : (x : Object) (g m : ℕ) (r : GoroutineView) (s : State)
-      → pass_on_at x g m r (prefixed w s) ≡ prefixed w (pass_on_at x g m r s)
+      → requeue_at x g m r (prefixed w s) ≡ prefixed w (requeue_at x g m r s)
   passed-at (Object.Mutex locked) g m r s = passed-by locked g m r s
   passed-at _ g m r s = refl
 
   passed : (g m : ℕ) (r : Option GoroutineView) (x : Option Object) (s : State)
-      → pass_on g m r x (prefixed w s) ≡ prefixed w (pass_on g m r x s)
+      → requeue g m r x (prefixed w s) ≡ prefixed w (requeue g m r x s)
   passed g m None x s = refl
   passed g m (Some r) None s = refl
   passed g m (Some r) (Some x) s = passed-at x g m r s
 
   same-apply : (c : Change) (s : State) → apply c (prefixed w s) ≡ prefixed w (apply c s)
   same-apply (Change.Output bytes) s = ap (λ (o : List ℕ). record s { output = o }) (append_assoc w s.output bytes)
-  same-apply (Change.PassOn g m) s = passed g m (find g s.goroutines) (find m s.objects) s
+  same-apply (Change.Requeue g m) s = passed g m (find g s.goroutines) (find m s.objects) s
   same-apply _ s = refl
 
   same-apply_all : (cs : List Change) (s : State) → apply_all cs (prefixed w s) ≡ prefixed w (apply_all cs s)

@@ -1,5 +1,5 @@
 -- A stop of the state without what was removed is reported as that stop of the whole state.
--- For: `report`, `book_after`, golf_model/specs/Reporting.antt; `real_runs_agree`, src/lib.rt
+-- For: `report`, `book_after`, golf_model/specs/Reports.antt; `real_runs_agree`, src/lib.rt
 -- By: the laws of a cut state; induction over the list of numbers of goroutines
 use Rattle.std.proofs.Common.{◌≡◌, ℕ, ◌+◌, Bool, true, false, not, List, [], ◌∷◌, ◌++◌, map, filter, length, inl, inr}
 use Rattle.std.proofs.Common.{refl, sym, ap, ◌∙◌, subst}
@@ -14,10 +14,10 @@ use Rattle.golf_base.specs.declared.ids.GoroutineId.{GoroutineId}
 use Rattle.golf_data.specs.declared.code.Code.{Code}
 use Rattle.golf_data.specs.declared.report.Book.{Book}
 use Rattle.golf_model.specs.State.{State}
-use Rattle.golf_model.specs.Living.{dead}
-use Rattle.golf_model.specs.Collecting.{unkept, removed, retained, cut, sets_finalisers}
-use Rattle.golf_model.specs.Reporting.{goroutine_id, numbers, entries, without, new_dead, new_gone, all_gone}
-use Rattle.golf_model.specs.Reporting.{retained_objects, book_after, report}
+use Rattle.golf_model.specs.LiveSet.{dead}
+use Rattle.golf_model.specs.Collections.{unkept, removed, retained, cut, sets_finalisers}
+use Rattle.golf_model.specs.Reports.{goroutine_id, numbers, entries, without, new_dead, new_gone, all_gone}
+use Rattle.golf_model.specs.Reports.{retained_objects, book_after, report}
 use Rattle.golf_model.specs.Futures.{Numbered}
 use Rattle.golf_model_futures.proofs.Removing.{stays_by}
 use Rattle.golf_model_futures.proofs.SameFutures.{map-append}

@@ -1,5 +1,5 @@
 -- A run whose collections remove goroutines and free objects prints, calls and reports what the plain run does.
--- For: `real_runs_agree`, src/lib.rt; `real_run`, golf_model/specs/Reporting.antt
+-- For: `real_runs_agree`, src/lib.rt; `real_run`, golf_model/specs/Reports.antt
 -- By: induction over the list of events
 use Rattle.std.proofs.Common.{◌≡◌, ℕ, Bool, true, false, List, [], ◌∷◌, ◌++◌, refl, sym, ap, ◌∙◌, subst}
 use Rattle.golf_theory.specs.Membership.{is_in, any_of}
@@ -12,12 +12,12 @@ use Rattle.golf_data.specs.declared.report.Report.{Report}
 use Rattle.golf_model.specs.State.{State, start, ending}
 use Rattle.golf_model.specs.Changes.{Change}
 use Rattle.golf_model.specs.Turn.{step, wants_collection}
-use Rattle.golf_model.specs.Reaching.{reach, sources}
-use Rattle.golf_model.specs.Collecting.{plain_collect, removed, cut, sets_finalisers, real_collect}
-use Rattle.golf_model.specs.Running.{Event, has_ended, collected_if, happens_in, run_by, run, stop_if, stop_in}
-use Rattle.golf_model.specs.Running.{stops_by, stops, is_taking, first_if, call_in, calls_by, finaliser_calls}
-use Rattle.golf_model.specs.Reporting.{new_book, report, book_after, reports_from, book_of, real_run, real_reports}
-use Rattle.golf_model.specs.Reporting.{real_calls}
+use Rattle.golf_model.specs.Reach.{reach, sources}
+use Rattle.golf_model.specs.Collections.{plain_collect, removed, cut, sets_finalisers, real_collect}
+use Rattle.golf_model.specs.Runs.{Event, has_ended, collected_if, happens_in, run_by, run, stop_if, stop_in}
+use Rattle.golf_model.specs.Runs.{stops_by, stops, is_taking, first_if, call_in, calls_by, finaliser_calls}
+use Rattle.golf_model.specs.Reports.{new_book, report, book_after, reports_from, book_of, real_run, real_reports}
+use Rattle.golf_model.specs.Reports.{real_calls}
 use Rattle.golf_model.specs.Futures.{Numbered}
 use Rattle.golf_model_futures.proofs.Closing.{closed-ground}
 use Rattle.golf_model_futures.proofs.Cutting.{parts}

@@ -1,5 +1,5 @@
 -- A real collection of a state that earlier ones cut is one collection of the whole state that takes all of it.
--- For: `real_collect`, `removed`, golf_model/specs/Collecting.antt
+-- For: `real_collect`, `removed`, golf_model/specs/Collections.antt
 -- By: induction over the path by which an object is reached
 use Rattle.std.proofs.Common.{◌≡◌, ℕ, ◌+◌, Bool, true, false, not, ◌&&◌, ◌||◌, List, ◌++◌, filter, Option, Some, None}
 use Rattle.std.proofs.Common.{inl, inr, refl, sym, ap, ◌∙◌, subst, arith, nat_lt}
@@ -20,11 +20,11 @@ use Rattle.golf_model.specs.Values.{refs}
 use Rattle.golf_model.specs.State.{State}
 use Rattle.golf_model.specs.Refs.{object_refs, goroutine_refs, queue_refs, refs_where, goroutine_refs_where}
 use Rattle.golf_model.specs.Refs.{has_finaliser, refs_of_goroutine}
-use Rattle.golf_model.specs.Reaching.{RefersTo, Reach, reach, sources}
-use Rattle.golf_model.specs.Living.{Node, Live, dead}
-use Rattle.golf_model.specs.Collecting.{plain_collect, prevents_removal, keeps, unkept, removed, retained, cut}
-use Rattle.golf_model.specs.Collecting.{sets_finalisers, real_collect}
-use Rattle.golf_model.specs.Reporting.{without}
+use Rattle.golf_model.specs.Reach.{RefersTo, Reach, reach, sources}
+use Rattle.golf_model.specs.LiveSet.{Node, Live, dead}
+use Rattle.golf_model.specs.Collections.{plain_collect, prevents_removal, keeps, unkept, removed, retained, cut}
+use Rattle.golf_model.specs.Collections.{sets_finalisers, real_collect}
+use Rattle.golf_model.specs.Reports.{without}
 use Rattle.golf_model.specs.Futures.{Numbered}
 use Rattle.golf_model.proofs.Agreeing.{reach-sound, reach-complete, refs_where-sound, goroutine_refs_where-sound}
 use Rattle.golf_model_futures.proofs.Collecting.{In-goroutine_refs_where, In-refs_where}

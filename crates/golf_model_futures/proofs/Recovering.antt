@@ -4,8 +4,8 @@
 use Rattle.std.proofs.Common.{◌≡◌, ℕ, Bool, List, ap, ◌∙◌}
 use Rattle.golf_data.specs.declared.code.Code.{Code}
 use Rattle.golf_model.specs.State.{State}
-use Rattle.golf_model.specs.Collecting.{plain_collect, sets_finalisers, removed, real_collect}
-use Rattle.golf_model.specs.Running.{Event}
+use Rattle.golf_model.specs.Collections.{plain_collect, sets_finalisers, removed, real_collect}
+use Rattle.golf_model.specs.Runs.{Event}
 use Rattle.golf_model.specs.Futures.{Leads, futures}
 use Rattle.golf_model_futures.proofs.Leading.{leads-numbered}
 use Rattle.golf_model_futures.proofs.Modes.{sim-start, sim-collect, none-leads}

@@ -11,7 +11,7 @@ use Rattle.golf_data.specs.declared.goroutine.Wait.{Wait}
 use Rattle.golf_model.specs.Views.{FrameView, GoroutineView}
 use Rattle.golf_model.specs.Values.{value_refs, refs}
 use Rattle.golf_data.specs.Slots.{cleared_from}
-use Rattle.golf_model.specs.Waiting.{waits_of}
+use Rattle.golf_model.specs.Waiters.{waits_of}
 use Rattle.golf_model_futures.specs.Invariant.{FrameIn}
 use Rattle.golf_model.specs.Refs.{frame_refs, frames_refs, wait_refs, waited, goroutine_refs, deferred_refs}
 

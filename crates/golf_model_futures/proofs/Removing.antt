@@ -1,5 +1,5 @@
 -- What a collection removes and frees: the removed goroutines are dead, and all that is live is retained.
--- For: `removed`, `retained`, golf_model/specs/Collecting.antt
+-- For: `removed`, `retained`, golf_model/specs/Collections.antt
 -- By: induction over the path by which a node is live
 use Rattle.std.proofs.Common.{◌≡◌, ℕ, ◌+◌, ◌<◌, ◌≤◌, Bool, true, false, not, ◌||◌, List, inl, inr, refl, sym, arith}
 use Rattle.std.proofs.Common.{nat_lt}
@@ -19,9 +19,9 @@ use Rattle.golf_model.specs.Values.{refs}
 use Rattle.golf_model.specs.State.{State}
 use Rattle.golf_model.specs.Refs.{object_refs, goroutine_refs, queue_refs, goroutine_refs_where, has_finaliser}
 use Rattle.golf_model.specs.Refs.{refs_of_goroutine}
-use Rattle.golf_model.specs.Reaching.{RefersTo, reach, sources}
-use Rattle.golf_model.specs.Living.{Node, Live, LiveRoot, LiveStep, dead}
-use Rattle.golf_model.specs.Collecting.{plain_collect, prevents_removal, keeps, removed, retained, cut}
+use Rattle.golf_model.specs.Reach.{RefersTo, reach, sources}
+use Rattle.golf_model.specs.LiveSet.{Node, Live, LiveRoot, LiveStep, dead}
+use Rattle.golf_model.specs.Collections.{plain_collect, prevents_removal, keeps, removed, retained, cut}
 use Rattle.golf_model.specs.Futures.{Numbered}
 use Rattle.golf_model.proofs.Agreeing.{reach-sound, reach-complete, dead-sound}
 use Rattle.golf_model_futures.proofs.Collecting.{In-goroutine_refs_where, In-refs_where, reach-from, Joined}

@@ -1,5 +1,5 @@
 -- Each instruction has the same changes in a state that lacks what is cut.
--- For: `changes`, golf_model/specs/Turn.antt; `cut`, golf_model/specs/Collecting.antt
+-- For: `changes`, golf_model/specs/Turn.antt; `cut`, golf_model/specs/Collections.antt
 -- By: cases of the instruction and its operands; induction over the offers of a `select`
 use Rattle.std.proofs.Common.{◌≡◌, ℕ, ◌%◌, Bool, true, false, ◌&&◌, ◌||◌, List, [], ◌∷◌, ◌++◌, length, Option, Some}
 use Rattle.std.proofs.Common.{None, refl, ap, ◌∙◌, slice_get, nat_lt, ℤ}
@@ -21,28 +21,28 @@ use Rattle.golf_data.specs.declared.goroutine.WaitKind.{WaitKind}
 use Rattle.golf_model.specs.Views.{FrameView}
 use Rattle.golf_model.specs.Values.{int_of, is_zero, is_minus_one}
 use Rattle.golf_model.specs.State.{State, not_empty}
-use Rattle.golf_model.specs.Waiting.{Waiter, waiter_ticket, first, waiters}
-use Rattle.golf_model.specs.Waking.{Waking}
+use Rattle.golf_model.specs.Waiters.{Waiter, waiter_ticket, first, waiters}
+use Rattle.golf_model.specs.Wakes.{Waking}
 use Rattle.golf_model.specs.Changes.{Change}
-use Rattle.golf_model.specs.Acting.{Actor, next, goes, leaves, panics, dies, on_some, choose, at_reference, at_struct}
-use Rattle.golf_model.specs.Acting.{at_slice, at_channel, at_mutex, at_group, at_rw, at_condition}
-use Rattle.golf_model.specs.Calculating.{sum}
+use Rattle.golf_model.specs.Actors.{Actor, next, goes, leaves, panics, dies, on_some, choose, at_reference, at_struct}
+use Rattle.golf_model.specs.Actors.{at_slice, at_channel, at_mutex, at_group, at_rw, at_condition}
+use Rattle.golf_model.specs.Arithmetic.{sum}
 use Rattle.golf_model.specs.Structures.{makes, gets_field, sets_field, field_set, within, element, gets_element}
 use Rattle.golf_model.specs.Structures.{element_set, sets_element, length_of, measures}
 use Rattle.golf_model.specs.Channels.{sends_to, sends_on, sends, receives_from, receives_on, receives, closes_open}
 use Rattle.golf_model.specs.Channels.{closes}
-use Rattle.golf_model.specs.Selecting.{Offer, Taken, offers_of, is_channel, is_nil_or_channel, all_on_channels}
-use Rattle.golf_model.specs.Selecting.{can_proceed, is_ready_at, is_ready_on, is_ready, kept_if, ready, proceeds_by}
-use Rattle.golf_model.specs.Selecting.{selects_one, chosen, selects_from, selects}
+use Rattle.golf_model.specs.Selects.{Offer, Taken, offers_of, is_channel, is_nil_or_channel, all_on_channels}
+use Rattle.golf_model.specs.Selects.{can_proceed, is_ready_at, is_ready_on, is_ready, kept_if, ready, proceeds_by}
+use Rattle.golf_model.specs.Selects.{selects_one, chosen, selects_from, selects}
 use Rattle.golf_model.specs.Mutexes.{blocks_on, locks_by, locks, hands_over, unlocks_by, unlocks, counts, adds}
 use Rattle.golf_model.specs.Mutexes.{waits_by, waits}
 use Rattle.golf_model.specs.ReadersWriters.{counted, to_readers, serves_first, serves, most_readers, write_locks_by}
 use Rattle.golf_model.specs.ReadersWriters.{write_locks, write_unlocks_by, write_unlocks, read_locks_by, read_locks}
 use Rattle.golf_model.specs.ReadersWriters.{read_leaves, read_unlocks_by, read_unlocks}
-use Rattle.golf_model.specs.Conditions.{makes_condition, gets_mutex, awaits_by, awaits, passes_on, first_only, notifies}
+use Rattle.golf_model.specs.Conditions.{makes_condition, gets_mutex, awaits_by, awaits, requeues, first_only, notifies}
 use Rattle.golf_model.specs.Conditions.{signals, broadcasts}
-use Rattle.golf_model.specs.Finalising.{finalises_by, finalises, unfinalises}
-use Rattle.golf_model.specs.Collecting.{cut}
+use Rattle.golf_model.specs.Finalisers.{finalises_by, finalises, unfinalises}
+use Rattle.golf_model.specs.Collections.{cut}
 use Rattle.golf_model.specs.Turn.{changes}
 use Rattle.golf_model_futures.proofs.RefLaws.{Val, Vals}
 use Rattle.golf_model_futures.proofs.Acting.{Ground, found-in}
@@ -307,7 +307,7 @@ module _ (stays kept : ℕ → Bool) (O G : ℕ → Type 0) (s : State) (c : Gro
       → notifies a rest (cut stays kept s) ws v ≡ notifies a rest s ws v
   same-notifies rest [] v h = refl
   same-notifies rest (w ∷ ws) v h = same-at_reference_or O [] _ _ v h
-      (λ p m. at_object p m (at_mutex (λ locked. goes a rest ++ passes_on p (w ∷ ws))))
+      (λ p m. at_object p m (at_mutex (λ locked. goes a rest ++ requeues p (w ∷ ws))))
 
   same-signals : signals a (cut stays kept s) ≡ signals a s
   same-signals = same-taking_one O _ _ a.frame.operands ops

@@ -1,5 +1,5 @@
 -- A cut state has the same futures, if what a collection meets is the same.
--- For: `futures`, golf_model/specs/Futures.antt; `cut`, golf_model/specs/Collecting.antt
+-- For: `futures`, golf_model/specs/Futures.antt; `cut`, golf_model/specs/Collections.antt
 -- By: induction over the list of events
 use Rattle.std.proofs.Common.{◌≡◌, ℕ, ◌/◌, Bool, true, false, List, [], ◌∷◌, ◌++◌, map, length, Option, inl, inr, refl}
 use Rattle.std.proofs.Common.{sym, ap, ◌∙◌}
@@ -15,13 +15,13 @@ use Rattle.golf_model.specs.Changes.{Change}
 use Rattle.golf_model.specs.Turn.{turned, cleared_after, step, turn_changes, whose_turn, wants_collection}
 use Rattle.golf_model.specs.Views.{GoroutineView}
 use Rattle.golf_model.specs.Refs.{refs_of_goroutine}
-use Rattle.golf_model.specs.Reaching.{reach}
-use Rattle.golf_model.specs.Collecting.{plain_collect, prevents_removal, sets_finalisers, cut}
-use Rattle.golf_model.specs.Running.{Event, has_ended, collected_if, happens_in, happens, run, stop_if, stop_in}
-use Rattle.golf_model.specs.Running.{stops_by, is_taking, first_if, call_in, calls_by}
+use Rattle.golf_model.specs.Reach.{reach}
+use Rattle.golf_model.specs.Collections.{plain_collect, prevents_removal, sets_finalisers, cut}
+use Rattle.golf_model.specs.Runs.{Event, has_ended, collected_if, happens_in, happens, run, stop_if, stop_in}
+use Rattle.golf_model.specs.Runs.{stops_by, is_taking, first_if, call_in, calls_by}
 use Rattle.golf_model.specs.Futures.{Numbered, Sight, sight, futures}
 use Rattle.golf_model_futures.specs.Invariant.{Closed}
-use Rattle.golf_model_futures.specs.Cutting.{KeepsFresh}
+use Rattle.golf_model_futures.specs.CutStates.{KeepsFresh}
 use Rattle.golf_model_futures.proofs.Collecting.{Joined, closed-collect}
 use Rattle.golf_model_futures.proofs.Cutting.{keeps_fresh-all}
 use Rattle.golf_model_futures.proofs.Flowing.{Flow}

@@ -1,5 +1,5 @@
 -- What is looked up from members is the same in a state that lacks what is cut.
--- For: `first`, `waiters`, golf_model/specs/Waiting.antt; `cut`, golf_model/specs/Collecting.antt
+-- For: `first`, `waiters`, golf_model/specs/Waiters.antt; `cut`, golf_model/specs/Collections.antt
 -- By: induction over the list of goroutines
 use Rattle.std.proofs.Common.{◌≡◌, ℕ, ◌+◌, Bool, true, false, cond, List, [], ◌∷◌, Option, Some, None, inl, inr, refl}
 use Rattle.std.proofs.Common.{sym, ap, ◌∙◌, arith}
@@ -12,12 +12,12 @@ use Rattle.golf_data.specs.declared.goroutine.Side.{Side}
 use Rattle.golf_data.specs.declared.goroutine.Wait.{Wait}
 use Rattle.golf_model.specs.Views.{GoroutineView}
 use Rattle.golf_model.specs.State.{State}
-use Rattle.golf_model.specs.Waiting.{Waiter, waits_of, waiter_of, earlier, first, enter, waiters}
-use Rattle.golf_model.specs.Waking.{reads_next}
+use Rattle.golf_model.specs.Waiters.{Waiter, waits_of, waiter_of, earlier, first, enter, waiters}
+use Rattle.golf_model.specs.Wakes.{reads_next}
 use Rattle.golf_model.specs.ReadersWriters.{one_if, readers_next}
 use Rattle.golf_model.specs.Changes.{Change}
-use Rattle.golf_model.specs.Acting.{Actor, on_some, taking_one, taking_two, taking_three, choose, at_reference}
-use Rattle.golf_model.specs.Acting.{at_reference_or, at_condition}
+use Rattle.golf_model.specs.Actors.{Actor, on_some, taking_one, taking_two, taking_three, choose, at_reference}
+use Rattle.golf_model.specs.Actors.{at_reference_or, at_condition}
 use Rattle.golf_model.specs.Refs.{object_refs, waited}
 use Rattle.golf_model_futures.proofs.RefLaws.{Val, Vals, vals-head, vals-tail}
 use Rattle.golf_model_futures.proofs.WaitLaws.{IsWaiter, waiter_of-is, wait_for-waited}

@@ -1,5 +1,5 @@
 -- What is live, and what is seen at a collection, is the same in a cut state.
--- For: `Live`, golf_model/specs/Living.antt; `sight`, golf_model/specs/Futures.antt
+-- For: `Live`, golf_model/specs/LiveSet.antt; `sight`, golf_model/specs/Futures.antt
 -- By: induction over the path by which a node is live
 use Rattle.std.proofs.Common.{◌≡◌, ℕ, Bool, true, not, ◌&&◌, List, [], ◌∷◌, ◌++◌, filter, Option, refl, ap, ◌∙◌}
 use Rattle.golf_theory.specs.Membership.{Every}
@@ -15,10 +15,10 @@ use Rattle.golf_model.specs.Views.{GoroutineView}
 use Rattle.golf_model.specs.Values.{refs}
 use Rattle.golf_model.specs.State.{State, is_running}
 use Rattle.golf_model.specs.Refs.{object_refs, goroutine_refs, queue_refs}
-use Rattle.golf_model.specs.Living.{Node, Live, LiveRoot, LiveStep, live_list, has_object, has_goroutine, live_objects}
-use Rattle.golf_model.specs.Living.{is_dead, dead}
-use Rattle.golf_model.specs.Collecting.{cut}
-use Rattle.golf_model.specs.Reporting.{entry_of, entries, without}
+use Rattle.golf_model.specs.LiveSet.{Node, Live, LiveRoot, LiveStep, live_list, has_object, has_goroutine, live_objects}
+use Rattle.golf_model.specs.LiveSet.{is_dead, dead}
+use Rattle.golf_model.specs.Collections.{cut}
+use Rattle.golf_model.specs.Reports.{entry_of, entries, without}
 use Rattle.golf_model.specs.Futures.{sight}
 use Rattle.golf_model.proofs.Agreeing.{live_list-sound, live_list-complete, has_object-sound, has_object-complete}
 use Rattle.golf_model.proofs.Agreeing.{has_goroutine-sound, has_goroutine-complete}

@@ -1,5 +1,5 @@
 -- A turn of a state that is cut down is that turn cut down.
--- For: `step`, `turn_changes`, golf_model/specs/Turn.antt; `cut`, golf_model/specs/Collecting.antt
+-- For: `step`, `turn_changes`, golf_model/specs/Turn.antt; `cut`, golf_model/specs/Collections.antt
 -- By: cases of whose turn it is and of the frame on top; no induction
 use Rattle.std.proofs.Common.{◌≡◌, ℕ, ◌%◌, ◌/◌, Bool, true, not, ◌||◌, List, [], ◌∷◌, length, Option, Some, None, refl}
 use Rattle.std.proofs.Common.{ap, ◌∙◌, slice_get}
@@ -10,7 +10,7 @@ use Rattle.golf_theory.specs.Maps.{find, only}
 use Rattle.golf_theory.proofs.MapEntries.{Entry-find}
 use Rattle.golf_theory.proofs.MapFinds.{find-only}
 use Rattle.golf_theory.proofs.MapKeys.{keys_where-only_same}
-use Rattle.golf_model_futures.specs.Cutting.{KeepsFresh}
+use Rattle.golf_model_futures.specs.CutStates.{KeepsFresh}
 use Rattle.golf_data.specs.declared.code.Code.{Code}
 use Rattle.golf_data.specs.declared.code.CodeLine.{CodeLine}
 use Rattle.golf_data.specs.declared.goroutine.Leaving.{Leaving}
@@ -20,9 +20,9 @@ use Rattle.golf_model.specs.Changes.{Change, apply_all}
 use Rattle.golf_model.specs.Turn.{line_at, acting, performs, frame_changes, goroutine_changes, turn_of, turn_changes}
 use Rattle.golf_model.specs.Turn.{whose_turn, turned, cleared_after, step, goroutine_collects, wants_collection}
 use Rattle.golf_model.specs.Turn.{moves_on, clears_nothing}
-use Rattle.golf_model.specs.Clearing.{clearing}
+use Rattle.golf_model.specs.ClearedSlots.{clearing}
 use Rattle.golf_model.specs.Refs.{frames_refs, goroutine_refs}
-use Rattle.golf_model.specs.Collecting.{cut}
+use Rattle.golf_model.specs.Collections.{cut}
 use Rattle.golf_model_futures.specs.Invariant.{Closed, Nothing, Unfinalised}
 use Rattle.golf_model_futures.proofs.RefLaws.{goroutine-frames, frames-head, frames-tail}
 use Rattle.golf_model_futures.proofs.Closing.{closed-ground}

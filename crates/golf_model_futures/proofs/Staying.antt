@@ -1,5 +1,5 @@
 -- Whatever happens, closed sets stay closed, and what is outside them stands as it stood.
--- For: `run`, golf_model/specs/Running.antt; `Closed`, specs/Invariant.antt
+-- For: `run`, golf_model/specs/Runs.antt; `Closed`, specs/Invariant.antt
 -- By: induction over the list of events
 use Rattle.std.proofs.Common.{◌≡◌, ℕ, ◌%◌, Bool, true, false, List, [], ◌∷◌, length, Some, inl, ◌/◌}
 use Rattle.std.proofs.lemmas.Bool.{and_parts}
@@ -14,8 +14,8 @@ use Rattle.golf_model.specs.Views.{GoroutineView}
 use Rattle.golf_model.specs.State.{State, is_running, can_run, runnable}
 use Rattle.golf_model.specs.Turn.{turned, cleared_after, step, turn_changes, whose_turn, wants_collection}
 use Rattle.golf_model.specs.Turn.{clears_nothing}
-use Rattle.golf_model.specs.Collecting.{plain_collect}
-use Rattle.golf_model.specs.Running.{Event, has_ended, collected_if, happens_in, happens, run}
+use Rattle.golf_model.specs.Collections.{plain_collect}
+use Rattle.golf_model.specs.Runs.{Event, has_ended, collected_if, happens_in, happens, run}
 use Rattle.golf_model_futures.specs.Invariant.{Closed, Confined, Nothing, Sound, Unfinalised}
 use Rattle.golf_model_futures.proofs.Closing.{closed-ground}
 use Rattle.golf_model_futures.proofs.Goodness.{good-sound}

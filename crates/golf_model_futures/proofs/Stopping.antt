@@ -1,5 +1,5 @@
 -- What turns and collections keep holds at each state of a plain run and each collection; so the dead stand still.
--- For: `run`, `stops`, golf_model/specs/Running.antt; `reported_are_still`, src/lib.rt
+-- For: `run`, `stops`, golf_model/specs/Runs.antt; `reported_are_still`, src/lib.rt
 -- By: induction over the list of events
 use Rattle.std.proofs.Common.{ℕ, Bool, true, false, List, [], ◌∷◌, inl, inr, sym, subst}
 use Rattle.golf_theory.specs.Membership.{In}
@@ -7,10 +7,10 @@ use Rattle.golf_theory.proofs.Lists.{In-cases}
 use Rattle.golf_data.specs.declared.code.Code.{Code}
 use Rattle.golf_model.specs.State.{State, start}
 use Rattle.golf_model.specs.Turn.{step, wants_collection}
-use Rattle.golf_model.specs.Living.{dead}
-use Rattle.golf_model.specs.Collecting.{plain_collect}
-use Rattle.golf_model.specs.Running.{Event, has_ended, collected_if, happens_in, happens, run, stop_if, stop_in}
-use Rattle.golf_model.specs.Running.{stops_by, stops}
+use Rattle.golf_model.specs.LiveSet.{dead}
+use Rattle.golf_model.specs.Collections.{plain_collect}
+use Rattle.golf_model.specs.Runs.{Event, has_ended, collected_if, happens_in, happens, run, stop_if, stop_in}
+use Rattle.golf_model.specs.Runs.{stops_by, stops}
 use Rattle.golf_model.specs.Futures.{Numbered, Still}
 use Rattle.golf_model.proofs.Agreeing.{dead-sound}
 use Rattle.golf_model_futures.proofs.DeadStill.{dead_still}

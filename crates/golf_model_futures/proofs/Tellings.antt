@@ -1,5 +1,5 @@
 -- Each report names exactly those whom it finds first.
--- For: `book_tells_of_each`, src/lib.rt; `report`, golf_model/specs/Reporting.antt
+-- For: `book_tells_of_each`, src/lib.rt; `report`, golf_model/specs/Reports.antt
 -- By: induction over the list of states right before collections, and over the list of goroutines
 use Rattle.std.proofs.Common.{◌≡◌, ℕ, Bool, false, not, List, [], ◌∷◌, ◌++◌, map, Option, inl, inr, refl, sym, ap, ◌∙◌}
 use Rattle.golf_theory.specs.Membership.{In, Every, is_in}
@@ -12,14 +12,14 @@ use Rattle.golf_data.specs.declared.report.Book.{Book}
 use Rattle.golf_data.specs.declared.report.Entry.{Entry as Reported}
 use Rattle.golf_model.specs.Views.{GoroutineView}
 use Rattle.golf_model.specs.State.{State, start, is_running}
-use Rattle.golf_model.specs.Living.{dead}
-use Rattle.golf_model.specs.Collecting.{sets_finalisers}
-use Rattle.golf_model.specs.Running.{Event, stops}
-use Rattle.golf_model.specs.Reporting.{numbers, entry_by, entry_of, entries, without, new_book, new_dead, book_after}
-use Rattle.golf_model.specs.Reporting.{report, reports_from, book_of}
+use Rattle.golf_model.specs.LiveSet.{dead}
+use Rattle.golf_model.specs.Collections.{sets_finalisers}
+use Rattle.golf_model.specs.Runs.{Event, stops}
+use Rattle.golf_model.specs.Reports.{numbers, entry_by, entry_of, entries, without, new_book, new_dead, book_after}
+use Rattle.golf_model.specs.Reports.{report, reports_from, book_of}
 use Rattle.golf_model.specs.Futures.{Numbered}
 use Rattle.golf_model.proofs.Agreeing.{dead-sound}
-use Rattle.golf_model_futures.specs.Telling.{named, TellsOfEach}
+use Rattle.golf_model_futures.specs.ReportedGoroutines.{named, TellsOfEach}
 use Rattle.golf_model_futures.proofs.Leading.{numbered-start, numbered-step, numbered-collect}
 use Rattle.golf_model_futures.proofs.RealReports.{numbers-append}
 use Rattle.golf_model_futures.proofs.SameFutures.{map-append}

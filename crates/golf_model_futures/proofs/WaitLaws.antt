@@ -1,5 +1,5 @@
 -- Waits that are found, and the first waiter.
--- For: `wait_for`, `first`, `waiters`, golf_model/specs/Waiting.antt
+-- For: `wait_for`, `first`, `waiters`, golf_model/specs/Waiters.antt
 -- By: induction over the list of waits and over the list of goroutines
 use Rattle.std.proofs.Common.{◌≡◌, ℕ, true, false, cond, List, [], ◌∷◌, Option, Some, None, ◌==◌, ◌⊎◌, ◌&&◌, inl, inr}
 use Rattle.std.proofs.Common.{refl, sym, ap, subst, nat_lt, option_map}
@@ -9,8 +9,8 @@ use Rattle.golf_theory.specs.Maps.{Entry}
 use Rattle.golf_data.specs.declared.goroutine.Side.{Side}
 use Rattle.golf_data.specs.declared.goroutine.Wait.{Wait}
 use Rattle.golf_model.specs.Views.{GoroutineView}
-use Rattle.golf_model.specs.Waiting.{Waiter, waits_of, wait_for, wait_on, waiter_of, waiter_ticket, earlier, first}
-use Rattle.golf_model.specs.Waiting.{by_ticket, enter, waiters, same_side}
+use Rattle.golf_model.specs.Waiters.{Waiter, waits_of, wait_for, wait_on, waiter_of, waiter_ticket, earlier, first}
+use Rattle.golf_model.specs.Waiters.{by_ticket, enter, waiters, same_side}
 use Rattle.golf_model.specs.Refs.{waited}
 
 -- a wait that is found stands in the list, and its object is the one that was looked for

@@ -1,5 +1,5 @@
 -- What becomes of a goroutine that is woken, and that nobody else changes.
--- For: `woken_by`, golf_model/specs/Waking.antt
+-- For: `woken_by`, golf_model/specs/Wakes.antt
 -- By: cases of the waking and of the wait; no induction
 use Rattle.std.proofs.Common.{◌≡◌, ℕ, Bool, true, false, cond, List, [], ◌∷◌, Option, Some, None, ◌⊎◌, inl, inr, refl}
 use Rattle.golf_theory.specs.Membership.{In, Every}
@@ -9,9 +9,9 @@ use Rattle.golf_data.specs.declared.goroutine.Mode.{Mode}
 use Rattle.golf_data.specs.declared.goroutine.Side.{Side}
 use Rattle.golf_data.specs.declared.goroutine.Wait.{Wait}
 use Rattle.golf_model.specs.Views.{FrameView, GoroutineView}
-use Rattle.golf_model.specs.Waiting.{waits_of, wait_for, wait_on, ticket_of}
-use Rattle.golf_model.specs.Waking.{Waking, unwinding, resumed, resumed_frame, released, unwound, received, on_top}
-use Rattle.golf_model.specs.Waking.{woken_by, closed_on, closed_for, released_by, reads_next, is_below}
+use Rattle.golf_model.specs.Waiters.{waits_of, wait_for, wait_on, ticket_of}
+use Rattle.golf_model.specs.Wakes.{Waking, unwinding, resumed, resumed_frame, released, unwound, received, on_top}
+use Rattle.golf_model.specs.Wakes.{woken_by, closed_on, closed_for, released_by, reads_next, is_below}
 use Rattle.golf_model.specs.Refs.{goroutine_refs, frames_refs, waited}
 use Rattle.golf_model_futures.specs.Invariant.{GoodWaking, FrameIn}
 use Rattle.golf_model_futures.proofs.RefLaws.{Val, Vals, vals-append, vals-cons, frames-cons, frames-head, frames-tail}

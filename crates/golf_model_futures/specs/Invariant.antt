@@ -7,11 +7,11 @@ use Rattle.golf_data.specs.declared.value.Object.{Object}
 use Rattle.golf_model.specs.Views.{FrameView, GoroutineView}
 use Rattle.golf_model.specs.Values.{value_refs, refs}
 use Rattle.golf_model.specs.State.{State, is_running}
-use Rattle.golf_model.specs.Waiting.{waits_of}
-use Rattle.golf_model.specs.Waking.{Waking}
+use Rattle.golf_model.specs.Waiters.{waits_of}
+use Rattle.golf_model.specs.Wakes.{Waking}
 use Rattle.golf_model.specs.Changes.{Change}
-use Rattle.golf_model.specs.Acting.{Actor}
-use Rattle.golf_model.specs.Reaching.{reach, sources}
+use Rattle.golf_model.specs.Actors.{Actor}
+use Rattle.golf_model.specs.Reach.{reach, sources}
 use Rattle.golf_model.specs.Refs.{object_refs, deferred_refs, leaving_refs, frames_refs, wait_refs, goroutine_refs}
 use Rattle.golf_model.specs.Refs.{queue_refs, waited}
 
@@ -57,7 +57,7 @@ Good O G F (Change.ClearFinaliser o) = O o
 Good O G F Change.TakeQueued = Unit {0}
 Good O G F (Change.Output bytes) = Unit {0}
 Good O G F (Change.WakeAll o how) = O o × GoodWaking O how
-Good O G F (Change.PassOn g m) = G g × O m
+Good O G F (Change.Requeue g m) = G g × O m
 
 -- the empty set
 abbrev pub Nothing : ℕ → Type 0

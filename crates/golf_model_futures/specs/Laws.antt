@@ -5,18 +5,18 @@ use Rattle.golf_data.specs.declared.code.Code.{Code}
 use Rattle.golf_data.specs.declared.code.Instr.{Instr}
 use Rattle.golf_model.specs.State.{State, start, ending}
 use Rattle.golf_model.specs.Changes.{Change, apply}
-use Rattle.golf_model.specs.Acting.{Actor}
+use Rattle.golf_model.specs.Actors.{Actor}
 use Rattle.golf_model.specs.Turn.{changes, step}
-use Rattle.golf_model.specs.Collecting.{plain_collect, cut, sets_finalisers, removed, real_collect}
-use Rattle.golf_model.specs.Living.{Node, Live, Dead, dead}
-use Rattle.golf_model.specs.Running.{Event, run, stops, finaliser_calls}
-use Rattle.golf_model.specs.Reporting.{real_run, real_reports, real_calls, book_of}
+use Rattle.golf_model.specs.Collections.{plain_collect, cut, sets_finalisers, removed, real_collect}
+use Rattle.golf_model.specs.LiveSet.{Node, Live, Dead, dead}
+use Rattle.golf_model.specs.Runs.{Event, run, stops, finaliser_calls}
+use Rattle.golf_model.specs.Reports.{real_run, real_reports, real_calls, book_of}
 use Rattle.golf_model.specs.Futures.{Numbered, Still, Leads, futures}
 use Rattle.golf_model_futures.specs.Invariant.{Closed, Confined, Good, Nothing, Sound, Unfinalised, ActorIn, Queueing}
 use Rattle.golf_model.specs.Presence.{IsWhole}
-use Rattle.golf_model_futures.specs.Printing.{prefixed}
-use Rattle.golf_model_futures.specs.Telling.{TellsOfEach}
-use Rattle.golf_model_futures.specs.Cutting.{Passes, KeepsFresh}
+use Rattle.golf_model_futures.specs.EarlierOutput.{prefixed}
+use Rattle.golf_model_futures.specs.ReportedGoroutines.{TellsOfEach}
+use Rattle.golf_model_futures.specs.CutStates.{IsKeptBy, KeepsFresh}
 
 -- a blocked goroutine outside the live set takes no step in any continuation, whatever the events
 abbrev pub DeadAreStill : Type 0
@@ -33,35 +33,36 @@ LiveIsClosed = (s : State) → Numbered s → Closed s (λ o. Live s (Node.AnObj
 
 -- a change that concerns only members keeps closed sets closed, and leaves everything else as it was
 abbrev pub ChangesKeep : Type 0
-ChangesKeep = (s : State) (c : Change) (kept stays : ℕ → Bool) → Closed s (Passes kept) (Passes stays)
-    → Good (Passes kept) (Passes stays) Nothing c
-    → Closed (apply c s) (Passes kept) (Passes stays) × Confined (Passes kept) (Passes stays) s (apply c s)
+ChangesKeep = (s : State) (c : Change) (kept stays : ℕ → Bool) → Closed s (IsKeptBy kept) (IsKeptBy stays)
+    → Good (IsKeptBy kept) (IsKeptBy stays) Nothing c
+    → Closed (apply c s) (IsKeptBy kept) (IsKeptBy stays) × Confined (IsKeptBy kept) (IsKeptBy stays) s (apply c s)
 
 -- the changes of an instruction concern only members of each closed pair of sets that its goroutine belongs to
 abbrev pub InstructionsMoveMembers : Type 0
-InstructionsMoveMembers = (code : Code) (s : State) (kept stays : ℕ → Bool) → Closed s (Passes kept) (Passes stays)
-    → (a : Actor) → ActorIn (Passes kept) (Passes stays) a → (i : Instr) (choice : ℕ)
-    → Sound (Passes kept) (Passes stays) (Unfinalised s) s.last_object (changes code i a choice s)
+InstructionsMoveMembers = (code : Code) (s : State) (kept stays : ℕ → Bool) → Closed s (IsKeptBy kept) (IsKeptBy stays)
+    → (a : Actor) → ActorIn (IsKeptBy kept) (IsKeptBy stays) a → (i : Instr) (choice : ℕ)
+    → Sound (IsKeptBy kept) (IsKeptBy stays) (Unfinalised s) s.last_object (changes code i a choice s)
 
 -- an instruction has the same changes in a state without the objects and goroutines outside such sets
 abbrev pub InstructionsSame : Type 0
-InstructionsSame = (code : Code) (s : State) (kept stays : ℕ → Bool) → Closed s (Passes kept) (Passes stays)
-    → (a : Actor) → ActorIn (Passes kept) (Passes stays) a → (i : Instr) (choice : ℕ)
+InstructionsSame = (code : Code) (s : State) (kept stays : ℕ → Bool) → Closed s (IsKeptBy kept) (IsKeptBy stays)
+    → (a : Actor) → ActorIn (IsKeptBy kept) (IsKeptBy stays) a → (i : Instr) (choice : ℕ)
     → changes code i a choice (cut stays kept s) ≡ changes code i a choice s
 
 -- a collection keeps closed sets closed, once the objects that it queues have joined them
 abbrev pub CollectionsKeep : Type 0
-CollectionsKeep = (s : State) (kept stays : ℕ → Bool) → Closed s (Passes kept) (Passes stays)
-    → Closed (plain_collect s) (λ o. Passes kept o ⊎ Queueing s o) (Passes stays)
+CollectionsKeep = (s : State) (kept stays : ℕ → Bool) → Closed s (IsKeptBy kept) (IsKeptBy stays)
+    → Closed (plain_collect s) (λ o. IsKeptBy kept o ⊎ Queueing s o) (IsKeptBy stays)
 
 -- a turn keeps closed sets closed, and leaves everything else as it was
 abbrev pub TurnsKeep : Type 0
-TurnsKeep = (code : Code) (s : State) (k : ℕ) (kept stays : ℕ → Bool) → Closed s (Passes kept) (Passes stays)
-    → Closed (step code s k) (Passes kept) (Passes stays) × Confined (Passes kept) (Passes stays) s (step code s k)
+TurnsKeep = (code : Code) (s : State) (k : ℕ) (kept stays : ℕ → Bool) → Closed s (IsKeptBy kept) (IsKeptBy stays)
+    → Closed (step code s k) (IsKeptBy kept) (IsKeptBy stays)
+    × Confined (IsKeptBy kept) (IsKeptBy stays) s (step code s k)
 
 -- a turn of a state that is cut down to closed sets is that turn, cut down
 abbrev pub TurnsCut : Type 0
-TurnsCut = (code : Code) (s : State) (k : ℕ) (kept stays : ℕ → Bool) → Closed s (Passes kept) (Passes stays)
+TurnsCut = (code : Code) (s : State) (k : ℕ) (kept stays : ℕ → Bool) → Closed s (IsKeptBy kept) (IsKeptBy stays)
     → KeepsFresh stays kept s
     → step code (cut stays kept s) k ≡ cut stays kept (step code s k)
 

@@ -1,5 +1,7 @@
 pub mod Invariant
-pub mod Cutting
-pub mod Printing
+pub mod CutStates
+pub mod EarlierOutput
 pub mod Laws
-pub mod Telling
+pub mod ReportedGoroutines
+pub mod Orderly
+pub mod OrderLaws

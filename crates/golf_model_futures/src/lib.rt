@@ -23,6 +23,17 @@ ghost use Rattle.golf_model_futures.specs.Laws.{
   TurnsCut,
   TurnsKeep,
 };
+ghost use Rattle.golf_model_futures.specs.OrderLaws.{
+  ChangesKeepOrder,
+  CollectionsKeepOrder,
+  CollectionsKeepWhole,
+  FinaliserGoroutineLives,
+  FinaliserGoroutineUnreported,
+  InstructionsKeepOrder,
+  LeadsOrderly,
+  LeadsWhole,
+  TurnsKeepOrder,
+};
 
 /// States that a blocked goroutine outside the live set takes no step in any continuation.
 ///
@@ -110,4 +121,38 @@ pub fn references_are_present()
 /// States that output from before a run changes nothing in the run.
 pub fn printing_is_apart()
     ensures { PrintingApart }
+{}
+
+/// States that every state that moves reach is whole: each reference is to an object that exists,
+/// and so is each object with a finaliser. Moves start from the opening state of any code.
+pub fn leads_whole()
+    ensures { LeadsWhole }
+{}
+
+/// States that a collection keeps a state whole, with and without recovery.
+pub fn collections_keep_whole()
+    ensures { CollectionsKeepWhole }
+{}
+
+/// States that every state that moves reach is orderly.
+///
+/// A blocked goroutine has a frame. Tickets of blocked goroutines differ and lie below the next
+/// ticket. A condition on which a goroutine waits has a mutex that exists. Goroutine 0 exists.
+pub fn leads_orderly()
+    ensures { LeadsOrderly }
+{}
+
+/// States that each change, instruction, turn and collection keeps a state orderly.
+pub fn order_is_kept()
+    ensures changes { ChangesKeepOrder }
+    ensures instructions { InstructionsKeepOrder }
+    ensures turns { TurnsKeepOrder }
+    ensures collections { CollectionsKeepOrder }
+{}
+
+/// States that goroutine 0, which runs finalisers, is live in every state and never dead. No report
+/// of a run names it.
+pub fn finaliser_goroutine_lives()
+    ensures lives { FinaliserGoroutineLives }
+    ensures unreported { FinaliserGoroutineUnreported }
 {}

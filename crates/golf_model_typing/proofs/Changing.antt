@@ -1,5 +1,5 @@
 -- Lists of values, and goroutines that are served, released or unwound, stay of their types.
--- For: `resumed`, `released` and `unwound`, golf_model/specs/Waking.antt.
+-- For: `resumed`, `released` and `unwound`, golf_model/specs/Wakes.antt.
 -- By: cases of the side of the wait; induction over the list of values.
 use Rattle.std.proofs.Common.{◌≡◌, ℕ, zero, suc, Bool, true, false, List, [], ◌∷◌, ◌++◌, Some, ◌==◌, ◌||◌, refl, ap}
 use Rattle.std.proofs.Common.{subst, slice_get, slice_set}
@@ -14,7 +14,7 @@ use Rattle.golf_data.specs.declared.goroutine.Side.{Side}
 use Rattle.golf_data.specs.declared.goroutine.Wait.{Wait}
 use Rattle.golf_model.specs.Views.{FrameView, GoroutineView}
 use Rattle.golf_model.specs.State.{not_empty}
-use Rattle.golf_model.specs.Waking.{unwinding, resumed, resumed_frame, released, unwound, received, on_top}
+use Rattle.golf_model.specs.Wakes.{unwinding, resumed, resumed_frame, released, unwound, received, on_top}
 use Rattle.golf_model_typing.specs.Types.{ValueType, FunctionTypes, Typing, HasType, ValueFits, ValuesFit}
 use Rattle.golf_model_typing.specs.WellTyped.{received_types, LeavingFits, FramesFit, WaitFitsAt, WaitFits, BlockedFits}
 use Rattle.golf_model_typing.specs.WellTyped.{GoroutineFits}

@@ -1,5 +1,5 @@
 -- What stands at a place of a list that got longer, or in which a place was set.
--- For: `slice_get` and `slice_set` of std, in golf_model_progress/proofs/Calls.antt and Calculating.antt.
+-- For: `slice_get` and `slice_set` of std, in golf_model_typing/proofs/Calls.antt and Calculating.antt.
 -- By: induction over the list.
 use Rattle.std.proofs.Common.{◌≡◌, ℕ, zero, suc, List, [], ◌∷◌, ◌++◌, Some, refl, slice_get, slice_set}
 

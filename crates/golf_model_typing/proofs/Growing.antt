@@ -15,7 +15,7 @@ use Rattle.golf_data.specs.declared.goroutine.Wait.{Wait}
 use Rattle.golf_model.specs.Views.{FrameView, GoroutineView}
 use Rattle.golf_model_typing.specs.Types.{ValueType, FunctionTypes, Typing, HasType, ValueFits, ValuesFit, ObjectFits}
 use Rattle.golf_model_typing.specs.Shapes.{slot_types}
-use Rattle.golf_model_typing.specs.WellTyped.{gives, received_types, SlotFits, Stands, ResultFits, LeavingFits}
+use Rattle.golf_model_typing.specs.WellTyped.{gives, received_types, SlotFits, FrameStands, ResultFits, LeavingFits}
 use Rattle.golf_model_typing.specs.WellTyped.{CallFits, DeferredFits, FrameBase, FramesFit, WaitFitsAt, WaitFits}
 use Rattle.golf_model_typing.specs.WellTyped.{BlockedFits, ModeFits, GoroutineFits}
 
@@ -49,7 +49,7 @@ module _ (types : Typing) (known later : List (ℕ × ValueType))
   object-more _ t h = h
 
   stands-more : (ft : FunctionTypes) (ts : List ValueType) (at : ℕ) (vs slots : List Value)
-      → Stands types known ft ts at vs slots → Stands types later ft ts at vs slots
+      → FrameStands types known ft ts at vs slots → FrameStands types later ft ts at vs slots
   stands-more ft ts at vs slots h = record {
     shape = h.shape;
     here = h.here;

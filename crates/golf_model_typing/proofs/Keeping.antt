@@ -19,9 +19,9 @@ use Rattle.golf_data.specs.declared.goroutine.Wait.{Wait}
 use Rattle.golf_data.specs.declared.goroutine.Queued.{Queued}
 use Rattle.golf_model.specs.Views.{FrameView, GoroutineView}
 use Rattle.golf_model.specs.State.{State, not_empty}
-use Rattle.golf_model.specs.Waking.{woken_by, released}
-use Rattle.golf_model.specs.Changes.{Change, apply, apply_all, behind_first, become, moved, moved_waits, pass_on_by}
-use Rattle.golf_model.specs.Changes.{pass_on}
+use Rattle.golf_model.specs.Wakes.{woken_by, released}
+use Rattle.golf_model.specs.Changes.{Change, apply, apply_all, behind_first, become, moved, moved_waits, requeue_by}
+use Rattle.golf_model.specs.Changes.{requeue}
 use Rattle.golf_model_typing.specs.Types.{ValueType, Typing, HasType, ValuesFit, ObjectFits}
 use Rattle.golf_model_typing.specs.Grows.{Grows}
 use Rattle.golf_model_typing.specs.WellTyped.{BlockedFits, ModeFits, GoroutineFits, LacksNothing, FinaliserFits}
@@ -189,28 +189,28 @@ module _ (types : Typing) (known : List (ℕ × ValueType)) (s : State) (w : Wel
       go [] b = absurd b
       go (f ∷ fs) b = (b.0, b.1, ((t, lacks_none types known b.0 f u u.side l.0 l.1 b.2.0), tt), b.3)
 
-  typed-pass_on_by : (g m : ℕ) → HasType known m ValueType.Mutex → (locked : Bool) (r : GoroutineView)
+  typed-requeue_by : (g m : ℕ) → HasType known m ValueType.Mutex → (locked : Bool) (r : GoroutineView)
       → LacksNothing types known r.mode → GoroutineFits types known g r
-      → WellTyped types known (pass_on_by locked g m r s)
-  typed-pass_on_by g m t false r l h = typed-replace types known (become g (released r) s)
+      → WellTyped types known (requeue_by locked g m r s)
+  typed-requeue_by g m t false r l h = typed-replace types known (become g (released r) s)
       (typed-put types known s w g (released r) s.next_ticket (released-lacking g r r.mode refl l h)) m ValueType.Mutex
       (Object.Mutex true) t refl
-  typed-pass_on_by g m t true r l h = typed-put types known s w g (record r { mode = moved m s.next_ticket r.mode })
+  typed-requeue_by g m t true r l h = typed-put types known s w g (record r { mode = moved m s.next_ticket r.mode })
       (s.next_ticket + 1) (moved-lacking g m s.next_ticket r r.mode t l h.0, h.1)
 
-  typed-pass_on : (g m : ℕ) → HasType known m ValueType.Mutex → (r : Option GoroutineView) (x : Option Object)
+  typed-requeue : (g m : ℕ) → HasType known m ValueType.Mutex → (r : Option GoroutineView) (x : Option Object)
       → find g s.goroutines ≡ r → ((q : GoroutineView) → find g s.goroutines ≡ Some q → LacksNothing types known q.mode)
-      → WellTyped types known (pass_on g m r x s)
-  typed-pass_on g m t None x e h = w
-  typed-pass_on g m t (Some r) None e h = w
-  typed-pass_on g m t (Some r) (Some (Object.Struct fields)) e h = w
-  typed-pass_on g m t (Some r) (Some (Object.Slice elements)) e h = w
-  typed-pass_on g m t (Some r) (Some (Object.Chan c)) e h = w
-  typed-pass_on g m t (Some r) (Some (Object.Mutex locked)) e h =
-      typed-pass_on_by g m t locked r (h r e) (w.goroutines g r (Entry-find g s.goroutines r e))
-  typed-pass_on g m t (Some r) (Some (Object.Group n)) e h = w
-  typed-pass_on g m t (Some r) (Some (Object.Rw n)) e h = w
-  typed-pass_on g m t (Some r) (Some (Object.Cond v)) e h = w
+      → WellTyped types known (requeue g m r x s)
+  typed-requeue g m t None x e h = w
+  typed-requeue g m t (Some r) None e h = w
+  typed-requeue g m t (Some r) (Some (Object.Struct fields)) e h = w
+  typed-requeue g m t (Some r) (Some (Object.Slice elements)) e h = w
+  typed-requeue g m t (Some r) (Some (Object.Chan c)) e h = w
+  typed-requeue g m t (Some r) (Some (Object.Mutex locked)) e h =
+      typed-requeue_by g m t locked r (h r e) (w.goroutines g r (Entry-find g s.goroutines r e))
+  typed-requeue g m t (Some r) (Some (Object.Group n)) e h = w
+  typed-requeue g m t (Some r) (Some (Object.Rw n)) e h = w
+  typed-requeue g m t (Some r) (Some (Object.Cond v)) e h = w
 
   behind : (qs : List Queued) → Every (λ (q : Queued). FinaliserFits types known q.object.0 q.function) qs
       → Every (λ (q : Queued). FinaliserFits types known q.object.0 q.function) (behind_first qs)
@@ -263,7 +263,7 @@ module _ (types : Typing) (known : List (ℕ × ValueType)) (s : State) (w : Wel
       let r = Entry-map_values_back (λ h. woken_by how o) s.goroutines g q e in
       subst (λ z. GoroutineFits types known g z) (sym r.2)
       (woken-fits types known g o r.0 (w.goroutines g r.0 r.1) how a))
-  typed-change (Change.PassOn g m) a = typed-pass_on g m a.0 (find g s.goroutines) (find m s.objects) refl a.1
+  typed-change (Change.Requeue g m) a = typed-requeue g m a.0 (find g s.goroutines) (find m s.objects) refl a.1
 
 -- changes one after another
 pub typed-changes : (types : Typing) (known : List (ℕ × ValueType)) (cs : List Change) (s : State)
@@ -307,6 +307,6 @@ typed-changes types known (Change.Output bytes ∷ cs) s w a =
 typed-changes types known (Change.WakeAll o how ∷ cs) s w a =
     typed-changes types known cs (apply (Change.WakeAll o how) s)
     (typed-change types known s w (Change.WakeAll o how) a.0) a.1
-typed-changes types known (Change.PassOn g m ∷ cs) s w a =
-    typed-changes types known cs (apply (Change.PassOn g m) s)
-    (typed-change types known s w (Change.PassOn g m) a.0) a.1
+typed-changes types known (Change.Requeue g m ∷ cs) s w a =
+    typed-changes types known cs (apply (Change.Requeue g m) s)
+    (typed-change types known s w (Change.Requeue g m) a.0) a.1

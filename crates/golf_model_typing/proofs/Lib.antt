@@ -7,3 +7,17 @@ pub mod Waking
 pub mod Keeping
 pub mod NeededSlots
 pub mod Examples
+pub mod Clearing
+pub mod Acting
+pub mod Calculating
+pub mod Structures
+pub mod Channels
+pub mod Calls
+pub mod Mutexes
+pub mod Conditions
+pub mod Selecting
+pub mod ReadersWriters
+pub mod Printing
+pub mod Finalising
+pub mod Turning
+pub mod Leading

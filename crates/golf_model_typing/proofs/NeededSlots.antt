@@ -12,7 +12,7 @@ use Rattle.golf_data.specs.declared.code.Instr.{Instr}
 use Rattle.golf_data.specs.declared.code.CodeLine.{CodeLine}
 use Rattle.golf_data.specs.declared.code.SelectCase.{SelectCase}
 use Rattle.golf_model_typing.specs.Types.{ValueType, Shape, FunctionTypes, Types}
-use Rattle.golf_model_typing.specs.Shapes.{GoesOn, Takes, CasesFit, DefaultFits, case_takes, case_leaves}
+use Rattle.golf_model_typing.specs.Shapes.{LeadsToShape, Takes, CasesFit, DefaultFits, case_takes, case_leaves}
 use Rattle.golf_model_typing.specs.Shapes.{InstructionFits, MasksCover}
 use Rattle.golf_live.specs.Paths.{successors, Needed}
 use Rattle.golf_live.specs.Live.{is_needed, live as live_of}
@@ -45,7 +45,7 @@ module _ (types : Types) (fn : Function) (ft : FunctionTypes) (live : ℕ → �
   lt = live_types live ft
 
   lead : (ts : List ValueType) (A B : List ℕ) (j : ℕ) → ((s : ℕ) → In s A → Needed fn.body s j → In s B)
-      → GoesOn ft ts A j → GoesOn lt ts B j
+      → LeadsToShape ft ts A j → LeadsToShape lt ts B j
   lead ts A B j f l = (
     only_live live j l.0,
     live-at live ft.shapes 0 j l.0 l.1 ∙ ap (λ m. Some (only_live live m l.0)) (omega arith),
@@ -58,7 +58,7 @@ module _ (types : Types) (fn : Function) (ft : FunctionTypes) (live : ℕ → �
   module _ (k : ℕ) (sh : Shape) (l : CodeLine) (at : slice_get fn.body k ≡ Some l) where
     -- at an instruction that stores nothing
     next : (i : Instr) → l.instr ≡ i → ((s : ℕ) → i ≡ Instr.Store s → ⊥) → (ts : List ValueType) (j : ℕ)
-        → In j (successors i k) → GoesOn ft ts sh.assigned j → GoesOn lt ts (only_live live k sh).assigned j
+        → In j (successors i k) → LeadsToShape ft ts sh.assigned j → LeadsToShape lt ts (only_live live k sh).assigned j
     next i is keeps_all ts j f h = lead ts sh.assigned (filter (live k) sh.assigned) j
         (λ s m n. In-filter_old (live k) s sh.assigned
         (complete k s (Needed.Later k j l at (λ q. keeps_all s (sym is ∙ q))
@@ -71,8 +71,8 @@ module _ (types : Types) (fn : Function) (ft : FunctionTypes) (live : ℕ → �
     reads : (i : ℕ) → l.instr ≡ Instr.Load i → In i sh.assigned → In i (filter (live k) sh.assigned)
     reads i is m = In-filter_old (live k) i sh.assigned (complete k i (Needed.Read k l at is)) m
 
-    stored : (i : ℕ) → l.instr ≡ Instr.Store i → (ts : List ValueType) → GoesOn ft ts (i ∷ sh.assigned) (k + 1)
-        → GoesOn lt ts (i ∷ filter (live k) sh.assigned) (k + 1)
+    stored : (i : ℕ) → l.instr ≡ Instr.Store i → (ts : List ValueType) → LeadsToShape ft ts (i ∷ sh.assigned) (k + 1)
+        → LeadsToShape lt ts (i ∷ filter (live k) sh.assigned) (k + 1)
     stored i is ts h = lead ts (i ∷ sh.assigned) (i ∷ filter (live k) sh.assigned) (k + 1)
         (λ s m n. elim (s == i) as (λ b. s == i ≡ b → In s (i ∷ filter (live k) sh.assigned)) [
           | true ↦ λ q. inl (eqb-true s i q)

@@ -1,5 +1,5 @@
 -- Goroutines that are woken stay typed.
--- For: `woken_by`, golf_model/specs/Waking.antt.
+-- For: `woken_by`, golf_model/specs/Wakes.antt.
 -- By: cases of why it is woken and of the wait that is found; no induction.
 use Rattle.std.proofs.Common.{◌≡◌, ℕ, true, false, cond, List, Option, Some, None, refl, sym, ◌∙◌}
 use Rattle.golf_theory.specs.Membership.{In}
@@ -9,8 +9,8 @@ use Rattle.golf_data.specs.declared.goroutine.Side.{Side}
 use Rattle.golf_data.specs.declared.goroutine.Wait.{Wait}
 use Rattle.golf_data.specs.declared.goroutine.PanicKind.{PanicKind}
 use Rattle.golf_model.specs.Views.{FrameView, GoroutineView}
-use Rattle.golf_model.specs.Waiting.{waits_of, ticket_of, blocked_line, wait_for, wait_on}
-use Rattle.golf_model.specs.Waking.{Waking, fault, woken_by, closed_on, closed_for, released_by, reads_next, is_below}
+use Rattle.golf_model.specs.Waiters.{waits_of, ticket_of, blocked_line, wait_for, wait_on}
+use Rattle.golf_model.specs.Wakes.{Waking, fault, woken_by, closed_on, closed_for, released_by, reads_next, is_below}
 use Rattle.golf_model_futures.proofs.WaitLaws.{wait_for-in, wait_on-in}
 use Rattle.golf_model_typing.specs.Types.{ValueType, Typing, HasType, ValueFits}
 use Rattle.golf_model_typing.specs.WellTyped.{BlockedFits, ModeFits, GoroutineFits, WakingFits}

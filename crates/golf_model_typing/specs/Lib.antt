@@ -4,3 +4,4 @@ pub mod Shapes
 pub mod WellTyped
 pub mod NeededSlots
 pub mod Laws
+pub mod ProgressLaws

@@ -24,21 +24,21 @@ pushed [] rest = rest
 pushed (t ∷ ts) rest = pushed ts (t ∷ rest)
 
 -- the code goes on at a position with these operands; the shape there asks only for these slots
-abbrev pub GoesOn : FunctionTypes → List ValueType → List ℕ → ℕ → Type 0
-GoesOn ft ts assigned k = (next : Shape) × (slice_get ft.shapes k ≡ Some next) × (next.operands ≡ ts)
+abbrev pub LeadsToShape : FunctionTypes → List ValueType → List ℕ → ℕ → Type 0
+LeadsToShape ft ts assigned k = (next : Shape) × (slice_get ft.shapes k ≡ Some next) × (next.operands ≡ ts)
     × Every (λ i. In i assigned) next.assigned
 
 -- takes operands of these types, the top one first, and leaves others; the code goes on at the next position
 abbrev pub Takes : FunctionTypes → ℕ → Shape → List ValueType → List ValueType → Type 0
 Takes ft k sh takes leaves = (rest : List ValueType) × (sh.operands ≡ takes ++ rest)
-    × GoesOn ft (leaves ++ rest) sh.assigned (k + 1)
+    × LeadsToShape ft (leaves ++ rest) sh.assigned (k + 1)
 
 -- a call of a function of the code with its arguments; it leaves these operands
 abbrev pub TakesArguments : Types → FunctionTypes → ℕ → Shape → ℕ → ℕ → (Signature → List ValueType) → Type 0
 TakesArguments types ft k sh f n leaves =
     (callee : Signature) × (rest : List ValueType) × (slice_get types.functions f ≡ Some callee)
     × (n ≡ length callee.params)
-    × (sh.operands ≡ pushed callee.params rest) × GoesOn ft (leaves callee ++ rest) sh.assigned (k + 1)
+    × (sh.operands ≡ pushed callee.params rest) × LeadsToShape ft (leaves callee ++ rest) sh.assigned (k + 1)
 
 -- the operands that a case of a `select` takes, on top of these, and those that it leaves at its target
 abbrev pub case_takes : CaseKind → ValueType → List ValueType → List ValueType
@@ -57,12 +57,12 @@ abbrev pub CasesFit : FunctionTypes → List ℕ → List ValueType → List Sel
     → Type 0
 CasesFit ft assigned below [] rest operands = operands ≡ rest
 CasesFit ft assigned below (k ∷ ks) rest operands = (e : ValueType)
-    × GoesOn ft (case_leaves k.kind e ++ below) assigned k.target
+    × LeadsToShape ft (case_leaves k.kind e ++ below) assigned k.target
     × CasesFit ft assigned below ks (case_takes k.kind e rest) operands
 
 abbrev pub DefaultFits : FunctionTypes → List ℕ → List ValueType → Option ℕ → Type 0
 DefaultFits ft assigned below None = Unit {0}
-DefaultFits ft assigned below (Some target) = GoesOn ft below assigned target
+DefaultFits ft assigned below (Some target) = LeadsToShape ft below assigned target
 
 -- the types that `Println` takes
 abbrev pub IsPrintable : ValueType → Type 0
@@ -81,7 +81,7 @@ InstructionFits types ft k Instr.Nil sh = (t : ValueType) × IsNilable t × Take
 InstructionFits types ft k (Instr.Load i) sh = (t : ValueType) × In i sh.assigned
     × (slice_get (slot_types ft) i ≡ Some t) × Takes ft k sh [] (t ∷ [])
 InstructionFits types ft k (Instr.Store i) sh = (t : ValueType) × (rest : List ValueType)
-    × (slice_get (slot_types ft) i ≡ Some t) × (sh.operands ≡ t ∷ rest) × GoesOn ft rest (i ∷ sh.assigned) (k + 1)
+    × (slice_get (slot_types ft) i ≡ Some t) × (sh.operands ≡ t ∷ rest) × LeadsToShape ft rest (i ∷ sh.assigned) (k + 1)
 InstructionFits types ft k (Instr.LoadGlobal i) sh = (t : ValueType) × (slice_get types.globals i ≡ Some t)
     × Takes ft k sh [] (t ∷ [])
 InstructionFits types ft k (Instr.StoreGlobal i) sh = (t : ValueType) × (slice_get types.globals i ≡ Some t)
@@ -99,9 +99,9 @@ InstructionFits types ft k Instr.Rem sh = Takes ft k sh (ValueType.Int ∷ Value
 InstructionFits types ft k Instr.Eq sh = (t : ValueType) × Takes ft k sh (t ∷ t ∷ []) (ValueType.Bool ∷ [])
 InstructionFits types ft k Instr.Less sh = Takes ft k sh (ValueType.Int ∷ ValueType.Int ∷ []) (ValueType.Bool ∷ [])
 InstructionFits types ft k Instr.AtMost sh = Takes ft k sh (ValueType.Int ∷ ValueType.Int ∷ []) (ValueType.Bool ∷ [])
-InstructionFits types ft k (Instr.Jump target) sh = GoesOn ft sh.operands sh.assigned target
+InstructionFits types ft k (Instr.Jump target) sh = LeadsToShape ft sh.operands sh.assigned target
 InstructionFits types ft k (Instr.JumpIfNot target) sh = (rest : List ValueType) × (sh.operands ≡ ValueType.Bool ∷ rest)
-    × GoesOn ft rest sh.assigned (k + 1) × GoesOn ft rest sh.assigned target
+    × LeadsToShape ft rest sh.assigned (k + 1) × LeadsToShape ft rest sh.assigned target
 InstructionFits types ft k (Instr.NewStruct j) sh = (ts : List ValueType) × (slice_get types.structs j ≡ Some ts)
     × Takes ft k sh [] (ValueType.Struct j ∷ [])
 InstructionFits types ft k Instr.NewMutex sh = Takes ft k sh [] (ValueType.Mutex ∷ [])
@@ -152,7 +152,7 @@ InstructionFits types ft k Instr.ReturnValue sh = (t : ValueType) × (rest : Lis
     × (sh.operands ≡ t ∷ rest)
 InstructionFits types ft k (Instr.Print n) sh =
     (ts : List ValueType) × (rest : List ValueType) × (n ≡ length ts) × Every IsPrintable ts
-    × (sh.operands ≡ pushed ts rest) × GoesOn ft rest sh.assigned (k + 1)
+    × (sh.operands ≡ pushed ts rest) × LeadsToShape ft rest sh.assigned (k + 1)
 InstructionFits types ft k Instr.Collect sh = Takes ft k sh [] []
 InstructionFits types ft k (Instr.SetFinalizer f) sh = (j : ℕ) × (sig : Signature)
     × (slice_get types.functions f ≡ Some sig) × (sig.params ≡ ValueType.Struct j ∷ [])

@@ -14,7 +14,7 @@ use Rattle.golf_data.specs.declared.goroutine.Wait.{Wait}
 use Rattle.golf_data.specs.declared.goroutine.Queued.{Queued}
 use Rattle.golf_model.specs.Views.{FrameView, GoroutineView}
 use Rattle.golf_model.specs.State.{State, not_empty}
-use Rattle.golf_model.specs.Waking.{Waking}
+use Rattle.golf_model.specs.Wakes.{Waking}
 use Rattle.golf_model.specs.Changes.{Change, apply}
 use Rattle.golf_model_typing.specs.Types.{ValueType, Shape, Signature, FunctionTypes, Typing, signature, HasType}
 use Rattle.golf_model_typing.specs.Types.{ValueFits, ValuesFit, ObjectFits}
@@ -37,7 +37,7 @@ module _ (types : Typing) (known : List (ℕ × ValueType)) where
       × ValueFits types.of known v t
 
   -- a frame at this position, without the operands that it will still be given
-  pub record Stands (ft : FunctionTypes) (lacking : List ValueType) (at : ℕ)
+  pub record FrameStands (ft : FunctionTypes) (lacking : List ValueType) (at : ℕ)
       (operands slots : List Value) : Type 0 where
     pub shape : Shape
     pub here : slice_get ft.shapes at ≡ Some shape
@@ -55,7 +55,7 @@ module _ (types : Typing) (known : List (ℕ × ValueType)) where
 
   -- a frame that is leaving has no shape, and nothing is asked of its operands and slots
   abbrev pub LeavingFits : FunctionTypes → List ValueType → ℕ → List Value → List Value → Leaving → Type 0
-  LeavingFits ft lacking at operands slots Leaving.No = Stands ft lacking at operands slots
+  LeavingFits ft lacking at operands slots Leaving.No = FrameStands ft lacking at operands slots
   LeavingFits ft lacking at operands slots (Leaving.Returning v) = ResultFits v ft.result
   LeavingFits ft lacking at operands slots (Leaving.Unwinding x) = Unit {0}
 
@@ -168,7 +168,7 @@ module _ (types : Typing) (known : List (ℕ × ValueType)) where
   ChangeFits s Change.TakeQueued = Unit {0}
   ChangeFits s (Change.Output bytes) = Unit {0}
   ChangeFits s (Change.WakeAll o how) = WakingFits o how
-  ChangeFits s (Change.PassOn g m) = HasType known m ValueType.Mutex
+  ChangeFits s (Change.Requeue g m) = HasType known m ValueType.Mutex
       × ((r : GoroutineView) → find g s.goroutines ≡ Some r → LacksNothing r.mode)
 
 -- changes that keep types, one after another; a new object becomes known

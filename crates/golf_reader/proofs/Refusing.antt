@@ -1,5 +1,5 @@
 -- A file that is refused is no typed one; the code of a typed one is its only code, and has places.
--- For: `IsNotTyped` (golf_reader/specs/Refusals.antt) and `parsed`, `judge`, `read` (src/reading.rt)
+-- For: `IsNotTyped` (golf_reader/specs/Refusals.antt) and `parsed`, `judge`, `read` (src/file_reader.rt)
 -- By: cases of the outcome; no induction
 use Rattle.std.proofs.Common.{◌≡◌, ℕ, ◌<◌, ◌^◌, List, length, subst, sym, ap, ◌∙◌}
 use Rattle.std.specs.Prelude.{Result, Ok, Err}
@@ -12,14 +12,13 @@ use Rattle.golf_syntax_trees.specs.Reads.{Reads as HasTree, ReadsTokens}
 use Rattle.golf_lex.proofs.Scans.{lexes-once}
 use Rattle.golf_syntax.proofs.OneTree.{one-tree}
 use Rattle.golf_check_types.specs.Faults.{IsFirst}
-use Rattle.golf_check_types.specs.Files.{Broken, facts_in}
-use Rattle.golf_check.specs.declared.files.Checked.{Checked}
-use Rattle.golf_check.specs.Heads.{scope_of}
+use Rattle.golf_check_types.specs.Files.{Broken}
 use Rattle.golf_code_of.specs.Files.{CodeOf}
 use Rattle.golf_code_places.proofs.Files.{files-have-places}
 use Rattle.golf_reader.specs.declared.refusal.Refusal.{Refusal}
 use Rattle.golf_reader.specs.declared.refusal.Refusal.TheVariants as refusals
-use Rattle.golf_reader.specs.Refusals.{HasTypedTree, IsOnly, IsNotTyped, IsUnlexed, HasCode, Parses, Keeps, WasParsed}
+use Rattle.golf_reader.specs.Refusals.{HasTypedTree, IsOnly, IsNotTyped, IsUnlexed, HasCode, Parses, IsChecked}
+use Rattle.golf_reader.specs.Refusals.{WasParsed}
 use Rattle.golf_reader.specs.Refusals.{WasTyped}
 
 -- the bytes of a file lex
@@ -57,12 +56,12 @@ is-only : (bytes : List ℕ) (file : File) → HasTree bytes file → IsOnly byt
 is-only bytes file t = λ other h. one-tree bytes other file h.tree t
 
 -- whether the tree of the bytes keeps the rules is whether the file is typed
-pub of-tree : (bytes : List ℕ) (file : File) (r : Result Checked Refusal) → HasTree bytes file → Keeps file r
+pub of-tree : (bytes : List ℕ) (file : File) (r : Result File Refusal) → HasTree bytes file → IsChecked file r
     → WasTyped bytes r
 of-tree bytes file (Ok checked) t k =
-    let typed : HasTypedTree bytes checked.file =
-    subst (λ f. HasTypedTree bytes f) (sym k.0) (record { tree = t; keeps = k.3 }) in
-    (typed, is-only bytes checked.file typed.tree, k.1 ∙ ap scope_of (sym k.0), k.2 ∙ ap facts_in (sym k.0))
+    let typed : HasTypedTree bytes checked =
+    subst (λ f. HasTypedTree bytes f) (sym k.0) (record { tree = t; keeps = k.1 }) in
+    (typed, is-only bytes checked typed.tree)
 of-tree bytes file (Err (refusals.Lexical line byte)) t k = absurd k
 of-tree bytes file (Err (refusals.Syntax line)) t k = absurd k
 of-tree bytes file (Err (refusals.Untyped line rule)) t k =

@@ -6,9 +6,7 @@ use Rattle.golf_lex_tokens.specs.Lexes.{Lexes, IsFault, line_at}
 use Rattle.golf_syntax_trees.specs.declared.declarations.File.{File}
 use Rattle.golf_syntax_trees.specs.Reads.{Reads as HasTree, ReadsTokens, IsFaultOn}
 use Rattle.golf_check_types.specs.Faults.{IsFirst}
-use Rattle.golf_check_types.specs.Files.{Broken, Typed, facts_in}
-use Rattle.golf_check.specs.declared.files.Checked.{Checked}
-use Rattle.golf_check.specs.Heads.{scope_of}
+use Rattle.golf_check_types.specs.Files.{Broken, Typed}
 use Rattle.golf_code_of.specs.Files.{CodeOf}
 use Rattle.golf_reader.specs.declared.refusal.Refusal.{Refusal}
 use Rattle.golf_reader.specs.declared.refusal.Refusal.TheVariants as refusals
@@ -84,19 +82,15 @@ WasParsed bytes (Err (refusals.Syntax line)) = IsUnparsed bytes line
 WasParsed bytes (Err (refusals.Untyped line rule)) = ⊥
 WasParsed bytes (Err refusals.Memory) = Unit {0}
 
--- the tree, which keeps the rules, with the scope of its names and the facts of its parts; or the first rule that it
--- breaks
-abbrev pub Keeps : File → Result Checked Refusal → Type 0
-Keeps file (Ok checked) = (checked.file ≡ file) × (checked.scope ≡ scope_of file) × (checked.facts ≡ facts_in file)
-    × Typed file
-Keeps file (Err (refusals.Lexical line byte)) = ⊥
-Keeps file (Err (refusals.Syntax line)) = ⊥
-Keeps file (Err (refusals.Untyped line rule)) = IsFirst rule line (Broken file)
-Keeps file (Err refusals.Memory) = Unit {0}
+-- the tree, which keeps the rules; or the first rule that it breaks
+abbrev pub IsChecked : File → Result File Refusal → Type 0
+IsChecked file (Ok checked) = (checked ≡ file) × Typed file
+IsChecked file (Err (refusals.Lexical line byte)) = ⊥
+IsChecked file (Err (refusals.Syntax line)) = ⊥
+IsChecked file (Err (refusals.Untyped line rule)) = IsFirst rule line (Broken file)
+IsChecked file (Err refusals.Memory) = Unit {0}
 
--- The tree of the bytes, with the scope of its names and the facts of its parts. No other tree of the bytes is typed.
--- Or the reason for which there is no tree.
-abbrev pub WasTyped : List ℕ → Result Checked Refusal → Type 0
-WasTyped bytes (Ok checked) = HasTypedTree bytes checked.file × IsOnly bytes checked.file
-    × (checked.scope ≡ scope_of checked.file) × (checked.facts ≡ facts_in checked.file)
+-- The tree of the bytes. No other tree of the bytes is typed. Or the reason for which there is no tree.
+abbrev pub WasTyped : List ℕ → Result File Refusal → Type 0
+WasTyped bytes (Ok file) = HasTypedTree bytes file × IsOnly bytes file
 WasTyped bytes (Err refusal) = IsRefusedBy bytes refusal

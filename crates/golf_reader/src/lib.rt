@@ -5,8 +5,8 @@
 //! - `Refusal`: the reason for which a file is refused.
 #![tactic(auto)]
 
-mod reading;
+mod file_reader;
 mod refusal;
 
-pub use reading::{judge, read};
+pub use file_reader::{judge, read};
 pub use refusal::Refusal;

@@ -1,5 +1,5 @@
 -- The entries that are reported, one goroutine after another, and whom they name.
--- For: `entries`, src/reported.rt; `entries`, golf_model/specs/Reporting.antt
+-- For: `entries`, src/reported.rt; `entries`, golf_model/specs/Reports.antt
 -- By: induction over the list of goroutines
 use Rattle.std.proofs.Common.{◌≡◌, ℕ, ◌+◌, ◌<◌, List, [], ◌∷◌, ◌++◌, length, map, take, get_or, Option, Some, None, inl}
 use Rattle.std.proofs.Common.{inr, refl, ap, subst, ◌∙◌, append_assoc, append-nil}
@@ -12,7 +12,7 @@ use Rattle.golf_data.specs.declared.goroutine.Mode.{Mode}
 use Rattle.golf_data.specs.declared.report.Entry.{Entry}
 use Rattle.golf_model.specs.Views.{GoroutineView}
 use Rattle.golf_model.specs.State.{State}
-use Rattle.golf_model.specs.Reporting.{numbers, entry_by, entry_of, entries}
+use Rattle.golf_model.specs.Reports.{numbers, entry_by, entry_of, entries}
 
 entries-append : (s : State) (gs hs : List ℕ) → entries s (gs ++ hs) ≡ entries s gs ++ entries s hs
 entries-append s [] hs = refl

@@ -1,5 +1,5 @@
 -- Lists of flags, one place after another, and flags that a test gives.
--- For: `either`, `retained` and `unflagged`, src/marking.rt
+-- For: `either`, `retained` and `unflagged`, src/markings.rt
 -- By: induction over the list of flags, and over the list of entries
 use Rattle.std.proofs.Common.{◌≡◌, ℕ, zero, suc, ◌+◌, ◌<◌, ◌≤◌, Bool, false, ◌||◌, ◌&&◌, cond, List, [], ◌∷◌}
 use Rattle.std.proofs.Common.{◌++◌, length, map, filter, take, get_or, Some, refl, ap, arith, slice_get, inl, inr}

@@ -1,5 +1,5 @@
 -- Who is removed: the sleepers that are neither awake nor kept.
--- For: `find_dead`, src/marking.rt; `IsUnkept`, specs/Flags.antt
+-- For: `find_dead`, src/markings.rt; `IsUnkept`, specs/Flags.antt
 -- By: cases of the goroutines that are blocked; no induction
 use Rattle.std.proofs.Common.{◌≡◌, ℕ, Bool, true, false, not, ◌||◌, ◌&&◌, List, map, filter, get_or, Some, refl}
 use Rattle.std.proofs.Common.{◌∙◌, slice_get, ◌==◌}
@@ -10,11 +10,11 @@ use Rattle.golf_theory.proofs.Tests.{same_test}
 use Rattle.golf_base.specs.declared.ids.GoroutineId.{GoroutineId}
 use Rattle.golf_model.specs.Views.{GoroutineView}
 use Rattle.golf_model.specs.State.{State, is_running}
-use Rattle.golf_model.specs.Living.{Node, Live, has_goroutine, live_list, Dead}
-use Rattle.golf_model.specs.Collecting.{keeps, unkept, removed}
+use Rattle.golf_model.specs.LiveSet.{Node, Live, has_goroutine, live_list, Dead}
+use Rattle.golf_model.specs.Collections.{keeps, unkept, removed}
 use Rattle.golf_model.specs.Futures.{Numbered}
 use Rattle.golf_model.specs.Presence.{IsWhole}
-use Rattle.golf_model.specs.Reporting.{numbers}
+use Rattle.golf_model.specs.Reports.{numbers}
 use Rattle.golf_model.specs.declared.graph.Marked.{Marked}
 use Rattle.golf_model.proofs.Agreeing.{live_list-sound, live_list-complete, has_goroutine-sound, has_goroutine-complete}
 use Rattle.golf_model.proofs.Agreeing.{keeps-sound, keeps-complete}
@@ -22,8 +22,8 @@ use Rattle.golf_heap.specs.Objects.{left_out}
 use Rattle.golf_heap.proofs.Flagged.{left_out-filter}
 use Rattle.golf_snapshot.specs.Parts.{sleeping, sleeper_of, live_parts}
 use Rattle.golf_snapshot.proofs.Roots.{sleeping-entry}
-use Rattle.golf_mark.specs.Marking.{MarksLeast}
-use Rattle.golf_final.specs.Keeping.{HasKept}
+use Rattle.golf_mark.specs.MarkingResult.{MarksLeast}
+use Rattle.golf_final.specs.KeepRule.{HasKept}
 use Rattle.golf_final.proofs.KeepLaw.{keeps-alike}
 use Rattle.golf_reclaim.specs.Flags.{either, IsUnkept}
 use Rattle.golf_reclaim.proofs.Flags.{flags-are, either-map, filter-both, map-filter-swap}

@@ -1,5 +1,5 @@
 -- Who stays reported, as the book grows.
--- For: `staying_after`, `Ledger::unreported` and `Ledger::note`, src/ledger.rt; `HasStaying`, specs/Noting.antt
+-- For: `staying_after`, `Ledger::unreported` and `Ledger::note`, src/ledger.rt; `HasStaying`, specs/RunBook.antt
 -- By: cases of the lists in which a number stands; no induction
 use Rattle.std.proofs.Common.{◌≡◌, ℕ, ◌+◌, ◌≤◌, Bool, true, false, not, cond, ◌&&◌, ◌||◌, List, [], ◌++◌, filter}
 use Rattle.std.proofs.Common.{Result, Ok, Err, inl, inr, refl, sym, ◌∙◌, arith}
@@ -9,7 +9,7 @@ use Rattle.std.proofs.lemmas.Bool.{and_parts, and_from, cases_Bool, lt-ltb, le-l
 use Rattle.std.proofs.lemmas.List.{map-append}
 use Rattle.std.proofs.lemmas.List.Elements.{filter-append}
 use Rattle.std.proofs.lemmas.List.Sorted.{Contains-permutation, IsPermutation-sym}
-use Rattle.golf_theory.specs.Counting.{times}
+use Rattle.golf_theory.specs.Counts.{times}
 use Rattle.golf_theory.specs.Membership.{In, is_in}
 use Rattle.golf_theory.proofs.Lists.{In-map, In-map_back}
 use Rattle.golf_theory.proofs.Lists.{In-filter, In-filter_old, In-Contains, Contains-In}
@@ -17,8 +17,8 @@ use Rattle.golf_theory.proofs.Tests.{is_in-from, In-from, not_in-from, is_in-app
 use Rattle.golf_theory.proofs.Times.{times-append, times-In, times-none}
 use Rattle.golf_base.specs.declared.ids.GoroutineId.{GoroutineId}
 use Rattle.golf_data.specs.declared.report.Book.{Book}
-use Rattle.golf_model.specs.Reporting.{numbers}
-use Rattle.golf_reclaim.specs.Noting.{stays_reported, HasStaying, CanNote}
+use Rattle.golf_model.specs.Reports.{numbers}
+use Rattle.golf_reclaim.specs.RunBook.{stays_reported, HasStaying, CanNote}
 use Rattle.golf_reclaim.proofs.Flags.{map-filter-swap}
 
 among-filtered : (p : ℕ → Bool) (x : ℕ) (xs : List ℕ) → is_in x (filter p xs) ≡ (p x && is_in x xs)

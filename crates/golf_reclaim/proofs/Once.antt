@@ -1,13 +1,13 @@
 -- No goroutine stands twice among the dead of a state.
--- For: `collect`, src/collection.rt; `CanNote`, specs/Noting.antt
+-- For: `collect`, src/collection.rt; `CanNote`, specs/RunBook.antt
 -- By: induction over the list, and over the map of goroutines, whose keys rise
 use Rattle.std.proofs.Common.{◌≡◌, ℕ, suc, ◌<◌, ◌≤◌, Bool, List, [], ◌∷◌, filter, inl, inr, arith}
 use Rattle.std.proofs.lemmas.Bool.{cases_eq, cases_Bool}
-use Rattle.golf_theory.specs.Counting.{times}
+use Rattle.golf_theory.specs.Counts.{times}
 use Rattle.golf_theory.specs.Maps.{keys_where, Rises}
 use Rattle.golf_theory.proofs.Times.{times-cons_same, times-cons_other}
 use Rattle.golf_model.specs.Futures.{Numbered}
-use Rattle.golf_model.specs.Living.{dead, is_dead, live_list}
+use Rattle.golf_model.specs.LiveSet.{dead, is_dead, live_list}
 use Rattle.golf_model.specs.State.{State}
 
 -- one more before a list

@@ -1,11 +1,11 @@
 -- If no goroutine of the state was removed before, a collection's report and book are those over plain states.
--- For: `collect`, src/collection.rt; `report` and `book_after`, golf_model/specs/Reporting.antt
+-- For: `collect`, src/collection.rt; `report` and `book_after`, golf_model/specs/Reports.antt
 -- By: induction over the map of goroutines, for what the sources are; no other induction
 use Rattle.std.proofs.Common.{◌≡◌, ℕ, Bool, true, false, not, List, [], ◌∷◌, length, inl}
 use Rattle.std.proofs.Common.{inr, refl, ap, arith}
 use Rattle.std.specs.Prelude.{nat_lt}
 use Rattle.std.proofs.lemmas.Bool.{lt-ltb, ltb-true}
-use Rattle.golf_theory.specs.Counting.{times}
+use Rattle.golf_theory.specs.Counts.{times}
 use Rattle.golf_theory.specs.Maps.{keys}
 use Rattle.golf_theory.specs.Membership.{In, is_in}
 use Rattle.golf_theory.proofs.Lists.{Every-from, filter-all, filter-same, In-filter}
@@ -15,14 +15,14 @@ use Rattle.golf_theory.proofs.MapEntries.{In-keys}
 use Rattle.golf_data.specs.declared.report.Book.{Book}
 use Rattle.golf_model.specs.Views.{GoroutineView}
 use Rattle.golf_model.specs.Refs.{goroutine_refs_where}
-use Rattle.golf_model.specs.Living.{dead}
-use Rattle.golf_model.specs.Reaching.{sources}
-use Rattle.golf_model.specs.Collecting.{keeps, unkept, removed}
-use Rattle.golf_model.specs.Reporting.{numbers, without, new_dead, new_gone, all_gone}
-use Rattle.golf_model.specs.Reporting.{retained_objects, book_after, report}
+use Rattle.golf_model.specs.LiveSet.{dead}
+use Rattle.golf_model.specs.Reach.{sources}
+use Rattle.golf_model.specs.Collections.{keeps, unkept, removed}
+use Rattle.golf_model.specs.Reports.{numbers, without, new_dead, new_gone, all_gone}
+use Rattle.golf_model.specs.Reports.{retained_objects, book_after, report}
 use Rattle.golf_model.specs.State.{State}
 use Rattle.golf_model.proofs.Agreeing.{dead-sound}
-use Rattle.golf_reclaim.specs.Noting.{stays_reported, AreGone}
+use Rattle.golf_reclaim.specs.RunBook.{stays_reported, AreGone}
 use Rattle.golf_reclaim.specs.Collected.{new_in, noted_by, report_of}
 
 -- the sources depend on those who are there alone

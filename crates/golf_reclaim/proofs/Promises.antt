@@ -11,15 +11,15 @@ use Rattle.golf_theory.proofs.Tests.{is_in-from, In-from, is_in-out}
 use Rattle.golf_data.specs.declared.report.Book.{Book}
 use Rattle.golf_data.specs.declared.report.Report.{Report}
 use Rattle.golf_model.specs.State.{State}
-use Rattle.golf_model.specs.Living.{dead}
-use Rattle.golf_model.specs.Collecting.{plain_collect, keeps, removed, retained, real_collect}
+use Rattle.golf_model.specs.LiveSet.{dead}
+use Rattle.golf_model.specs.Collections.{plain_collect, keeps, removed, retained, real_collect}
 use Rattle.golf_model.specs.Futures.{Numbered, Leads, futures}
 use Rattle.golf_model.proofs.Agreeing.{dead-sound, dead-complete, keeps-sound, keeps-complete, retained-sound}
 use Rattle.golf_model.proofs.Agreeing.{retained-complete}
 use Rattle.golf_model_futures.proofs.DeadStill.{dead_still}
 use Rattle.golf_model_futures.proofs.Recovering.{recovery-unseen}
-use Rattle.golf_model_progress.proofs.Leading.{never-stuck}
-use Rattle.golf_reclaim.specs.Noting.{stays_reported}
+use Rattle.golf_model_typing.proofs.Leading.{never-stuck}
+use Rattle.golf_reclaim.specs.RunBook.{stays_reported}
 use Rattle.golf_reclaim.specs.Collected.{new_in, report_of}
 use Rattle.golf_reclaim.proofs.Entries.{entries-name}
 use Rattle.golf_reclaim.specs.Promises.{AreStill, IsUnseen, IsRemoved, LeavesExactly, MovesOnAfter}

@@ -1,23 +1,23 @@
 -- A collection's report and book, from what was found; and that its book can note it.
 -- For: `collect`, src/collection.rt; `report_of` and `noted_by`, specs/Collected.antt
--- By: counting those of a list that pass a test; no other induction
+-- By: counting those of a list that satisfy a test; no other induction
 use Rattle.std.proofs.Common.{◌≡◌, ℕ, ◌+◌, ◌≤◌, Bool, true, false, not, ◌||◌, List, [], length, filter}
 use Rattle.std.proofs.Common.{inl, inr, refl, sym, ap, ◌∙◌, arith}
 use Rattle.std.proofs.lemmas.Bool.{not-true, cases_Bool}
 use Rattle.std.proofs.lemmas.List.{length-map}
 use Rattle.std.proofs.lemmas.List.Filters.{length-filter_both}
-use Rattle.golf_theory.specs.Counting.{times}
+use Rattle.golf_theory.specs.Counts.{times}
 use Rattle.golf_theory.specs.Membership.{In, is_in}
 use Rattle.golf_theory.proofs.Lists.{Every-from, filter-all, filter-same, In-filter}
 use Rattle.golf_base.specs.declared.ids.GoroutineId.{GoroutineId}
 use Rattle.golf_data.specs.declared.report.Book.{Book}
 use Rattle.golf_data.specs.declared.report.Report.{Report}
-use Rattle.golf_model.specs.Living.{dead, live_objects}
-use Rattle.golf_model.specs.Collecting.{keeps, unkept, removed}
+use Rattle.golf_model.specs.LiveSet.{dead, live_objects}
+use Rattle.golf_model.specs.Collections.{keeps, unkept, removed}
 use Rattle.golf_model.specs.Futures.{Numbered}
-use Rattle.golf_model.specs.Reporting.{numbers, entries, without, retained_objects}
+use Rattle.golf_model.specs.Reports.{numbers, entries, without, retained_objects}
 use Rattle.golf_model.specs.State.{State}
-use Rattle.golf_reclaim.specs.Noting.{stays_reported, CanNote, noted}
+use Rattle.golf_reclaim.specs.RunBook.{stays_reported, CanNote, noted}
 use Rattle.golf_reclaim.specs.Collected.{new_in, noted_by, report_of}
 use Rattle.golf_reclaim.proofs.Entries.{numbers-ids}
 use Rattle.golf_reclaim.proofs.Flags.{map-filter-swap, among-those}

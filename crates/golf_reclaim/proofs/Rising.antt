@@ -6,12 +6,12 @@ use Rattle.std.specs.List.Sorted.{IsNonDecreasingBy}
 use Rattle.std.proofs.lemmas.List.Kept.{IsNonDecreasingBy-filter}
 use Rattle.golf_base.specs.declared.ids.GoroutineId.{GoroutineId}
 use Rattle.golf_theory.specs.Maps.{IsRising}
-use Rattle.golf_state_goroutines.specs.Rising.{RisesFrom}
+use Rattle.golf_state_goroutines.specs.RisingLists.{RisesFrom}
 use Rattle.golf_state_goroutines.proofs.Rises.{Rises-keys_where, sorted}
 use Rattle.golf_model.specs.State.{State}
-use Rattle.golf_model.specs.Living.{is_dead, live_list, dead}
-use Rattle.golf_model.specs.Collecting.{keeps, removed}
-use Rattle.golf_model.specs.Reporting.{numbers}
+use Rattle.golf_model.specs.LiveSet.{is_dead, live_list, dead}
+use Rattle.golf_model.specs.Collections.{keeps, removed}
+use Rattle.golf_model.specs.Reports.{numbers}
 use Rattle.golf_reclaim.proofs.Entries.{numbers-ids}
 use Rattle.golf_reclaim.proofs.Flags.{map-filter-swap}
 

@@ -1,5 +1,5 @@
 -- The state after a collection, from what was found.
--- For: `collect`, src/collection.rt; `real_collect`, golf_model/specs/Collecting.antt
+-- For: `collect`, src/collection.rt; `real_collect`, golf_model/specs/Collections.antt
 -- By: induction over the list of entries
 use Rattle.std.proofs.Common.{◌≡◌, ℕ, Bool, true, not, ◌&&◌, List, [], ◌∷◌, map, filter, ◌⊎◌, inl, inr}
 use Rattle.std.proofs.Common.{◌++◌, refl, ap}
@@ -16,9 +16,9 @@ use Rattle.golf_base.specs.declared.ids.GoroutineId.{GoroutineId}
 use Rattle.golf_model.specs.Values.{refs}
 use Rattle.golf_model.specs.State.{State}
 use Rattle.golf_model.specs.Refs.{queue_refs, goroutine_refs_where, has_finaliser, refs_of_goroutine}
-use Rattle.golf_model.specs.Reaching.{RefersTo, reach, sources}
-use Rattle.golf_model.specs.Living.{Node, LiveRoot, LiveStep, live_list, has_object}
-use Rattle.golf_model.specs.Collecting.{queue_outside, plain_collect, removed, retained, real_collect}
+use Rattle.golf_model.specs.Reach.{RefersTo, reach, sources}
+use Rattle.golf_model.specs.LiveSet.{Node, LiveRoot, LiveStep, live_list, has_object}
+use Rattle.golf_model.specs.Collections.{queue_outside, plain_collect, removed, retained, real_collect}
 use Rattle.golf_model.specs.Futures.{Numbered}
 use Rattle.golf_model.specs.Presence.{IsWhole}
 use Rattle.golf_model.proofs.Agreeing.{reach-sound, reach-complete, refs_where-sound, goroutine_refs_where-sound}

@@ -1,5 +1,5 @@
 -- What the marked places of a state's graphs say of the state.
--- For: `find_dead` and `find_retained`, src/marking.rt
+-- For: `find_dead` and `find_retained`, src/markings.rt
 -- By: induction over the list of blocked goroutines; else the laws of the marked places
 use Rattle.std.proofs.Common.{◌≡◌, ℕ, ◌<◌, Bool, true, false, not, ◌||◌, ◌&&◌, ◌==◌, List, [], ◌∷◌, length, map, filter}
 use Rattle.std.proofs.Common.{get_or, Some, refl, ◌∙◌, slice_get, inl, inr}
@@ -11,15 +11,15 @@ use Rattle.golf_theory.proofs.Derivations.{Reached-root}
 use Rattle.golf_theory.proofs.Tests.{same_test, is_in-from, In-from, is_in-append}
 use Rattle.golf_base.specs.declared.ids.GoroutineId.{GoroutineId}
 use Rattle.golf_data.specs.declared.value.Object.{Object}
-use Rattle.golf_model.specs.Collecting.{retained}
+use Rattle.golf_model.specs.Collections.{retained}
 use Rattle.golf_model.specs.Futures.{Numbered}
-use Rattle.golf_model.specs.Living.{Node, LiveRoot, LiveStep, has_object, has_goroutine, live_list, live_objects}
-use Rattle.golf_model.specs.Living.{is_dead, dead}
+use Rattle.golf_model.specs.LiveSet.{Node, LiveRoot, LiveStep, has_object, has_goroutine, live_list, live_objects}
+use Rattle.golf_model.specs.LiveSet.{is_dead, dead}
 use Rattle.golf_model.specs.Views.{GoroutineView}
 use Rattle.golf_model.specs.Presence.{IsWhole}
-use Rattle.golf_model.specs.Reaching.{reach, sources}
+use Rattle.golf_model.specs.Reach.{reach, sources}
 use Rattle.golf_model.specs.Refs.{has_finaliser}
-use Rattle.golf_model.specs.Reporting.{numbers, retained_objects}
+use Rattle.golf_model.specs.Reports.{numbers, retained_objects}
 use Rattle.golf_model.specs.State.{State, is_running}
 use Rattle.golf_model.specs.declared.graph.Marked.{Marked}
 use Rattle.golf_model.specs.Sleepers.{Sleeper}
@@ -29,7 +29,7 @@ use Rattle.golf_snapshot.specs.Parts.{row_of, is_awake, sleeping, sleeper_of, li
 use Rattle.golf_snapshot.proofs.LiveComplete.{live-graph}
 use Rattle.golf_snapshot.proofs.LiveSound.{place-is}
 use Rattle.golf_snapshot.proofs.RetainedLaw.{retained-graph}
-use Rattle.golf_mark.specs.Marking.{MarksLeast}
+use Rattle.golf_mark.specs.MarkingResult.{MarksLeast}
 use Rattle.golf_heap.specs.Objects.{left_out}
 use Rattle.golf_heap.proofs.Flagged.{left_out-filter}
 use Rattle.golf_reclaim.specs.Flags.{count_set, either}

@@ -3,10 +3,10 @@ use Rattle.std.specs.Prelude.{ℕ, ◌+◌, Bool, not, List, map, filter, length
 use Rattle.golf_data.specs.declared.report.Book.{Book}
 use Rattle.golf_data.specs.declared.report.Report.{Report}
 use Rattle.golf_model.specs.State.{State}
-use Rattle.golf_model.specs.Living.{dead, live_objects}
-use Rattle.golf_model.specs.Collecting.{removed}
-use Rattle.golf_model.specs.Reporting.{goroutine_id, entries, without, retained_objects}
-use Rattle.golf_reclaim.specs.Noting.{stays_reported, noted}
+use Rattle.golf_model.specs.LiveSet.{dead, live_objects}
+use Rattle.golf_model.specs.Collections.{removed}
+use Rattle.golf_model.specs.Reports.{goroutine_id, entries, without, retained_objects}
+use Rattle.golf_reclaim.specs.RunBook.{stays_reported, noted}
 
 -- the dead goroutines that do not stay reported, in rising order of number
 abbrev pub new_in : Book → State → List ℕ

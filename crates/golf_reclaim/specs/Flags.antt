@@ -4,7 +4,7 @@ use Rattle.golf_base.specs.declared.ids.GoroutineId.{GoroutineId}
 use Rattle.golf_model.specs.declared.graph.GraphParts.{GraphParts}
 use Rattle.golf_model.specs.declared.graph.Marked.{Marked}
 use Rattle.golf_heap.specs.Objects.{left_out}
-use Rattle.golf_final.specs.Keeping.{HasKept}
+use Rattle.golf_final.specs.KeepRule.{HasKept}
 
 -- how many flags are true
 abbrev pub count_set : List Bool → ℕ

@@ -1,4 +1,4 @@
 pub mod Collected
 pub mod Flags
-pub mod Noting
+pub mod RunBook
 pub mod Promises

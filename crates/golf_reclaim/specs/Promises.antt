@@ -5,11 +5,11 @@ use Rattle.golf_theory.specs.Membership.{In}
 use Rattle.golf_data.specs.declared.code.Code.{Code}
 use Rattle.golf_data.specs.declared.report.Report.{Report}
 use Rattle.golf_model.specs.State.{State, ending}
-use Rattle.golf_model.specs.Living.{Dead}
-use Rattle.golf_model.specs.Collecting.{plain_collect, sets_finalisers, Keeps, removed, Retained}
-use Rattle.golf_model.specs.Running.{Event}
+use Rattle.golf_model.specs.LiveSet.{Dead}
+use Rattle.golf_model.specs.Collections.{plain_collect, sets_finalisers, Keeps, removed, Retained}
+use Rattle.golf_model.specs.Runs.{Event}
 use Rattle.golf_model.specs.Futures.{Still, Leads, futures}
-use Rattle.golf_model_futures.specs.Telling.{named}
+use Rattle.golf_model_futures.specs.ReportedGoroutines.{named}
 use Rattle.golf_model_typing.specs.Types.{Typing}
 use Rattle.golf_model_typing.specs.Shapes.{HasShapes}
 use Rattle.golf_model.specs.Turn.{MovesOn}

@@ -3,15 +3,15 @@
 //! It takes all memory before it changes anything, so it happens whole or not at all.
 
 ghost use Rattle.std.specs.Prelude.{◌≡◌, ◌-◌, ◌<◌, ◌≤◌, ◌^◌, IfOk, OnErr, OnOk};
-ghost use Rattle.golf_model.specs.Collecting.{real_collect};
+ghost use Rattle.golf_model.specs.Collections.{real_collect};
 ghost use Rattle.golf_model.specs.Presence.{IsWhole};
-ghost use Rattle.golf_model.specs.Reporting.{book_after, report};
+ghost use Rattle.golf_model.specs.Reports.{book_after, report};
 ghost use Rattle.golf_reclaim.specs.Collected.{noted_by, report_of};
-ghost use Rattle.golf_reclaim.specs.Noting.{AreGone};
+ghost use Rattle.golf_reclaim.specs.RunBook.{AreGone};
 ghost use Rattle.golf_reclaim.specs.Promises.{AreStill, IsUnseen, LeavesExactly, MovesOnAfter};
 
 use crate::ledger::Ledger;
-use crate::marking::{find_dead, find_retained};
+use crate::markings::{find_dead, find_retained};
 use crate::reported::entries;
 use golf_base::{Gate, Memory};
 use golf_data::Report;

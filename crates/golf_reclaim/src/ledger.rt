@@ -7,10 +7,10 @@ ghost use Rattle.std.specs.List.Sorted.{IsNonDecreasingBy};
 ghost use Rattle.golf_theory.specs.Maps.{keys};
 ghost use Rattle.golf_theory.specs.Membership.{is_in};
 ghost use Rattle.golf_heap.specs.Objects.{kept};
-ghost use Rattle.golf_model.specs.Collecting.{queue_outside};
+ghost use Rattle.golf_model.specs.Collections.{queue_outside};
 ghost use Rattle.golf_model.specs.Presence.{IsWhole};
-ghost use Rattle.golf_model.specs.Reporting.{numbers};
-ghost use Rattle.golf_reclaim.specs.Noting.{noted, stays_reported, CanNote};
+ghost use Rattle.golf_model.specs.Reports.{numbers};
+ghost use Rattle.golf_reclaim.specs.RunBook.{noted, stays_reported, CanNote};
 
 use golf_base::{GoroutineId, List, Memory};
 use golf_final::queue_finalisers;
@@ -36,7 +36,7 @@ pub struct Ledger {
 
 impl Model for Ledger {
     ghost use Rattle.golf_data.specs.declared.report.Book.{Book};
-    ghost use Rattle.golf_reclaim.specs.Noting.{HasStaying};
+    ghost use Rattle.golf_reclaim.specs.RunBook.{HasStaying};
 
     ghost Value = { Book };
 

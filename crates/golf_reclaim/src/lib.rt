@@ -6,12 +6,12 @@
 #![tactic(auto)]
 
 mod collection;
+mod finaliser_setters;
 mod ledger;
-mod marking;
+mod markings;
 mod reported;
-mod setting;
 
 pub use collection::{CollectOptions, collect};
+pub use finaliser_setters::sets_finalisers;
 pub use ledger::Ledger;
-pub use marking::find_gone;
-pub use setting::sets_finalisers;
+pub use markings::find_gone;

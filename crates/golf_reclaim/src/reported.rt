@@ -4,7 +4,7 @@
 
 ghost use Rattle.std.specs.Prelude.{◌≡◌, ◌++◌, IfOk, OnOk};
 ghost use Rattle.golf_theory.specs.Maps.{find};
-ghost use Rattle.golf_model.specs.Reporting.{entries, entry_of, numbers};
+ghost use Rattle.golf_model.specs.Reports.{entries, entry_of, numbers};
 
 use golf_base::{GoroutineId, List, Memory};
 use golf_data::{Entry, Mode};

@@ -10,16 +10,16 @@ use Rattle.golf_base.specs.Causes.{Rose, WritesPrefix}
 use Rattle.golf_data.specs.declared.code.Code.{Code}
 use Rattle.golf_model.specs.State.{State, ending}
 use Rattle.golf_model.specs.Turn.{step, wants_collection}
-use Rattle.golf_model.specs.Running.{Event}
-use Rattle.golf_machine.specs.Taking.{HasGoneOn, HasCome, HasTaken}
-use Rattle.golf_machine.specs.declared.turning.Turned.{Turned}
-use Rattle.golf_machine.specs.declared.turning.Turned.TheVariants as t
+use Rattle.golf_model.specs.Runs.{Event}
+use Rattle.golf_machine.specs.Batches.{HasGoneOn, HasCome, HasTaken}
+use Rattle.golf_machine.specs.declared.turns.Turned.{Turned}
+use Rattle.golf_machine.specs.declared.turns.Turned.TheVariants as t
 use Rattle.golf_run_texts.specs.Writes.{emptied}
 use Rattle.golf_run.specs.declared.fault.RunFault.{RunFault}
 use Rattle.golf_run.specs.declared.fault.RunFault.TheVariants as faults
-use Rattle.golf_run.specs.Happening.{HasTurned, turned, prints, collects}
-use Rattle.golf_run.specs.Coming.{HasTakenCollection}
-use Rattle.golf_run.specs.Advancing.{HasComeTo, HasStopped, HasAdvanced}
+use Rattle.golf_run.specs.OneEvent.{HasTurned, turned, prints, collects}
+use Rattle.golf_run.specs.PendingEvents.{HasTakenCollection}
+use Rattle.golf_run.specs.EventBatches.{HasComeTo, HasStopped, HasAdvanced}
 use Rattle.golf_run.proofs.Silent.{come-goes}
 use Rattle.golf_run.proofs.Turning.{loud-turn, quiet-turn}
 

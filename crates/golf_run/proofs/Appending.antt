@@ -1,13 +1,13 @@
 -- Runs over one list of events after another.
--- For: `run_by` and `stops_by`, golf_model/specs/Running.antt
+-- For: `run_by` and `stops_by`, golf_model/specs/Runs.antt
 -- By: induction over the first list of events or of states
 use Rattle.std.proofs.Common.{◌≡◌, Bool, true, List, [], ◌∷◌, ◌++◌, refl, ap, sym, ◌∙◌, append_assoc}
 use Rattle.golf_data.specs.declared.code.Code.{Code}
 use Rattle.golf_data.specs.declared.report.Book.{Book}
 use Rattle.golf_model.specs.State.{State}
-use Rattle.golf_model.specs.Collecting.{plain_collect}
-use Rattle.golf_model.specs.Running.{Event, has_ended, happens, happens_by, happens_in, run, run_by, stop_in, stops_by}
-use Rattle.golf_model.specs.Reporting.{report, book_after, reports_from}
+use Rattle.golf_model.specs.Collections.{plain_collect}
+use Rattle.golf_model.specs.Runs.{Event, has_ended, happens, happens_by, happens_in, run, run_by, stop_in, stops_by}
+use Rattle.golf_model.specs.Reports.{report, book_after, reports_from}
 use Rattle.golf_run_texts.specs.Writes.{books}
 
 -- of any kind of collections

@@ -11,17 +11,17 @@ use Rattle.golf_data.specs.declared.code.Code.{Code}
 use Rattle.golf_data.specs.declared.report.Book.{Book}
 use Rattle.golf_model.specs.State.{State, start, ending}
 use Rattle.golf_model.specs.Turn.{step}
-use Rattle.golf_model.specs.Collecting.{sets_finalisers}
-use Rattle.golf_model.specs.Running.{Event, has_ended, stop_in, stop_if}
-use Rattle.golf_model.specs.Reporting.{new_book, report}
+use Rattle.golf_model.specs.Collections.{sets_finalisers}
+use Rattle.golf_model.specs.Runs.{Event, has_ended, stop_in, stop_if}
+use Rattle.golf_model.specs.Reports.{new_book, report}
 use Rattle.golf_run_schedules.specs.declared.options.RunOptions.{RunOptions}
 use Rattle.golf_run_texts.specs.Output.{events_of, joined, end_of}
 use Rattle.golf_run_texts.specs.Writes.{Write, out_bytes, err_bytes, emptied, told_lines, line_writes, prints_in}
 use Rattle.golf_run_texts.specs.Writes.{collection_writes, writes_in, writes_from, event_writes_of, writes_of}
-use Rattle.golf_model_futures.specs.Printing.{prefixed}
+use Rattle.golf_model_futures.specs.EarlierOutput.{prefixed}
 use Rattle.golf_run.specs.Lines.{IsCutIn, IsStoppedIn}
 use Rattle.golf_run.specs.Told.{told, told_by}
-use Rattle.golf_run.specs.Happening.{turned, prints, says, collects}
+use Rattle.golf_run.specs.OneEvent.{turned, prints, says, collects}
 use Rattle.golf_run.specs.HasRun.{Sinks, sinks, GotWrites, WasCut, WasStopped}
 use Rattle.golf_run.specs.UnderWay.{at, told_to, writes_to, collecting, real_at, real_stops_to, real_book_to}
 use Rattle.golf_run_texts.proofs.Writings.{out-append, err-append}

@@ -13,9 +13,9 @@ use Rattle.golf_data.specs.declared.report.Book.{Book}
 use Rattle.golf_data.specs.declared.report.Report.{Report}
 use Rattle.golf_model.specs.State.{State, start, ending}
 use Rattle.golf_model.specs.Turn.{step}
-use Rattle.golf_model.specs.Collecting.{plain_collect, sets_finalisers}
-use Rattle.golf_model.specs.Running.{Event, has_ended, run, stops_by}
-use Rattle.golf_model.specs.Reporting.{reports_from, new_book, book_of, numbers}
+use Rattle.golf_model.specs.Collections.{plain_collect, sets_finalisers}
+use Rattle.golf_model.specs.Runs.{Event, has_ended, run, stops_by}
+use Rattle.golf_model.specs.Reports.{reports_from, new_book, book_of, numbers}
 use Rattle.golf_model.specs.Futures.{Leads}
 use Rattle.golf_run_schedules.specs.declared.options.RunOptions.{RunOptions}
 use Rattle.golf_run_schedules.specs.Events.{turns_among}
@@ -29,7 +29,7 @@ use Rattle.golf_run.specs.declared.fault.RunFault.{RunFault}
 use Rattle.golf_run.specs.declared.fault.RunFault.TheVariants as faults
 use Rattle.golf_run.specs.Lines.{IsCutIn, IsStoppedIn}
 use Rattle.golf_run.specs.Told.{told_by, HasTold}
-use Rattle.golf_run.specs.Happening.{turned, prints, says, collects, HasTurned}
+use Rattle.golf_run.specs.OneEvent.{turned, prints, says, collects, HasTurned}
 use Rattle.golf_run.specs.HasLeft.{HasLeft}
 use Rattle.golf_run.specs.declared.turns.Course.{Course}
 use Rattle.golf_run.specs.HasRun.{Sinks, sinks, GotWrites, IsSteady, WasCut, WasStopped}

@@ -1,5 +1,5 @@
 -- What a run comes to once all its events came about.
--- For: `run`, src/running.rt; `survey`, src/surveying.rt
+-- For: `run`, src/written_run.rt; `survey`, src/silent_run.rt
 -- By: cases of the outcome; no induction
 use Rattle.std.proofs.Common.{◌≡◌, ℕ, not, ◌==◌, List, [], ◌∷◌, ◌++◌, refl, sym, ap, subst, ◌∙◌}
 use Rattle.std.specs.Prelude.{Option, Result, Ok, Err, IsErr, IsErrAnd}

@@ -11,19 +11,19 @@ use Rattle.golf_data.specs.declared.goroutine.Ending.{Ending}
 use Rattle.golf_data.specs.declared.report.Book.{Book}
 use Rattle.golf_model.specs.State.{State, ending}
 use Rattle.golf_model.specs.Turn.{step, wants_collection}
-use Rattle.golf_model.specs.Collecting.{sets_finalisers}
-use Rattle.golf_model.specs.Running.{Event, has_ended, collected_if, happens_in, stop_in, stop_if}
-use Rattle.golf_model.specs.Reporting.{report, book_after, new_book, numbers}
+use Rattle.golf_model.specs.Collections.{sets_finalisers}
+use Rattle.golf_model.specs.Runs.{Event, has_ended, collected_if, happens_in, stop_in, stop_if}
+use Rattle.golf_model.specs.Reports.{report, book_after, new_book, numbers}
 use Rattle.golf_model.specs.Futures.{Leads}
 use Rattle.golf_run_texts.specs.Output.{joined}
 use Rattle.golf_run_texts.specs.declared.totals.Totals.{Totals}
 use Rattle.golf_run_texts.specs.Totals.{totals_of}
-use Rattle.golf_model_futures.specs.Printing.{prefixed}
+use Rattle.golf_model_futures.specs.EarlierOutput.{prefixed}
 use Rattle.golf_model_futures.proofs.Printing.{step-prefixed}
 use Rattle.golf_model_futures.proofs.Leading.{leads-numbered}
 use Rattle.golf_run.specs.Told.{told, told_by, noted, collected, totalled}
 use Rattle.golf_run_texts.specs.Writes.{emptied, told_lines}
-use Rattle.golf_run.specs.Happening.{turned, prints, collects}
+use Rattle.golf_run.specs.OneEvent.{turned, prints, collects}
 use Rattle.golf_run.specs.HasLeft.{HasLeft}
 use Rattle.golf_run.specs.HasRun.{Sinks}
 use Rattle.golf_run.specs.UnderWay.{at, reports_to, collecting, real_at, real_stops_to, real_book_to, stops_text}
@@ -33,7 +33,7 @@ use Rattle.golf_run.proofs.Totalling.{counted-more, totals-are}
 use Rattle.golf_run.proofs.Printed.{collect-prefixed, report-prefixed, book-prefixed, told-prefixed}
 use Rattle.golf_run.proofs.Real.{same-output, real-next, real_stops-next, reports-next, real_book-next}
 use Rattle.golf_run.proofs.Leaving.{step-left, emptied-left, collect-left}
-use Rattle.golf_model_order.proofs.Collecting.{collecting-goes}
+use Rattle.golf_model_futures.proofs.OrderedCollecting.{collecting-goes}
 
 not-ended : (o : Option Ending) → o ≡ None → is_some o ≡ false
 not-ended None e = refl

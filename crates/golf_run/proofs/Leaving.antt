@@ -11,15 +11,15 @@ use Rattle.golf_theory.proofs.MapFinds.{Entry-below}
 use Rattle.golf_data.specs.declared.code.Code.{Code}
 use Rattle.golf_model.specs.State.{State, start}
 use Rattle.golf_model.specs.Turn.{step}
-use Rattle.golf_model.specs.Collecting.{removed, unkept, real_collect}
+use Rattle.golf_model.specs.Collections.{removed, unkept, real_collect}
 use Rattle.golf_model.specs.Futures.{Numbered}
 use Rattle.golf_model_futures.specs.Invariant.{Closed}
 use Rattle.golf_model_futures.proofs.MainLaws as Law
 use Rattle.golf_model_futures.proofs.Removing.{stays_by}
 use Rattle.golf_theory.proofs.Derivations.{Reached-root}
 use Rattle.golf_data.specs.declared.report.Book.{Book}
-use Rattle.golf_model.specs.Living.{Node, LiveRoot, LiveStep, Live}
-use Rattle.golf_model.specs.Reporting.{numbers, new_gone, book_after}
+use Rattle.golf_model.specs.LiveSet.{Node, LiveRoot, LiveStep, Live}
+use Rattle.golf_model.specs.Reports.{numbers, new_gone, book_after}
 use Rattle.golf_model_futures.proofs.Removing.{gone-dead}
 use Rattle.golf_model_futures.proofs.RealReports.{numbers-append}
 use Rattle.golf_run.specs.HasLeft.{HasLeft}

@@ -1,5 +1,5 @@
 -- Lines that are written one by one.
--- For: `write_told` and `write_entries`, src/telling.rt; `HasWritten`, specs/Lines.antt
+-- For: `write_told` and `write_entries`, src/collection_lines.rt; `HasWritten`, specs/Lines.antt
 -- By: cases of the outcome of a write; for a loop over entries, induction over their list
 use Rattle.std.proofs.Common.{◌≡◌, ℕ, zero, suc, ◌+◌, ◌<◌, List, [], ◌∷◌, ◌++◌, length, take, drop, get_or, refl, sym}
 use Rattle.std.proofs.Common.{ap, subst, ◌∙◌, append_assoc, append-nil, arith}

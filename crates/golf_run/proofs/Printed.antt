@@ -1,19 +1,19 @@
 -- What was printed before changes nothing of a collection, with recovery or without.
--- For: `real_collect`, golf_model/specs/Collecting.antt; `told_by`, specs/Told.antt
+-- For: `real_collect`, golf_model/specs/Collections.antt; `told_by`, specs/Told.antt
 -- By: computing; cases of whether there is recovery
 use Rattle.std.proofs.Common.{◌≡◌, ℕ, ◌+◌, Bool, true, false, List, ◌∷◌, ◌++◌, length, map, refl, ap, ◌∙◌}
 use Rattle.golf_data.specs.declared.report.Book.{Book}
 use Rattle.golf_model.specs.State.{State}
-use Rattle.golf_model.specs.Reaching.{reach}
-use Rattle.golf_model.specs.Living.{live_list, live_objects, dead}
-use Rattle.golf_model.specs.Collecting.{real_collect}
-use Rattle.golf_model.specs.Reporting.{entries, new_dead, new_gone, all_gone, without, retained_objects, goroutine_id}
-use Rattle.golf_model.specs.Reporting.{report, book_after}
-use Rattle.golf_why.specs.Explaining.{certificate_size, reached_in}
+use Rattle.golf_model.specs.Reach.{reach}
+use Rattle.golf_model.specs.LiveSet.{live_list, live_objects, dead}
+use Rattle.golf_model.specs.Collections.{real_collect}
+use Rattle.golf_model.specs.Reports.{entries, new_dead, new_gone, all_gone, without, retained_objects, goroutine_id}
+use Rattle.golf_model.specs.Reports.{report, book_after}
+use Rattle.golf_why.specs.Explanations.{certificate_size, reached_in}
 use Rattle.golf_run_texts.specs.Texts.{certificate_line, reached_line, report_lines}
 use Rattle.golf_run_texts.specs.Output.{why_lines}
 use Rattle.golf_run_texts.specs.Writes.{told_lines}
-use Rattle.golf_model_futures.specs.Printing.{prefixed}
+use Rattle.golf_model_futures.specs.EarlierOutput.{prefixed}
 use Rattle.golf_model_futures.proofs.Printing.{same-entries}
 use Rattle.golf_run.specs.Told.{told, told_by}
 

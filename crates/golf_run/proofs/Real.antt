@@ -4,9 +4,9 @@
 use Rattle.std.proofs.Common.{◌≡◌, Bool, List, [], ◌∷◌, ◌++◌, sym, ap, ◌∙◌, append-nil}
 use Rattle.golf_data.specs.declared.code.Code.{Code}
 use Rattle.golf_model.specs.State.{State, start, ending}
-use Rattle.golf_model.specs.Collecting.{sets_finalisers}
-use Rattle.golf_model.specs.Running.{Event, has_ended, happens_by, stop_in, stops_by}
-use Rattle.golf_model.specs.Reporting.{reports_from, new_book}
+use Rattle.golf_model.specs.Collections.{sets_finalisers}
+use Rattle.golf_model.specs.Runs.{Event, has_ended, happens_by, stop_in, stops_by}
+use Rattle.golf_model.specs.Reports.{reports_from, new_book}
 use Rattle.golf_model_futures.proofs.RealRuns.{real-runs}
 use Rattle.golf_run_texts.specs.Writes.{books}
 use Rattle.golf_run.specs.UnderWay.{at, stops_to, reports_to, collecting, real_at, real_stops_to, real_book_to}

@@ -1,5 +1,5 @@
 -- Who is dead at the last collection of a run was reported.
--- For: `leaks_are_reported`, src/laws.rt; `TellsOfEach`, golf_model_futures/specs/Telling.antt
+-- For: `leaks_are_reported`, src/laws.rt; `TellsOfEach`, golf_model_futures/specs/ReportedGoroutines.antt
 -- By: induction over the list of states right before collections
 use Rattle.std.proofs.Common.{◌≡◌, ℕ, false, List, [], ◌∷◌, ◌++◌, map, None, inl, inr, refl, sym}
 use Rattle.std.proofs.Common.{ap, ◌∙◌, subst, is_some}
@@ -10,11 +10,11 @@ use Rattle.golf_data.specs.declared.code.Code.{Code}
 use Rattle.golf_data.specs.declared.report.Entry.{Entry}
 use Rattle.golf_data.specs.declared.report.Report.{Report}
 use Rattle.golf_model.specs.State.{State, start, ending}
-use Rattle.golf_model.specs.Living.{dead}
-use Rattle.golf_model.specs.Collecting.{plain_collect}
-use Rattle.golf_model.specs.Running.{Event, run, stop_in, stops, stops_by}
-use Rattle.golf_model.specs.Reporting.{without}
-use Rattle.golf_model_futures.specs.Telling.{named, TellsOfEach}
+use Rattle.golf_model.specs.LiveSet.{dead}
+use Rattle.golf_model.specs.Collections.{plain_collect}
+use Rattle.golf_model.specs.Runs.{Event, run, stop_in, stops, stops_by}
+use Rattle.golf_model.specs.Reports.{without}
+use Rattle.golf_model_futures.specs.ReportedGoroutines.{named, TellsOfEach}
 use Rattle.golf_model_futures.proofs.MainLaws.{book_tells_of_each}
 use Rattle.golf_run_schedules.specs.declared.options.RunOptions.{RunOptions}
 use Rattle.golf_run_schedules.specs.Laws.{turns_then_collect}

@@ -1,5 +1,5 @@
 -- Turns of a run after which the outside is not needed.
--- For: `go_through`, src/turns.rt; `HasGoneOn`, golf_machine/specs/Taking.antt
+-- For: `go_through`, src/turns.rt; `HasGoneOn`, golf_machine/specs/Batches.antt
 -- By: induction over the list of turns that were taken in one go
 use Rattle.std.proofs.Common.{◌≡◌, ℕ, ◌+◌, Bool, true, false, List, [], ◌∷◌, ◌++◌, length, Option, Some, None, refl}
 use Rattle.std.proofs.Common.{sym, ap, subst, ◌∙◌, ◌⊎◌, inl, inr, arith}
@@ -11,15 +11,15 @@ use Rattle.golf_data.specs.declared.goroutine.Ending.{Ending}
 use Rattle.golf_data.specs.declared.report.Book.{Book}
 use Rattle.golf_model.specs.State.{State, ending}
 use Rattle.golf_model.specs.Turn.{step, wants_collection}
-use Rattle.golf_model.specs.Running.{Event}
+use Rattle.golf_model.specs.Runs.{Event}
 use Rattle.golf_machine.specs.Turns.{turned_of}
-use Rattle.golf_machine.specs.Taking.{turn_events, needs_outside, stops_after, steps, GoOn, HasGoneOn}
+use Rattle.golf_machine.specs.Batches.{turn_events, needs_outside, stops_after, steps, GoOn, HasGoneOn}
 use Rattle.golf_run_schedules.specs.declared.options.RunOptions.{RunOptions}
 use Rattle.golf_run_texts.specs.declared.totals.Totals.{Totals}
-use Rattle.golf_run.specs.Happening.{turned, prints}
+use Rattle.golf_run.specs.OneEvent.{turned, prints}
 use Rattle.golf_run.specs.HasRun.{Sinks}
 use Rattle.golf_run.specs.UnderWay.{IsGoing}
-use Rattle.golf_run.specs.Advancing.{HasComeTo, HasStopped}
+use Rattle.golf_run.specs.EventBatches.{HasComeTo, HasStopped}
 use Rattle.golf_run.proofs.Ending.{IsNext}
 use Rattle.golf_run.proofs.Stepping.{going-quiet}
 

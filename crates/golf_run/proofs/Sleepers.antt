@@ -1,5 +1,5 @@
 -- An entry of a list, by its place.
--- For: `write_reached`, src/telling.rt
+-- For: `write_reached`, src/collection_lines.rt
 -- By: induction over the list of entries
 use Rattle.std.proofs.Common.{◌≡◌, ℕ, zero, suc, List, [], ◌∷◌, get_or, refl, None}
 use Rattle.std.specs.Prelude.{Option, slice_get, unwrap_or}

@@ -7,12 +7,12 @@ use Rattle.std.specs.Io.KnownBytes.{Appends}
 use Rattle.golf_data.specs.declared.code.Code.{Code}
 use Rattle.golf_data.specs.declared.report.Book.{Book}
 use Rattle.golf_model.specs.State.{State, start}
-use Rattle.golf_model.specs.Collecting.{sets_finalisers}
-use Rattle.golf_model.specs.Running.{Event}
+use Rattle.golf_model.specs.Collections.{sets_finalisers}
+use Rattle.golf_model.specs.Runs.{Event}
 use Rattle.golf_model.specs.Presence.{IsWhole}
-use Rattle.golf_model.specs.Reporting.{numbers, new_book}
-use Rattle.golf_model_order.proofs.Leading.{leads-whole}
-use Rattle.golf_reclaim.specs.Noting.{AreGone}
+use Rattle.golf_model.specs.Reports.{numbers, new_book}
+use Rattle.golf_model_futures.proofs.OrderedLeading.{leads-whole}
+use Rattle.golf_reclaim.specs.RunBook.{AreGone}
 use Rattle.golf_run_schedules.specs.declared.schedule.Schedule.{Schedule}
 use Rattle.golf_run_schedules.specs.declared.options.RunOptions.{RunOptions}
 use Rattle.golf_run_schedules.specs.Options.{IsWithinLimits}
@@ -23,7 +23,7 @@ use Rattle.golf_run_texts.specs.Totals.{totals_of}
 use Rattle.golf_run_texts.specs.Output.{events_of, joined}
 use Rattle.golf_run_texts.specs.Writes.{line_writes}
 use Rattle.golf_run.specs.Told.{told_by, noted, collected, totalled}
-use Rattle.golf_run.specs.Happening.{turned, prints, says, collects}
+use Rattle.golf_run.specs.OneEvent.{turned, prints, says, collects}
 use Rattle.golf_run.specs.HasRun.{Sinks, sinks, IsSteady}
 use Rattle.golf_run.specs.UnderWay.{writes_to, IsGoing}
 use Rattle.golf_run.proofs.Goings.{turned-leads, turned-left, quiet, loud}

@@ -6,10 +6,10 @@ use Rattle.std.specs.Prelude.{Option, Some, None, Result, Ok, Err, IsErr}
 use Rattle.golf_data.specs.declared.report.Book.{Book}
 use Rattle.golf_data.specs.declared.report.Report.{Report}
 use Rattle.golf_model.specs.State.{State}
-use Rattle.golf_model.specs.Collecting.{real_collect}
-use Rattle.golf_model.specs.Reporting.{report, book_after}
+use Rattle.golf_model.specs.Collections.{real_collect}
+use Rattle.golf_model.specs.Reports.{report, book_after}
 use Rattle.golf_why.specs.declared.explanation.Explanation.{Explanation}
-use Rattle.golf_why.specs.Explaining.{certificate_size, asleep_in, reached_from, reached_in}
+use Rattle.golf_why.specs.Explanations.{certificate_size, sleeper_entries_in, reached_from, reached_in}
 use Rattle.golf_run_texts.specs.Texts.{certificate_line, reached_line, report_lines}
 use Rattle.golf_run_texts.specs.Output.{why_lines}
 use Rattle.golf_run_texts.specs.Writes.{told_lines}
@@ -28,9 +28,9 @@ unfolding reached_in
 explained false s o n h = ap (explained_lines n) h
 explained true s None n h = absurd h
 explained true s (Some e) n h =
-    ap (λ k. certificate_line n k ∷ map reached_line (reached_from e.graph 0 e.asleep)) h.0.places
+    ap (λ k. certificate_line n k ∷ map reached_line (reached_from e.graph 0 e.sleeper_entries)) h.0.places
     ∙ ap (λ rs. certificate_line n (certificate_size s) ∷ map reached_line rs)
-    (ap (reached_from e.graph 0) h.0.asleep ∙ ap (λ g. reached_from g 0 (asleep_in s g)) h.0.graph)
+    (ap (reached_from e.graph 0) h.0.sleeper_entries ∙ ap (λ g. reached_from g 0 (sleeper_entries_in s g)) h.0.graph)
 
 module _ (recover sets : Bool) (book : Book) (s : State) where
   -- the lines of a report that is the one told, and of what was made of the state

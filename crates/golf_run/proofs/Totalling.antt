@@ -10,7 +10,7 @@ use Rattle.golf_data.specs.declared.report.Entry.{Entry}
 use Rattle.golf_data.specs.declared.report.Report.{Report}
 use Rattle.golf_model.specs.State.{State}
 use Rattle.golf_model.specs.Futures.{Numbered}
-use Rattle.golf_model.specs.Reporting.{goroutine_id, new_dead, new_gone, report}
+use Rattle.golf_model.specs.Reports.{goroutine_id, new_dead, new_gone, report}
 use Rattle.golf_model_futures.proofs.Tellings.{report-named}
 use Rattle.golf_run_texts.specs.declared.totals.Totals.{Totals}
 use Rattle.golf_run_texts.specs.Totals.{total_reported, total_reclaimed, of_last, totals_of}

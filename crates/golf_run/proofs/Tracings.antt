@@ -1,7 +1,8 @@
 -- A run that tells its turns goes on from one event to the next.
--- For: `go_over` and `trace`, src/tracing.rt; `HasGoneTraced`, specs/Traced.antt
+-- For: `go_over` and `trace`, src/traced_run.rt; `HasGoneTraced`, specs/Traced.antt
 -- By: cases of the event, and whether a collection follows; no induction
-use Rattle.std.proofs.Common.{◌≡◌, ℕ, ◌+◌, ◌-◌, ◌^◌, ◌<◌, Bool, true, false, not, ◌==◌, cond, List, [], ◌∷◌, ◌++◌, Option, Some, None}
+use Rattle.std.proofs.Common.{◌≡◌, ℕ, ◌+◌, ◌-◌, ◌^◌, ◌<◌, Bool, true, false, not, ◌==◌, cond, List, [], ◌∷◌, ◌++◌}
+use Rattle.std.proofs.Common.{Option, Some, None}
 use Rattle.std.proofs.Common.{refl, sym, ap, subst, ◌∙◌, append_assoc, append-nil, ◌⊎◌, inl, inr}
 use Rattle.std.specs.Prelude.{is_some, Result, Ok, Err, IsErr, IsErrAnd}
 use Rattle.std.specs.Io.KnownBytes.{Appends}
@@ -11,9 +12,9 @@ use Rattle.golf_data.specs.declared.code.Code.{Code}
 use Rattle.golf_data.specs.declared.report.Book.{Book}
 use Rattle.golf_model.specs.State.{State, start, ending}
 use Rattle.golf_model.specs.Turn.{step}
-use Rattle.golf_model.specs.Collecting.{sets_finalisers}
-use Rattle.golf_model.specs.Running.{Event}
-use Rattle.golf_model.specs.Reporting.{new_book}
+use Rattle.golf_model.specs.Collections.{sets_finalisers}
+use Rattle.golf_model.specs.Runs.{Event}
+use Rattle.golf_model.specs.Reports.{new_book}
 use Rattle.golf_run_schedules.specs.declared.options.RunOptions.{RunOptions}
 use Rattle.golf_run_schedules.specs.Events.{events, turns_among}
 use Rattle.golf_run_texts.specs.declared.totals.Totals.{Totals}
@@ -25,10 +26,11 @@ use Rattle.golf_run_texts.proofs.Writings.{out-append, err-append}
 use Rattle.golf_run.specs.declared.fault.RunFault.{RunFault}
 use Rattle.golf_run.specs.declared.fault.RunFault.TheVariants as faults
 use Rattle.golf_run.specs.declared.turns.Course.{Course}
-use Rattle.golf_run.specs.Happening.{turned, prints, says, collects, HasTurned}
+use Rattle.golf_run.specs.OneEvent.{turned, prints, says, collects, HasTurned}
 use Rattle.golf_run.specs.HasRun.{Sinks, sinks, GotWrites, IsSteady, WasCut, WasStopped}
 use Rattle.golf_run.specs.UnderWay.{IsGoing}
-use Rattle.golf_run.specs.Tracing.{book_if, totals_if, state_if, event_text, traced_from, event_traces_of, traces_of, HasTraced}
+use Rattle.golf_run.specs.TraceWrites.{book_if, totals_if, state_if, event_text, traced_from, event_traces_of}
+use Rattle.golf_run.specs.TraceWrites.{traces_of, HasTraced}
 use Rattle.golf_run.specs.Traced.{ComesNext, nowhere, TracedThrough, HasGoneTraced}
 use Rattle.golf_run.proofs.Cutting.{says-out, says-err, out-cut, err-cut}
 use Rattle.golf_run.proofs.Ending.{IsNext, went}
@@ -54,7 +56,8 @@ begun code options left given state book are none is empty =
     sym (λ i. traced_from code options.recover options.why (none i) (empty i) (is i) (are i))
 
 -- what an event printed is written too
-module _ (code : Code) (e : Event) (s : State) (done : List Write) (old now : Sinks) (got : GotWrites done old now) where
+module _ (code : Code) (e : Event) (s : State) (done : List Write) (old now : Sinks)
+    (got : GotWrites done old now) where
   pub got-says : (out : Option (List ℕ)) (of ef : ℕ) → Appends now.out out (prints code e s)
       → GotWrites (done ++ says code e s) old (sinks out of now.err ef)
   got-says out of ef a = (
@@ -194,7 +197,8 @@ module _ {code : Code} {options : RunOptions} {e : Event} {before after : List E
       text-cut prefix rose (Err faults.Memory) i h = cc
       text-cut prefix rose (Err faults.Write) i h =
           err-cut (traces_of code options) (t.done ++ says code e state) (rest ++ last) old
-          (sinks out of now.err now.err_faults) (got-says code e state t.done old now t.got out of now.err_faults a) text whole-order
+          (sinks out of now.err now.err_faults)
+          (got-says code e state t.done old now t.got out of now.err_faults a) text whole-order
           err of ef (subst (WritesPrefix now.err err) is prefix) (calm ∙ t.steady.out)
           (subst (λ n. Rose n ef) t.steady.err rose)
 
@@ -219,7 +223,8 @@ module _ {code : Code} {options : RunOptions} {e : Event} {before after : List E
               (ap (λ c. book_if options.recover (sets_finalisers code) c book (turned code e state)) (sym wants)
                   ∙ sym book-is) i,
             ));
-        got = got-text text (t.done ++ says code e state) old (sinks out of now.err now.err_faults) (got-says code e state t.done old now t.got out of now.err_faults a) err of ef
+        got = got-text text (t.done ++ says code e state) old (sinks out of now.err now.err_faults)
+            (got-says code e state t.done old now t.got out of now.err_faults a) err of ef
             (subst (Appends now.err err) is appends);
         steady = record { out = calm ∙ t.steady.out; err = quiet ∙ t.steady.err };
       }

@@ -1,7 +1,8 @@
 -- The goroutines that can run, and those that a turn woke.
 -- For: `runnable`, `woken`, `Before::line`, src/turn_lines.rt; `woken`, specs/TurnLines.antt
 -- By: cases of whether one more is woken; for the first items, induction over their number
-use Rattle.std.proofs.Common.{◌≡◌, ℕ, zero, suc, ◌+◌, Bool, true, false, cond, List, [], ◌∷◌, ◌++◌, map, filter, take, slice_get, Some}
+use Rattle.std.proofs.Common.{◌≡◌, ℕ, zero, suc, ◌+◌, Bool, true, false, cond, List, [], ◌∷◌, ◌++◌, map, filter, take}
+use Rattle.std.proofs.Common.{slice_get, Some}
 use Rattle.std.proofs.Common.{refl, sym, ap, subst, ◌∙◌, append-nil, arith}
 use Rattle.std.specs.Prelude.{codes}
 use Rattle.std.specs.List.Sorted.{IsNonDecreasingBy}
@@ -12,7 +13,7 @@ use Rattle.golf_data.specs.declared.code.Code.{Code}
 use Rattle.golf_theory.specs.Maps.{IsRising, find}
 use Rattle.golf_model.specs.State.{State, runnable, can_run}
 use Rattle.golf_model.specs.Turn.{step}
-use Rattle.golf_state_goroutines.specs.Rising.{RisesFrom}
+use Rattle.golf_state_goroutines.specs.RisingLists.{RisesFrom}
 use Rattle.golf_state_goroutines.proofs.Rises.{Rises-keys_where, sorted}
 use Rattle.golf_run.specs.declared.turn_lines.Before.{Before}
 use Rattle.golf_run.specs.Before.{IsBefore}

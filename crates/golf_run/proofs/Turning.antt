@@ -7,9 +7,9 @@ use Rattle.golf_data.specs.declared.goroutine.Ending.{Ending}
 use Rattle.golf_model.specs.State.{State, ending}
 use Rattle.golf_model.specs.Turn.{step, wants_collection}
 use Rattle.golf_machine.specs.Turns.{turned_of}
-use Rattle.golf_machine.specs.declared.turning.Turned.{Turned}
-use Rattle.golf_machine.specs.declared.turning.Turned.TheVariants as t
-use Rattle.golf_model_order.proofs.Collecting.{collecting-goes}
+use Rattle.golf_machine.specs.declared.turns.Turned.{Turned}
+use Rattle.golf_machine.specs.declared.turns.Turned.TheVariants as t
+use Rattle.golf_model_futures.proofs.OrderedCollecting.{collecting-goes}
 
 silent-end : (code : Code) (s : State) (k : ℕ) (b : Bool) (e : Ending) → wants_collection code s k ≡ b → ending s ≡ None
     → ending (step code s k) ≡ Some e → wants_collection code s k ≡ false

@@ -9,9 +9,9 @@ use Rattle.golf_data.specs.declared.report.Entry.{Entry}
 use Rattle.golf_data.specs.declared.report.Report.{Report}
 use Rattle.golf_model.specs.State.{State, start}
 use Rattle.golf_model.specs.Turn.{step, wants_collection}
-use Rattle.golf_model.specs.Collecting.{sets_finalisers}
-use Rattle.golf_model.specs.Running.{Event, has_ended, collected_if, happens_in, happens_by, run_by, stop_in, stops_by}
-use Rattle.golf_model.specs.Reporting.{report, reports_from, book_after, new_book}
+use Rattle.golf_model.specs.Collections.{sets_finalisers}
+use Rattle.golf_model.specs.Runs.{Event, has_ended, collected_if, happens_in, happens_by, run_by, stop_in, stops_by}
+use Rattle.golf_model.specs.Reports.{report, reports_from, book_after, new_book}
 use Rattle.golf_run_schedules.specs.declared.options.RunOptions.{RunOptions}
 use Rattle.golf_run_texts.specs.Texts.{entry_line, entry_lines, report_line, report_lines, report_text}
 use Rattle.golf_run_texts.specs.Output.{events_of, out_of, last_of, reports_of, real_stops_of, why_lines, joined}
@@ -20,7 +20,7 @@ use Rattle.golf_run_texts.specs.Writes.{Write, out_bytes, err_bytes, emptied, fr
 use Rattle.golf_run_texts.specs.Writes.{prints_in, collection_writes, writes_in, writes_from, event_writes_of}
 use Rattle.golf_run_texts.specs.Writes.{writes_of}
 use Rattle.golf_run_texts.proofs.Writings.{out-append, err-append}
-use Rattle.golf_model_futures.specs.Printing.{prefixed}
+use Rattle.golf_model_futures.specs.EarlierOutput.{prefixed}
 use Rattle.golf_model_futures.proofs.Printing.{step-prefixed}
 use Rattle.golf_model_futures.proofs.RealRuns.{real-runs}
 use Rattle.golf_run.specs.UnderWay.{stops_text}

@@ -3,8 +3,8 @@ use Rattle.std.specs.Prelude.{◌≡◌, ℕ, true, List, [], map, None, Err}
 use Rattle.golf_base.specs.Causes.{WritesPrefix}
 use Rattle.golf_data.specs.declared.code.Code.{Code}
 use Rattle.golf_model.specs.State.{start, ending}
-use Rattle.golf_model.specs.Living.{dead}
-use Rattle.golf_model.specs.Running.{Event, run}
+use Rattle.golf_model.specs.LiveSet.{dead}
+use Rattle.golf_model.specs.Runs.{Event, run}
 use Rattle.golf_run_schedules.specs.declared.options.RunOptions.{RunOptions}
 use Rattle.golf_run_schedules.specs.Laws.{turns_then_collect}
 use Rattle.golf_run_texts.specs.Output.{events_of, reports_of, anyone_reported, out_of, err_of}

@@ -1,8 +1,8 @@
 pub mod Lines
 pub mod Told
-pub mod Happening
-pub mod Coming
-pub mod Advancing
+pub mod OneEvent
+pub mod PendingEvents
+pub mod EventBatches
 pub mod HasRun
 pub mod HasLeft
 pub mod UnderWay
@@ -11,5 +11,5 @@ pub mod IsRunSummary
 pub mod Laws
 pub mod TurnLines
 pub mod Before
-pub mod Tracing
+pub mod TraceWrites
 pub mod Traced

@@ -6,10 +6,10 @@ use Rattle.golf_base.specs.Causes.{Rose}
 use Rattle.golf_data.specs.declared.report.Book.{Book}
 use Rattle.golf_data.specs.declared.report.Report.{Report}
 use Rattle.golf_model.specs.State.{State}
-use Rattle.golf_model.specs.Collecting.{real_collect}
-use Rattle.golf_model.specs.Reporting.{report, book_after}
+use Rattle.golf_model.specs.Collections.{real_collect}
+use Rattle.golf_model.specs.Reports.{report, book_after}
 use Rattle.golf_why.specs.declared.explanation.Explanation.{Explanation}
-use Rattle.golf_why.specs.Explaining.{reached_from, Explains, IsReady}
+use Rattle.golf_why.specs.Explanations.{reached_from, Explains, IsExplanation}
 use Rattle.golf_run_texts.specs.Texts.{certificate_line, reached_line}
 use Rattle.golf_run_texts.specs.Output.{joined}
 use Rattle.golf_run_texts.specs.Writes.{told_lines}
@@ -30,12 +30,13 @@ told_by recover sets why book s = told_lines why (told recover sets book s) s
 abbrev pub ExplainsIf : Bool → State → Option Explanation → Type 0
 ExplainsIf false s o = o ≡ None
 ExplainsIf true s None = ⊥
-ExplainsIf true s (Some e) = Explains s e × IsReady e
+ExplainsIf true s (Some e) = Explains s e × IsExplanation e
 
 -- the lines of the explanation
 abbrev pub explained_lines : ℕ → Option Explanation → List (List ℕ)
 explained_lines number None = []
-explained_lines number (Some e) = certificate_line number e.places ∷ map reached_line (reached_from e.graph 0 e.asleep)
+explained_lines number (Some e) = certificate_line number e.places
+    ∷ map reached_line (reached_from e.graph 0 e.sleeper_entries)
 
 -- the book after this collection
 unfoldable pub noted : Bool → Bool → Book → State → Book

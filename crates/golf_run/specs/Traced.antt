@@ -3,22 +3,23 @@ use Rattle.std.specs.Prelude.{◌≡◌, ℕ, ◌+◌, ◌⊎◌, Bool, true, Li
 use Rattle.std.specs.Prelude.{is_some}
 use Rattle.golf_data.specs.declared.code.Code.{Code}
 use Rattle.golf_model.specs.State.{State, ending}
-use Rattle.golf_model.specs.Running.{Event}
+use Rattle.golf_model.specs.Runs.{Event}
 use Rattle.golf_run_schedules.specs.declared.options.RunOptions.{RunOptions}
 use Rattle.golf_run_schedules.specs.Events.{turns_among}
 use Rattle.golf_run.specs.declared.fault.RunFault.{RunFault}
 use Rattle.golf_run.specs.declared.fault.RunFault.TheVariants as faults
 use Rattle.golf_run.specs.declared.turns.Course.{Course}
-use Rattle.golf_run.specs.declared.tracing.Accounts.{Accounts}
-use Rattle.golf_run.specs.declared.tracing.Happened.{Happened}
-use Rattle.golf_run.specs.Happening.{HasTurned}
+use Rattle.golf_run.specs.declared.traced_run.Accounts.{Accounts}
+use Rattle.golf_run.specs.declared.traced_run.Happened.{Happened}
+use Rattle.golf_run.specs.OneEvent.{HasTurned}
 use Rattle.golf_run.specs.HasGone.{WentThrough}
 use Rattle.golf_run.specs.HasRun.{Sinks, sinks, GotWrites, IsSteady, WasCut, WasStopped}
-use Rattle.golf_run.specs.Tracing.{turn_line_of, lines_if, book_if, totals_if, state_if, event_traces_of, traces_of}
+use Rattle.golf_run.specs.TraceWrites.{turn_line_of, lines_if, book_if, totals_if, state_if, event_traces_of, traces_of}
 
 -- this event comes next; or none does, because the program has ended or no event is left
 abbrev pub ComesNext : Option Event → State → List Event → List Event → ℕ → ℕ → Type 0
-ComesNext None s before after given now = ((is_some (ending s) ≡ true) ⊎ (after ≡ [])) × (after ≡ before) × (now ≡ given)
+ComesNext None s before after given now = ((is_some (ending s) ≡ true) ⊎ (after ≡ [])) × (after ≡ before)
+    × (now ≡ given)
 ComesNext (Some e) s before after given now =
     (ending s ≡ None) × (before ≡ e ∷ after) × (now ≡ given + turns_among (e ∷ []))
 

@@ -5,17 +5,17 @@ use Rattle.golf_data.specs.declared.code.Code.{Code}
 use Rattle.golf_data.specs.declared.report.Book.{Book}
 use Rattle.golf_data.specs.declared.report.Report.{Report}
 use Rattle.golf_model.specs.State.{State, start}
-use Rattle.golf_model.specs.Collecting.{sets_finalisers, real_collect}
-use Rattle.golf_model.specs.Running.{Event, run, stops, run_by, stops_by}
+use Rattle.golf_model.specs.Collections.{sets_finalisers, real_collect}
+use Rattle.golf_model.specs.Runs.{Event, run, stops, run_by, stops_by}
 use Rattle.golf_model.specs.Futures.{Leads}
-use Rattle.golf_model.specs.Reporting.{book_of, new_book, numbers, report, book_after}
+use Rattle.golf_model.specs.Reports.{book_of, new_book, numbers, report, book_after}
 use Rattle.golf_run_schedules.specs.declared.options.RunOptions.{RunOptions}
 use Rattle.golf_run_schedules.specs.Events.{turns_among}
 use Rattle.golf_run_texts.specs.declared.totals.Totals.{Totals}
 use Rattle.golf_run_texts.specs.Totals.{total_reported, total_reclaimed, totals_of}
 use Rattle.golf_run_texts.specs.Output.{events_of, joined}
 use Rattle.golf_run_texts.specs.Writes.{Write, books, told_lines, writes_from}
-use Rattle.golf_model_futures.specs.Printing.{prefixed}
+use Rattle.golf_model_futures.specs.EarlierOutput.{prefixed}
 use Rattle.golf_run.specs.HasRun.{Sinks}
 use Rattle.golf_run.specs.HasLeft.{HasLeft}
 

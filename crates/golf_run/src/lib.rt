@@ -5,20 +5,20 @@
 //! - `survey`: writes nothing, and returns a summary.
 #![tactic(auto)]
 
-mod coming;
+mod collection_lines;
 mod fault;
-mod keeping;
+mod kept_bytes;
 mod laws;
-mod running;
-mod surveying;
-mod telling;
-mod tracing;
+mod pending_events;
+mod silent_run;
+mod traced_run;
 mod turn_lines;
 mod turns;
+mod written_run;
 
 pub use fault::RunFault;
-pub use keeping::Kept;
+pub use kept_bytes::Kept;
 pub use laws::{faults_leave_prefixes, leaks_are_reported, writes_are_texts};
-pub use running::{last_line, run, status_by};
-pub use surveying::{RunSummary, survey};
-pub use tracing::trace;
+pub use silent_run::{RunSummary, survey};
+pub use traced_run::trace;
+pub use written_run::{last_line, run, status_by};

@@ -5,17 +5,17 @@
 ghost use Rattle.std.specs.Prelude.{◌≡◌, ◌<◌, ◌-◌, ◌≤◌, ◌^◌};
 ghost use Rattle.golf_data.specs.Places.{HasPlaces};
 ghost use Rattle.golf_model.specs.Presence.{IsWhole};
-ghost use Rattle.golf_reclaim.specs.Noting.{AreGone};
+ghost use Rattle.golf_reclaim.specs.RunBook.{AreGone};
 ghost use Rattle.golf_run_schedules.specs.Options.{IsWithinLimits};
-ghost use Rattle.golf_run.specs.Coming.{coming_left};
-ghost use Rattle.golf_run.specs.Advancing.{HasAdvanced};
+ghost use Rattle.golf_run.specs.PendingEvents.{pending_left};
+ghost use Rattle.golf_run.specs.EventBatches.{HasAdvanced};
 ghost use Rattle.golf_run.specs.Told.{HasTold, totals_by};
 ghost use Rattle.golf_run.specs.HasRun.{sinks};
 ghost use Rattle.golf_run.specs.HasGone.{HasGone};
 
-use crate::coming::Coming;
+use crate::collection_lines::{explanation, write_told};
 use crate::fault::RunFault;
-use crate::telling::{explanation, write_told};
+use crate::pending_events::PendingEvents;
 use golf_base::{Gate, OpenGate, Sink, write_all};
 use golf_data::{Code, Ending, Report};
 use golf_machine::{Turned, start, take_turns};
@@ -85,12 +85,12 @@ pub(crate) fn tell<R: Threads + Sync, E: Sink, G: Gate + Sync>(
 fn advance<O: Sink>(
     alloc: Global,
     code: &Code,
-    coming: &mut Coming,
+    coming: &mut PendingEvents,
     state: &mut State,
     out: &mut O,
 ) -> Result<Option<bool>, RunFault>
     requires places { HasPlaces code.now }
-    ensures { HasAdvanced result code.now state.old state.new (coming_left coming.old) (coming_left coming.new) coming.old.events.done coming.new.events.done
+    ensures { HasAdvanced result code.now state.old state.new (pending_left coming.old) (pending_left coming.new) coming.old.events.done coming.new.events.done
         (O.written out.old) (O.written out.new) (O.faults out.old) (O.faults out.new) }
 {
     if state.ending().is_some() {
@@ -137,7 +137,7 @@ pub(crate) fn go_through<R: Threads + Sync, O: Sink, E: Sink, G: Gate + Sync>(
         why: options.why,
     };
     let events = Events::new(options.schedule, options.turns, options.every);
-    let mut coming = Coming::new(events);
+    let mut coming = PendingEvents::new(events);
     let mut state = start(alloc, code)?;
     let mut book = Ledger::new(alloc);
     let mut totals = Totals {

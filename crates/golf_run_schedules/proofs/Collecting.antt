@@ -7,7 +7,7 @@ use Rattle.std.proofs.lemmas.Bool.{eq-eqb, ne_eqb}
 use Rattle.std.proofs.lemmas.List.{take_all}
 use Rattle.std.proofs.lemmas.Nat.{mod-mul-add}
 use Rattle.std.proofs.Math.Nat.{mod-eq_of_lt}
-use Rattle.golf_model.specs.Running.{Event}
+use Rattle.golf_model.specs.Runs.{Event}
 use Rattle.golf_run_schedules.specs.Events.{is_due, collection_if, turns_from}
 use Rattle.golf_run_schedules.specs.Laws.{turns_then_collect, ChoicesThenCollect}
 

@@ -5,10 +5,11 @@ use Rattle.std.proofs.lemmas.Option.{slice_get-get_or, slice_get_past}
 use Rattle.std.specs.List.{HoldsAt}
 use Rattle.std.specs.Option.{option_map}
 use Rattle.std.proofs.Common.{◌≡◌, Bor, length, ℕ, zero, suc, ◌+◌, ◌-◌, ◌<◌, ◌≤◌, Bool, refl, ap, ◌∙◌, sym, List, []}
-use Rattle.std.proofs.Common.{◌∷◌, ◌++◌, Option, Some, None, take, drop, slice_get, MatchOption, arith, subst, false}
-use Rattle.golf_model.specs.Running.{Event}
+use Rattle.std.proofs.Common.{◌∷◌, ◌++◌, Option, Some, None, take, drop, slice_get, MatchOption, arith, subst, true, false}
+use Rattle.golf_model.specs.Runs.{Event}
 use Rattle.golf_run_schedules.specs.declared.schedule.Schedule.{Schedule}
-use Rattle.golf_run_schedules.specs.Events.{numbers_left, turns_from, collection_if, is_due}
+use Rattle.golf_run_schedules.specs.Events.{numbers_left, turns_from, collection_if, is_due, EventsLeft, events_left}
+use Rattle.golf_run_schedules.specs.Events.{has_turn_next}
 
 -- the next of the written numbers
 choice : (cs : List ℕ) (done more : ℕ)
@@ -94,3 +95,24 @@ events_turn {is_next} {due} {c} before after every done turns idle below next is
     ∙ turn_left before after every done turns c below next
     ∙ ap (λ b. Event.Turn c ∷ (collection_if b
     ++ turns_from every ((done + 1) + 1) (numbers_left after (done + 1) (turns - (done + 1))))) (sym is)
+
+-- ---- turns before which nothing else comes
+
+-- no collection comes next, since turns do
+pub none-next : (is_next : Bool) (calm done : ℕ) → done < calm → (is_next ≡ true → calm ≤ done) → is_next ≡ false
+none-next false calm done below h = refl
+none-next true calm done below h = absurd (omega (arith, below, h refl))
+
+-- no turn is left, so no event is
+pub no-events : (every : Option ℕ) (k : ℕ) (cs : List ℕ) → has_turn_next (turns_from every k cs) ≡ false
+    → turns_from every k cs ≡ []
+no-events every k [] h = refl
+no-events every k (c ∷ cs) h = absurd (cc)
+
+pub none-come : (e : EventsLeft) → e.is_collection_next ≡ false → has_turn_next (events_left e) ≡ false
+    → events_left e ≡ []
+none-come e idle h =
+    let k = e.done + 1 in
+    let cs = numbers_left e.schedule e.done (e.turns - e.done) in
+    let same : events_left e ≡ turns_from e.every k cs = ap (λ b. collection_if b ++ turns_from e.every k cs) idle in
+    same ∙ no-events e.every k cs (ap has_turn_next (sym same) ∙ h)

@@ -1,6 +1,6 @@
 -- Worked examples of schedules.
 use Rattle.std.proofs.Common.{◌≡◌, refl, [], ◌∷◌, Some, None}
-use Rattle.golf_model.specs.Running.{Event}
+use Rattle.golf_model.specs.Runs.{Event}
 use Rattle.golf_run_schedules.specs.declared.schedule.Schedule.{Schedule}
 use Rattle.golf_run_schedules.specs.Events.{numbers, events}
 

@@ -1,10 +1,9 @@
 -- The numbers of a schedule, and the events of a run (profile).
 use Rattle.std.specs.Prelude.{ℕ, zero, suc, ◌+◌, ◌-◌, ◌*◌, ◌/◌, ◌%◌, ◌^◌, ◌==◌, ◌&&◌, Bool, true, false, not, List, []}
-use Rattle.std.specs.Prelude.{◌∷◌, ◌++◌, take, drop, Option, Some, None}
-use Rattle.golf_model.specs.Running.{Event}
+use Rattle.std.specs.Prelude.{◌∷◌, ◌++◌, ◌≡◌, ◌<◌, ◌≤◌, take, drop, Option, Some, None}
+use Rattle.golf_model.specs.Runs.{Event}
 use Rattle.golf_run_schedules.specs.declared.schedule.Schedule.{Schedule}
 use Rattle.golf_run_schedules.specs.declared.events.Event.{Event as Given}
-use Rattle.golf_run_schedules.specs.declared.events.Events.{Events}
 
 -- the numbers from k on, as many as the first argument says
 abbrev pub rotation : ℕ → ℕ → List ℕ
@@ -66,6 +65,27 @@ numbers_left Schedule.Rotate done more = rotation more done
 numbers_left (Schedule.Seed x) done more = congruence more x
 numbers_left (Schedule.Choices cs) done more = take more (drop done cs)
 
-abbrev pub events_left : Events → List Event
+-- what is still to come: the schedule after the turns that were given, how many turns there are, how many were given,
+-- after which turns a collection is added, and whether one comes next
+pub record EventsLeft : Type 0 where
+  pub schedule : Schedule
+  pub turns : ℕ
+  pub done : ℕ
+  pub every : Option ℕ
+  pub is_collection_next : Bool
+
+abbrev pub events_left : EventsLeft → List Event
 events_left e = collection_if e.is_collection_next
     ++ turns_from e.every (e.done + 1) (numbers_left e.schedule e.done (e.turns - e.done))
+
+-- whether the next event is a turn
+abbrev pub has_turn_next : List Event → Bool
+has_turn_next [] = false
+has_turn_next (Event.Turn c ∷ es) = true
+has_turn_next (Event.Collect ∷ es) = false
+
+-- up to the turn at this place, no collection comes
+pub record IsCalm (calm turns done : ℕ) (every : Option ℕ) (is_collection_next : Bool) : Type 0 where
+  pub within : calm ≤ turns
+  pub none_due : (k : ℕ) → done < k → k ≤ calm → is_due every k ≡ false
+  pub none_next : is_collection_next ≡ true → calm ≤ done

@@ -1,6 +1,6 @@
 -- The events of written choices with a collection at the end.
 use Rattle.std.specs.Prelude.{◌≡◌, ℕ, ◌<◌, ◌≤◌, List, [], ◌∷◌, ◌++◌, length, map, Some}
-use Rattle.golf_model.specs.Running.{Event}
+use Rattle.golf_model.specs.Runs.{Event}
 use Rattle.golf_run_schedules.specs.declared.schedule.Schedule.{Schedule}
 use Rattle.golf_run_schedules.specs.Events.{events}
 

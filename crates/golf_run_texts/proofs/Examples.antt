@@ -5,11 +5,11 @@ use Rattle.std.specs.Fmt.{digits}
 use Rattle.golf_data.specs.declared.code.Code.{Code}
 use Rattle.golf_data.specs.declared.code.Instr.{Instr}
 use Rattle.golf_data.specs.declared.value.Value.{Value}
-use Rattle.golf_model.specs.Living.{live_list}
-use Rattle.golf_model.specs.Reaching.{reach}
+use Rattle.golf_model.specs.LiveSet.{live_list}
+use Rattle.golf_model.specs.Reach.{reach}
 use Rattle.golf_model.proofs.Examples.Writing.{function, push, new_channel, code_with, lowest, second}
-use Rattle.golf_cert.specs.Computing.{within, least_in_order, level_in, least_before, places_to, reason_to}
-use Rattle.golf_why.specs.Explaining.{certificate_size, reached_in}
+use Rattle.golf_cert.specs.ComputedLevels.{within, least_in_order, level_in, least_before, places_to, reason_to}
+use Rattle.golf_why.specs.Explanations.{certificate_size, reached_in}
 use Rattle.golf_run_schedules.specs.declared.options.RunOptions.{RunOptions}
 use Rattle.golf_run_schedules.specs.declared.schedule.Schedule.{Schedule}
 use Rattle.golf_run_texts.specs.Output.{events_of, last_of, end_of}

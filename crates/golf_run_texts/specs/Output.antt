@@ -6,13 +6,13 @@ use Rattle.golf_data.specs.declared.goroutine.Ending.{Ending}
 use Rattle.golf_data.specs.declared.report.Entry.{Entry}
 use Rattle.golf_data.specs.declared.report.Report.{Report}
 use Rattle.golf_model.specs.State.{State, start, ending}
-use Rattle.golf_model.specs.Collecting.{real_collect, sets_finalisers}
-use Rattle.golf_model.specs.Running.{Event, run, stops, stops_by}
-use Rattle.golf_model.specs.Reporting.{book_of}
+use Rattle.golf_model.specs.Collections.{real_collect, sets_finalisers}
+use Rattle.golf_model.specs.Runs.{Event, run, stops, stops_by}
+use Rattle.golf_model.specs.Reports.{book_of}
 use Rattle.golf_run_schedules.specs.declared.options.RunOptions.{RunOptions}
 use Rattle.golf_run_schedules.specs.Events.{events, turns_among}
 use Rattle.golf_run_texts.specs.declared.status.Status.{Status}
-use Rattle.golf_why.specs.Explaining.{certificate_size, reached_in}
+use Rattle.golf_why.specs.Explanations.{certificate_size, reached_in}
 use Rattle.golf_run_texts.specs.Texts.{report_text, certificate_line, reached_line, last_line}
 
 -- The turns and added collections of a run by these options. It is opaque, and so are the definitions that use it, so

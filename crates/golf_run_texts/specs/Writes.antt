@@ -5,9 +5,9 @@ use Rattle.golf_data.specs.declared.report.Book.{Book}
 use Rattle.golf_data.specs.declared.report.Report.{Report}
 use Rattle.golf_model.specs.State.{State, start}
 use Rattle.golf_model.specs.Turn.{step}
-use Rattle.golf_model.specs.Collecting.{real_collect, sets_finalisers}
-use Rattle.golf_model.specs.Running.{Event, has_ended, happens_by, stop_in}
-use Rattle.golf_model.specs.Reporting.{book_after, new_book, report}
+use Rattle.golf_model.specs.Collections.{real_collect, sets_finalisers}
+use Rattle.golf_model.specs.Runs.{Event, has_ended, happens_by, stop_in}
+use Rattle.golf_model.specs.Reports.{book_after, new_book, report}
 use Rattle.golf_run_schedules.specs.declared.options.RunOptions.{RunOptions}
 use Rattle.golf_run_texts.specs.Texts.{report_lines}
 use Rattle.golf_run_texts.specs.Output.{events_of, why_lines, end_of}

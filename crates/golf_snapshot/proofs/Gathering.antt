@@ -17,7 +17,7 @@ use Rattle.golf_model.specs.Refs.{goroutine_refs, queue_refs, refs_if, refs_wher
 use Rattle.golf_data.specs.declared.goroutine.Queued.{Queued}
 use Rattle.golf_heap.specs.Objects.{rank}
 use Rattle.golf_snapshot.specs.Parts.{ranks, is_awake, awake_refs, sleeper_of}
-use Rattle.golf_snapshot.specs.Stepping.{sleepers_of}
+use Rattle.golf_snapshot.specs.MapEntries.{sleepers_of}
 
 drop-suc : {X : Type 0} (xs : List X) (i : ℕ) (d : X) → i < length xs → drop i xs ≡ get_or xs i d ∷ drop (suc i) xs
 drop-suc [] i d h = absurd (omega arith)
@@ -120,7 +120,7 @@ module _ (objects : List (ℕ × Object)) where
   abbrev pub QueueNodes : List Queued → List ℕ
   QueueNodes qs = ranks objects (queue_refs qs)
 
-  -- those that are live at once, and those that pass a test
+  -- those that are live at once, and those that satisfy a test
   abbrev pub AwakeNodes : List (ℕ × GoroutineView) → List ℕ
   AwakeNodes es = ranks objects (awake_refs es)
 

@@ -12,10 +12,10 @@ use Rattle.golf_theory.proofs.MapEntries.{Every-Entry}
 use Rattle.golf_base.specs.declared.ids.ObjectId.{ObjectId}
 use Rattle.golf_data.specs.declared.value.Object.{Object}
 use Rattle.golf_model.specs.Views.{GoroutineView}
-use Rattle.golf_model.specs.Waiting.{waits_of}
+use Rattle.golf_model.specs.Waiters.{waits_of}
 use Rattle.golf_model.specs.State.{State}
 use Rattle.golf_model.specs.Refs.{object_refs, goroutine_refs, waited, has_finaliser}
-use Rattle.golf_model.specs.Reaching.{sources}
+use Rattle.golf_model.specs.Reach.{sources}
 use Rattle.golf_model.specs.Graph.{AreNodes, NumbersRise, IsInRange}
 use Rattle.golf_model.specs.Presence.{Present, IsWhole}
 use Rattle.golf_model.specs.Futures.{Numbered}

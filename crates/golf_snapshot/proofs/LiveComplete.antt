@@ -1,5 +1,5 @@
 -- What is live is in the least closed set of the live graph.
--- For: `Live`, golf_model/specs/Living.antt; the law `live_graph_law`, src/laws.rt.
+-- For: `Live`, golf_model/specs/LiveSet.antt; the law `live_graph_law`, src/laws.rt.
 -- By: induction over how a node comes to be live: a root, or made live by a live one.
 use Rattle.std.proofs.Common.{◌≡◌, ℕ, ◌+◌, Bool, true, false, ◌||◌, List, length, Some, refl, sym, subst, ◌∙◌}
 use Rattle.std.proofs.Common.{slice_get, ◌==◌}
@@ -13,10 +13,10 @@ use Rattle.golf_theory.proofs.Tests.{is_in-from}
 use Rattle.golf_data.specs.declared.value.Object.{Object}
 use Rattle.golf_model.specs.Views.{GoroutineView}
 use Rattle.golf_model.specs.Values.{refs}
-use Rattle.golf_model.specs.Waiting.{waits_of}
+use Rattle.golf_model.specs.Waiters.{waits_of}
 use Rattle.golf_model.specs.State.{State, is_running}
 use Rattle.golf_model.specs.Refs.{object_refs, goroutine_refs, waited, queue_refs, has_finaliser}
-use Rattle.golf_model.specs.Living.{Node, LiveRoot, LiveStep, Live}
+use Rattle.golf_model.specs.LiveSet.{Node, LiveRoot, LiveStep, Live}
 use Rattle.golf_model.specs.Graph.{Justifies, Least}
 use Rattle.golf_model.specs.Presence.{Present, IsWhole}
 use Rattle.golf_model.specs.Futures.{Numbered}
@@ -51,9 +51,9 @@ module _ (s : State) (n : Numbered s) (w : IsWhole s) where
   from-root o i = Reached-root (λ q. In q (live_parts s).roots) (Justifies (live_parts s)) (rank o s.objects)
       (In-map (λ k. rank k s.objects) o (live_roots s) i)
 
-  asleep : (j g : ℕ) (r : GoroutineView) → slice_get (sleeping s) j ≡ Some (g, r) → Entry s.goroutines g r
+  sleeps : (j g : ℕ) (r : GoroutineView) → slice_get (sleeping s) j ≡ Some (g, r) → Entry s.goroutines g r
       × (is_awake g r ≡ false)
-  asleep j g r f = sleeping-entry s (g, r) (In-slice_get (sleeping s) j (g, r) f)
+  sleeps j g r f = sleeping-entry s (g, r) (In-slice_get (sleeping s) j (g, r) f)
 
   shown-root : (x : Node) → LiveRoot s x → Shown x
   shown-root _ (LiveRoot.Global o i) = λ x e. from-root o (In-left o (refs s.globals) _ i)
@@ -64,12 +64,12 @@ module _ (s : State) (n : Numbered s) (w : IsWhole s) where
       (In-right o (queue_refs s.queue) _ (In-right o (awake_refs s.goroutines) _
       (refs_where-complete (has_finaliser s) s.objects o p y (is_in-from p (keys s.finalisers) f) e i))))
   shown-root _ (LiveRoot.Running g r e t) = λ j q f.
-      let a = asleep j g q f in
+      let a = sleeps j g q f in
       let same = Entry-one s.goroutines g r q n.goroutines_rise e a.0 in
       absurd (both-ways (is_awake g q) (subst (λ (m : GoroutineView). is_awake g m ≡ true) same
       (runs-awake (is_running r.mode) (g == 0) t)) a.1)
   shown-root _ LiveRoot.FinaliserGoroutine =
-      λ j q f. absurd (both-ways (is_awake 0 q) (zero-awake (is_running q.mode)) (asleep j 0 q f).1)
+      λ j q f. absurd (both-ways (is_awake 0 q) (zero-awake (is_running q.mode)) (sleeps j 0 q f).1)
 
   justified : (q p : ℕ) → Least (live_parts s) q → Justifies (live_parts s) q p → Least (live_parts s) p
   justified q p l h = Reached-step (λ k. In k (live_parts s).roots) (Justifies (live_parts s)) q p l h
@@ -96,7 +96,7 @@ module _ (s : State) (n : Numbered s) (w : IsWhole s) where
       (ranked o (object_refs y) i)))
   shown-step _ _ h (LiveStep.InGoroutine g o r e i) = λ x m. by-reference g o r (is_awake g r) refl e i h
   shown-step _ _ h (LiveStep.Awakened o g r e i) = λ j q f.
-      let a = asleep j g q f in
+      let a = sleeps j g q f in
       let same = Entry-one s.goroutines g r q n.goroutines_rise e a.0 in
       let there = Entry-keys s.objects o (Every-at (Present s) (goroutine_refs r) o (w.goroutines g r e)
       (waited-refs s n w r o i)) in

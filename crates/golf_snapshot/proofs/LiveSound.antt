@@ -16,11 +16,11 @@ use Rattle.golf_data.specs.declared.value.Object.{Object}
 use Rattle.golf_data.specs.declared.goroutine.Wait.{Wait}
 use Rattle.golf_model.specs.Views.{GoroutineView}
 use Rattle.golf_model.specs.Values.{value_refs, refs}
-use Rattle.golf_model.specs.Waiting.{waits_of}
+use Rattle.golf_model.specs.Waiters.{waits_of}
 use Rattle.golf_model.specs.State.{State, is_running}
 use Rattle.golf_model.specs.Refs.{object_refs, goroutine_refs, waited, wait_refs, frames_refs, queue_refs}
 use Rattle.golf_model.specs.Refs.{has_finaliser}
-use Rattle.golf_model.specs.Living.{Node, LiveRoot, LiveStep, Live}
+use Rattle.golf_model.specs.LiveSet.{Node, LiveRoot, LiveStep, Live}
 use Rattle.golf_model.specs.Graph.{Justifies, Least, children_of, sleeper_waits, sleeper_references, sleeper_place}
 use Rattle.golf_model.specs.Presence.{Present, IsWhole}
 use Rattle.golf_model.specs.Futures.{Numbered}

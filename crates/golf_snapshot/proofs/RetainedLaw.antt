@@ -11,7 +11,7 @@ use Rattle.golf_model.specs.Values.{refs}
 use Rattle.golf_model.specs.State.{State}
 use Rattle.golf_model.proofs.Agreeing.{refs_where-sound, goroutine_refs_where-sound}
 use Rattle.golf_model.specs.Refs.{object_refs, queue_refs, goroutine_refs_where, has_finaliser}
-use Rattle.golf_model.specs.Reaching.{RefersTo, Reach, sources}
+use Rattle.golf_model.specs.Reach.{RefersTo, Reach, sources}
 use Rattle.golf_model.specs.Graph.{Justifies, Least, children_of}
 use Rattle.golf_model.specs.Presence.{Present, IsWhole}
 use Rattle.golf_model.specs.Futures.{Numbered}

@@ -19,7 +19,7 @@ use Rattle.golf_model.specs.Refs.{object_refs, goroutine_refs, refs_if, refs_whe
 use Rattle.golf_model.specs.declared.graph.GraphParts.{GraphParts}
 use Rattle.golf_model.specs.Sleepers.{Sleeper}
 use Rattle.golf_snapshot.specs.Parts.{ranks, is_awake, sleeping, sleeper_of, row_of, live_parts}
-use Rattle.golf_snapshot.specs.Stepping.{entry_at, sleepers_of, sleeps_at, finalised_rows}
+use Rattle.golf_snapshot.specs.MapEntries.{entry_at, sleepers_of, sleeps_at, finalised_rows}
 use Rattle.golf_snapshot.proofs.Gathering.{TestedNodes, ranks-append, sleepers-append}
 use Rattle.golf_snapshot.proofs.Ranking.{Entry-In, cases_at}
 use Rattle.golf_snapshot.proofs.Stepping.{take-next}

@@ -11,7 +11,7 @@ use Rattle.golf_theory.specs.Membership.{is_in}
 use Rattle.golf_theory.specs.Maps.{find, keys, IsRising}
 use Rattle.golf_theory.proofs.MapFinds.{find-Entry}
 use Rattle.golf_base.specs.declared.ids.GoroutineId.{GoroutineId}
-use Rattle.golf_snapshot.specs.Stepping.{entry_at}
+use Rattle.golf_snapshot.specs.MapEntries.{entry_at}
 use Rattle.golf_snapshot.proofs.Ranking.{Entry-at}
 
 -- ---- by places

@@ -1,3 +1,3 @@
 pub mod Parts
 pub mod Stands
-pub mod Stepping
+pub mod MapEntries

@@ -6,10 +6,10 @@ use Rattle.golf_data.specs.declared.value.Object.{Object}
 use Rattle.golf_heap.specs.Objects.{rank}
 use Rattle.golf_model.specs.Views.{GoroutineView}
 use Rattle.golf_model.specs.Values.{refs}
-use Rattle.golf_model.specs.Waiting.{waits_of}
+use Rattle.golf_model.specs.Waiters.{waits_of}
 use Rattle.golf_model.specs.State.{State, is_running}
 use Rattle.golf_model.specs.Refs.{object_refs, goroutine_refs, waited, queue_refs, refs_if, refs_where, has_finaliser}
-use Rattle.golf_model.specs.Reaching.{sources}
+use Rattle.golf_model.specs.Reach.{sources}
 use Rattle.golf_model.specs.declared.graph.GraphParts.{GraphParts}
 use Rattle.golf_model.specs.Sleepers.{Sleeper}
 

@@ -3,8 +3,8 @@ use Rattle.std.specs.Prelude.{◌≡◌, ℕ, ◌+◌, List, length, Some, slice
 use Rattle.golf_data.specs.declared.value.Object.{Object}
 use Rattle.golf_model.specs.Views.{GoroutineView}
 use Rattle.golf_model.specs.State.{State}
-use Rattle.golf_model.specs.Reaching.{Reach, sources}
-use Rattle.golf_model.specs.Living.{Node, Live}
+use Rattle.golf_model.specs.Reach.{Reach, sources}
+use Rattle.golf_model.specs.LiveSet.{Node, Live}
 use Rattle.golf_model.specs.Graph.{Least}
 use Rattle.golf_model.specs.Presence.{IsWhole}
 use Rattle.golf_model.specs.declared.graph.GraphParts.{GraphParts}

@@ -8,7 +8,7 @@ ghost use Rattle.golf_theory.specs.Maps.{find};
 ghost use Rattle.golf_model.specs.Views.{goroutine_view};
 ghost use Rattle.golf_model.specs.Refs.{queue_refs};
 ghost use Rattle.golf_snapshot.specs.Parts.{ranks, is_awake, awake_refs, sleeping, sleeper_of};
-ghost use Rattle.golf_snapshot.specs.Stepping.{entry_at, sleepers_of};
+ghost use Rattle.golf_snapshot.specs.MapEntries.{entry_at, sleepers_of};
 
 use crate::references::{add_goroutine, add_waited, waits_of};
 use golf_base::{GoroutineId, List, Memory};

@@ -6,7 +6,7 @@ ghost use Rattle.std.specs.Prelude.{◌≡◌, ◌++◌, ◌<◌, IfOk, OnOk, ma
 ghost use Rattle.golf_theory.specs.Maps.{find};
 ghost use Rattle.golf_model.specs.Refs.{object_refs, has_finaliser, refs_where};
 ghost use Rattle.golf_snapshot.specs.Parts.{ranks, number_of, row_of};
-ghost use Rattle.golf_snapshot.specs.Stepping.{entry_at, refs_at};
+ghost use Rattle.golf_snapshot.specs.MapEntries.{entry_at, refs_at};
 
 use crate::references::{add_buffer, add_value, add_values};
 use golf_base::{List, Memory, ObjectId};

@@ -8,7 +8,7 @@ ghost use Rattle.golf_model.specs.Values.{value_refs, refs};
 ghost use Rattle.golf_model.specs.Refs.{deferred_refs, leaving_refs, frame_refs, frames_refs, waited, wait_refs};
 ghost use Rattle.golf_model.specs.Refs.{goroutine_refs};
 ghost use Rattle.golf_model.specs.Views.{frame_view, frame_views, goroutine_view};
-ghost use Rattle.golf_model.specs.Waiting.{waits_of};
+ghost use Rattle.golf_model.specs.Waiters.{waits_of};
 ghost use Rattle.golf_snapshot.specs.Parts.{ranks};
 
 use golf_base::{List, Memory};

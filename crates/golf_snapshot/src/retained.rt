@@ -10,11 +10,11 @@ ghost use Rattle.golf_theory.specs.Membership.{is_in};
 ghost use Rattle.golf_model.specs.Futures.{Numbered};
 ghost use Rattle.golf_model.specs.Graph.{goroutine_at, sleeper_count, sleeper_references};
 ghost use Rattle.golf_model.specs.Presence.{IsWhole};
-ghost use Rattle.golf_model.specs.Reaching.{sources};
+ghost use Rattle.golf_model.specs.Reach.{sources};
 ghost use Rattle.golf_model.specs.Refs.{goroutine_refs_where, refs_if};
 ghost use Rattle.golf_snapshot.specs.Parts.{ranks, live_parts, retained_parts};
 ghost use Rattle.golf_snapshot.specs.Stands.{ReachesAlike};
-ghost use Rattle.golf_snapshot.specs.Stepping.{entry_at, finalised_rows};
+ghost use Rattle.golf_snapshot.specs.MapEntries.{entry_at, finalised_rows};
 
 use crate::among::is_among;
 use crate::goroutines::add_queue;

@@ -1,5 +1,6 @@
 -- The goroutine whose innermost frame is cleared.
--- For: `tidied` (golf_state/specs/Clearing.antt) and `clear_frame` (src/clearing.rt), `clear_slots` (src/state.rt)
+-- For: `tidied` (golf_state/specs/ClearedFrames.antt) and `clear_frame` (src/cleared_slots.rt), `clear_slots`
+-- (src/state.rt)
 -- By: cases of the goroutine's mode and of its frames; no induction
 use Rattle.std.proofs.Common.{◌≡◌, ℕ, true, List, [], ◌∷◌, Option, Some, None, refl, sym, ap, ◌∙◌}
 use Rattle.golf_theory.specs.Maps.{find, Rises}
@@ -12,9 +13,9 @@ use Rattle.golf_data.specs.declared.goroutine.Mode.{Mode}
 use Rattle.golf_model.specs.Views.{FrameView, GoroutineView}
 use Rattle.golf_model.specs.State.{State}
 use Rattle.golf_model.specs.Changes.{become, apply_all}
-use Rattle.golf_model.specs.Waking.{on_top}
-use Rattle.golf_model.specs.Clearing.{mask_at, stays_in, cleared, clears_in, clears}
-use Rattle.golf_state.specs.Clearing.{tidied, tidied_in}
+use Rattle.golf_model.specs.Wakes.{on_top}
+use Rattle.golf_model.specs.ClearedSlots.{mask_at, stays_in, cleared, clears_in, clears}
+use Rattle.golf_state.specs.ClearedFrames.{tidied, tidied_in}
 use Rattle.golf_state.proofs.PlaceLaws.{put-same}
 
 -- it is the change of the definitions

@@ -1,5 +1,5 @@
 -- What derived equality says of queues and finalisers, and the goroutine at a place by its number.
--- For: `same_queues`, `same_pairs` and `same_numbered`, src/comparing.rt
+-- For: `same_queues`, `same_pairs` and `same_numbered`, src/equality.rt
 -- By: no induction
 use Rattle.std.proofs.Common.{◌≡◌, ℕ, ◌<◌, Bool, ◌&&◌, List, map, length, get_or, Some, option_map, sym, ap, ◌∙◌, subst}
 use Rattle.std.proofs.Common.{rules, nat_eq, slice_get}

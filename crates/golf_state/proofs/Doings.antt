@@ -1,5 +1,5 @@
 -- What a goroutine in its turn does, by the changes of the state.
--- For: `does` (golf_state/specs/Doing.antt) and `proceed`, `block_at` (src/outcome.rt)
+-- For: `does` (golf_state/specs/ActorChanges.antt) and `proceed`, `block_at` (src/outcome.rt)
 -- By: induction over the list of changes, and over the entries of the map; otherwise computing
 use Rattle.std.proofs.Common.{◌≡◌, ℕ, suc, true, List, [], ◌∷◌, ◌++◌, Option, Some, refl, sym, ap, ◌∙◌, subst}
 use Rattle.std.specs.Prelude.{drop, IsSome, slice_get}
@@ -9,14 +9,14 @@ use Rattle.golf_theory.specs.Maps.{find, put, Rises, IsRising}
 use Rattle.golf_theory.proofs.MapFinds.{find-put, put-put}
 use Rattle.golf_model.specs.Views.{FrameView, GoroutineView}
 use Rattle.golf_model.specs.State.{State}
-use Rattle.golf_model.specs.Waking.{on_top}
+use Rattle.golf_model.specs.Wakes.{on_top}
 use Rattle.golf_model.specs.Changes.{Change, apply_all, become}
-use Rattle.golf_model.specs.Acting.{Actor, next, stands, standing}
+use Rattle.golf_model.specs.Actors.{Actor, next, stands, standing}
 use Rattle.golf_state.specs.Looked.{on_goroutine, frames_of, frames_in, reframed, runs, is_running_in}
-use Rattle.golf_state.specs.Going.{went, exchanged_in}
+use Rattle.golf_state.specs.FrameChanges.{went, exchanged_in}
 use Rattle.golf_state.proofs.PlaceLaws.{put-same}
 use Rattle.golf_state.specs.Operands.{operands_of, top_operands}
-use Rattle.golf_state.specs.Doing.{does, does_by, Stands}
+use Rattle.golf_state.specs.ActorChanges.{does, does_by, Stands}
 
 Rises-unput : {X : Type 0} (j g : ℕ) (v : X) (es : List (ℕ × X)) → Rises j (put g v es) → Rises j es
 Rises-unput j g v [] r = tt

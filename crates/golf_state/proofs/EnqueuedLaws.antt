@@ -15,9 +15,9 @@ use Rattle.golf_theory.proofs.MapEntries.{Entry-find, Entry-put, Entry-add, Entr
 use Rattle.golf_theory.proofs.MapOrder.{Rises-put, AllBelow-more}
 use Rattle.golf_model.specs.Views.{GoroutineView}
 use Rattle.golf_model.specs.State.{is_running}
-use Rattle.golf_model.specs.Waiting.{Waiter, waiter_of, waits_of, wait_for, same_side, side_number, ticket_of}
+use Rattle.golf_model.specs.Waiters.{Waiter, waiter_of, waits_of, wait_for, same_side, side_number, ticket_of}
 use Rattle.golf_model.specs.Changes.{moved}
-use Rattle.golf_state_queues.specs.WaitQueues.{WaitQueues, key, wait_queue_at, AreBelow, Keeps, StandsInAll}
+use Rattle.golf_state_queues.specs.WaitQueues.{WaitQueues, key, wait_queue_at, TicketsBelow, KeepsWaiters, StandsInAll}
 use Rattle.golf_state.specs.Enqueued.{IsEarly, has_queue, AreEnqueued}
 
 -- ---- one goroutine, before and after
@@ -71,7 +71,7 @@ always-enqueued listed side q = fewer-enqueued listed false side (λ e. absurd (
 
 -- each goroutine stands in its queues, or stays
 pub enqueued : {listed still : Bool} {gs hs : List (ℕ × GoroutineView)} {old new : WaitQueues} {m n : ℕ}
-    → AreEnqueued listed gs old m → (still ≡ true → listed ≡ true) → m ≤ n → AreBelow (n + 1) new
+    → AreEnqueued listed gs old m → (still ≡ true → listed ≡ true) → m ≤ n → TicketsBelow (n + 1) new
     → ((g : ℕ) (r : GoroutineView) → Entry hs g r → Stands still new n g r ⊎ Stays gs old new g r)
     → AreEnqueued still hs new n
 enqueued {listed} {still} {gs} {hs} {old} {new} {m} {n} a more l b each = record {
@@ -89,7 +89,7 @@ enqueued {listed} {still} {gs} {hs} {old} {new} {m} {n} a more l b each = record
   ];
 }
 
-more-below : (m n : ℕ) (ls : WaitQueues) → m ≤ n → AreBelow m ls → AreBelow n ls
+more-below : (m n : ℕ) (ls : WaitQueues) → m ≤ n → TicketsBelow m ls → TicketsBelow n ls
 more-below m n ls l b = λ k. AllBelow-more m n (wait_queue_at k ls) l (b k)
 
 waiting-for : (o : ℕ) (side : Side) (g : ℕ) (r : GoroutineView) (w : Waiter) → waiter_of o side (g, r) ≡ Some w
@@ -133,15 +133,15 @@ put-there g v old gs r rises f i =
 
 -- whoever else has an earlier ticket stands where he stood; g stands in the queue of mutex k, if mutexes have queues
 pub record EntersQueue (still : Bool) (old new : WaitQueues) (m g k : ℕ) : Type 0 where
-  pub below : AreBelow (m + 1) new
+  pub below : TicketsBelow (m + 1) new
   pub kept : (j t h : ℕ) → (h ≡ g → ⊥) → t < m → Entry (wait_queue_at j old) t h → Entry (wait_queue_at j new) t h
   pub there : still ≡ true → Entry (wait_queue_at (key k Side.Lock) new) m g
 
 module _ (listed : Bool) (gs : List (ℕ × GoroutineView)) (old new : WaitQueues) (m : ℕ)
     (a : AreEnqueued listed gs old m) (rises : IsRising gs) where
   -- one goroutine changes, and the others stand where they stood
-  pub enqueued-put : (n g : ℕ) (was v : GoroutineView) → find g gs ≡ Some was → m ≤ n → AreBelow (n + 1) new
-      → Keeps (λ t h. h ≡ g → ⊥) old new → Stands listed new n g v ⊎ Stays gs old new g v
+  pub enqueued-put : (n g : ℕ) (was v : GoroutineView) → find g gs ≡ Some was → m ≤ n → TicketsBelow (n + 1) new
+      → KeepsWaiters (λ t h. h ≡ g → ⊥) old new → Stands listed new n g v ⊎ Stays gs old new g v
       → AreEnqueued listed (put g v gs) new n
   enqueued-put n g was v f l b kept here =
       enqueued a (λ e. e) l b (λ k r i. elim (cases_eq k g) [
@@ -157,7 +157,8 @@ module _ (listed : Bool) (gs : List (ℕ × GoroutineView)) (old new : WaitQueue
 
   -- a goroutine goes on
   pub enqueued-woken : (g : ℕ) (was v : GoroutineView) → find g gs ≡ Some was
-      → ((n : ℕ) → AreBelow n old → AreBelow n new) → Keeps (λ t h. h ≡ g → ⊥) old new → is_running v.mode ≡ true
+      → ((n : ℕ) → TicketsBelow n old → TicketsBelow n new) → KeepsWaiters (λ t h. h ≡ g → ⊥) old new
+      → is_running v.mode ≡ true
       → AreEnqueued listed (put g v gs) new m
   enqueued-woken g was v f b kept h = enqueued-put m g was v f (omega arith) (b (m + 1) a.below) kept
       (inl (runs-stands listed new m g v h))
@@ -237,7 +238,8 @@ module _ (listed : Bool) (gs : List (ℕ × GoroutineView)) (old new : WaitQueue
           ] refl
 
   -- a goroutine is gone
-  pub enqueued-left : (g : ℕ) → ((n : ℕ) → AreBelow n old → AreBelow n new) → Keeps (λ t h. h ≡ g → ⊥) old new
+  pub enqueued-left : (g : ℕ) → ((n : ℕ) → TicketsBelow n old → TicketsBelow n new)
+      → KeepsWaiters (λ t h. h ≡ g → ⊥) old new
       → AreEnqueued listed (only (λ h. not (h == g)) gs) new m
   enqueued-left g b kept =
       enqueued a (λ e. e) (omega arith) (b (m + 1) a.below) (λ k r i.
@@ -291,7 +293,8 @@ in-queue t g o side (v ∷ ws) w ls s h =
 
 -- nobody changes, and whoever has an earlier ticket stands where he stood
 pub enqueued-joined : (listed : Bool) (gs : List (ℕ × GoroutineView)) (old new : WaitQueues) (m : ℕ)
-    → AreEnqueued listed gs old m → AreBelow (m + 1) new → Keeps (λ t h. t < m) old new → AreEnqueued listed gs new m
+    → AreEnqueued listed gs old m → TicketsBelow (m + 1) new → KeepsWaiters (λ t h. t < m) old new
+    → AreEnqueued listed gs new m
 enqueued-joined listed gs old new m a b kept = record {
   below = b;
   early = a.early;
@@ -302,8 +305,8 @@ enqueued-joined listed gs old new m a b kept = record {
 
 -- whoever has an earlier ticket stands where he stood, and g stands in the queues of all its waits
 pub record JoinsAll (old new : WaitQueues) (m g : ℕ) (waits : List Wait) : Type 0 where
-  pub below : AreBelow (m + 1) new
-  pub kept : Keeps (λ t h. t < m) old new
+  pub below : TicketsBelow (m + 1) new
+  pub kept : KeepsWaiters (λ t h. t < m) old new
   pub stands : StandsInAll m g waits new
 
 pub enqueued-blocked : {listed : Bool} {gs : List (ℕ × GoroutineView)} {old : WaitQueues} (new : WaitQueues) (m g : ℕ)

@@ -11,7 +11,7 @@ use Rattle.golf_theory.proofs.MapFinds.{find-Entry, Entry-above}
 use Rattle.golf_theory.proofs.MapEntries.{Entry-find}
 use Rattle.golf_model.specs.Views.{GoroutineView}
 use Rattle.golf_model.specs.Laws.{head, TicketsRise}
-use Rattle.golf_model.specs.Waiting.{Waiter, waiter_ticket, waiter_of, ticket_of, first, waiters}
+use Rattle.golf_model.specs.Waiters.{Waiter, waiter_ticket, waiter_of, ticket_of, first, waiters}
 use Rattle.golf_model.proofs.Firsts.{first-head, waiters-sound, waiters-complete, waiters-rise}
 use Rattle.golf_state.specs.Seen.{waiter_held, waiter_by, or_later, first_held}
 use Rattle.golf_state.specs.Enqueued.{HasWaiters}

@@ -12,8 +12,9 @@ use Rattle.golf_theory.proofs.MapEntries.{In-keys}
 use Rattle.golf_theory.proofs.Tests.{is_in-from}
 use Rattle.golf_heap.specs.Objects.{kept}
 use Rattle.golf_model.specs.Views.{GoroutineView}
-use Rattle.golf_model.specs.Waiting.{ticket_of, waits_of}
-use Rattle.golf_state_queues.specs.WaitQueues.{WaitQueues, listed, key, keys_of, leaves, AreBelow, IsWithout, Keeps}
+use Rattle.golf_model.specs.Waiters.{ticket_of, waits_of}
+use Rattle.golf_state_queues.specs.WaitQueues.{WaitQueues, listed, key, keys_of, leaves, TicketsBelow, IsWithout}
+use Rattle.golf_state_queues.specs.WaitQueues.{KeepsWaiters}
 use Rattle.golf_state_queues.proofs.Partings.{without-none, keeps-without, keeps-others}
 use Rattle.golf_state.specs.Left.{leaves_in, leaves_where}
 use Rattle.golf_state.specs.Enqueued.{AreEnqueued}
@@ -31,7 +32,8 @@ Entry-kept {X} (b ∷ bs) (e ∷ es) k x h =
 -- those who are kept stand in the queue if the others are gone from it
 pub enqueued-kept : (listed : Bool) (flags : List Bool) (es : List (ℕ × GoroutineView)) (old new : WaitQueues)
     (next : ℕ) → AreEnqueued listed es old next
-    → Keeps (λ t h. is_in h (keys (kept flags es)) ≡ true) old new → ((n : ℕ) → AreBelow n old → AreBelow n new)
+    → KeepsWaiters (λ t h. is_in h (keys (kept flags es)) ≡ true) old new
+    → ((n : ℕ) → TicketsBelow n old → TicketsBelow n new)
     → AreEnqueued listed (kept flags es) new next
 enqueued-kept listed flags es old new next a others below = record {
   below = below (next + 1) a.below;
@@ -59,10 +61,10 @@ left-running g m ls e = subst (λ (n : Mode). IsWithout (leaves_in g n) ls ls) (
 -- ---- the others stand where they stood
 
 pub others-stay : (g : ℕ) (m : Mode) (old new : WaitQueues) → IsWithout (leaves_in g m) old new
-    → Keeps (λ t h. h ≡ g → ⊥) old new
+    → KeepsWaiters (λ t h. h ≡ g → ⊥) old new
 others-stay g m old new w = keeps-others (ticket_of m) g (keys_of (waits_of m)) old new w
 
 pub others-stay-where : (g : ℕ) (o : Option GoroutineView) (old new : WaitQueues) → IsWithout (leaves_where g o) old new
-    → Keeps (λ t h. h ≡ g → ⊥) old new
+    → KeepsWaiters (λ t h. h ≡ g → ⊥) old new
 others-stay-where g None old new w = keeps-without (λ t h. h ≡ g → ⊥) (leaves_where g None) old new (λ k t h n. refl) w
 others-stay-where g (Some r) old new w = others-stay g r.mode old new w

@@ -7,10 +7,10 @@ use Rattle.golf_data.specs.declared.value.Object.{Object}
 use Rattle.golf_model.specs.Views.{FrameView, GoroutineView}
 use Rattle.golf_model.specs.State.{State}
 use Rattle.golf_model.specs.Changes.{Change, apply_all}
-use Rattle.golf_model.specs.Acting.{Actor, stands}
+use Rattle.golf_model.specs.Actors.{Actor, stands}
 use Rattle.golf_state.specs.declared.outcome.Outcome.{Outcome}
 use Rattle.golf_theory.specs.Maps.{find}
-use Rattle.golf_state.specs.Doing.{does, does_by, Stands}
+use Rattle.golf_state.specs.ActorChanges.{does, does_by, Stands}
 use Rattle.golf_state.specs.Looked.{frames_of}
 use Rattle.golf_state.specs.Outcomes.{Comes, Leaves, StaysIn, outcome_of, has_block, frame_outcome}
 use Rattle.golf_state.proofs.Doings.{actor_of, frames-is}

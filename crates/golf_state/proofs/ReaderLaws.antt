@@ -12,15 +12,15 @@ use Rattle.golf_data.specs.declared.goroutine.Side.{Side}
 use Rattle.golf_data.specs.declared.goroutine.Wait.{Wait}
 use Rattle.golf_data.specs.declared.goroutine.WaitKind.{WaitKind}
 use Rattle.golf_model.specs.Views.{GoroutineView}
-use Rattle.golf_model.specs.Waiting.{Waiter, waiter_of, waits_of, wait_for, ticket_of}
-use Rattle.golf_model.specs.Waking.{reads_next}
+use Rattle.golf_model.specs.Waiters.{Waiter, waiter_of, waits_of, wait_for, ticket_of}
+use Rattle.golf_model.specs.Wakes.{reads_next}
 use Rattle.golf_model.specs.ReadersWriters.{one_if, readers_next}
 use Rattle.golf_state_queues.specs.declared.holders.TicketHolder.{TicketHolder}
 use Rattle.golf_state.specs.Seen.{waiter_held, waiter_by}
 use Rattle.golf_state.specs.WokenAll.{IsHolderBelow, AreWokenBelow}
 use Rattle.golf_state.specs.Woken.{wakening_of, released_where}
 use Rattle.golf_state.specs.declared.frames.Wakening.{Wakening}
-use Rattle.golf_state.specs.declared.waking.Waking.{Waking}
+use Rattle.golf_state.specs.declared.wake_causes.Waking.{Waking}
 
 -- ---- what is counted of one goroutine
 

@@ -10,9 +10,9 @@ use Rattle.golf_data.specs.declared.goroutine.Mode.{Mode}
 use Rattle.golf_model.specs.Views.{GoroutineView}
 use Rattle.golf_model.specs.State.{is_running}
 use Rattle.golf_state_goroutines.specs.Places.{running_of}
-use Rattle.golf_state.specs.Ready.{IsReady, AllReady}
+use Rattle.golf_state.specs.Ready.{HasRoomToWake, AllReady}
 use Rattle.golf_state.specs.Roominess.{HasRoom, HasRoomIn, IsReadyIn}
-use Rattle.golf_state.specs.Wakening.{wakened}
+use Rattle.golf_state.specs.Wakenings.{wakened}
 use Rattle.golf_state.specs.declared.frames.Wakening.{Wakening}
 use Rattle.golf_state_goroutines.specs.declared.places.NumberedGoroutine.{NumberedGoroutine}
 
@@ -40,18 +40,18 @@ blocked-room Mode.Running fs h r = cc
 blocked-room (Mode.Blocked kind line waits ticket) fs h r = r
 
 pub ready-at : (ps : List NumberedGoroutine) (i : ℕ) (p : NumberedGoroutine) → AllReady ps → slice_get ps i ≡ Some p
-    → IsReady p
+    → HasRoomToWake p
 ready-at [] i p r h = cc
-ready-at (q ∷ ps) zero p r h = let same : q ≡ p = cc in subst IsReady same r.0
+ready-at (q ∷ ps) zero p r h = let same : q ≡ p = cc in subst HasRoomToWake same r.0
 ready-at (q ∷ ps) (suc i) p r h = ready-at ps i p r.1 h
 
-pub ready-set : (ps : List NumberedGoroutine) (i : ℕ) (q : NumberedGoroutine) → AllReady ps → IsReady q
+pub ready-set : (ps : List NumberedGoroutine) (i : ℕ) (q : NumberedGoroutine) → AllReady ps → HasRoomToWake q
     → AllReady (slice_set ps i q)
 ready-set [] i q r h = tt
 ready-set (p ∷ ps) zero q r h = (h, r.1)
 ready-set (p ∷ ps) (suc i) q r h = (r.0, ready-set ps i q r.1 h)
 
-pub ready-push : (ps : List NumberedGoroutine) (q : NumberedGoroutine) → AllReady ps → IsReady q
+pub ready-push : (ps : List NumberedGoroutine) (q : NumberedGoroutine) → AllReady ps → HasRoomToWake q
     → AllReady (ps ++ q ∷ [])
 ready-push [] q r h = (h, tt)
 ready-push (p ∷ ps) q r h = (r.0, ready-push ps q r.1 h)

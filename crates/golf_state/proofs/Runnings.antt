@@ -14,17 +14,17 @@ use Rattle.golf_theory.specs.Maps.{find, put}
 use Rattle.golf_theory.proofs.MapFinds.{cases_find, find-put, find-put_other, find-map_values}
 use Rattle.golf_model.specs.Views.{FrameView, GoroutineView}
 use Rattle.golf_model.specs.State.{State, is_running}
-use Rattle.golf_model.specs.Waiting.{Waiter, waits_of, wait_on, wait_for}
-use Rattle.golf_model.specs.Waking.{Waking, woken_by, closed_on, closed_for, released_by, reads_next, released}
-use Rattle.golf_model.specs.Changes.{apply_all, become, block, move_wait, moved, pass_on, pass_on_at, wake_all}
+use Rattle.golf_model.specs.Waiters.{Waiter, waits_of, wait_on, wait_for}
+use Rattle.golf_model.specs.Wakes.{Waking, woken_by, closed_on, closed_for, released_by, reads_next, released}
+use Rattle.golf_model.specs.Changes.{apply_all, become, block, move_wait, moved, requeue, requeue_at, wake_all}
 use Rattle.golf_model.specs.Mutexes.{hands_over}
 use Rattle.golf_state.specs.declared.frames.Wakening.{Wakening}
 use Rattle.golf_state.specs.declared.waiters.Waiting.{Waiting}
 use Rattle.golf_state.specs.declared.frames.Wakening.TheVariants as k
-use Rattle.golf_state.specs.Wakening.{wakened}
+use Rattle.golf_state.specs.Wakenings.{wakened}
 use Rattle.golf_state.specs.Looked.{on_goroutine, looked_up, reframed, advanced, runs, is_running_in, is_blocked}
 use Rattle.golf_state.specs.Looked.{is_blocked_in}
-use Rattle.golf_state.specs.Handing.{handed_over}
+use Rattle.golf_state.specs.MutexHandover.{handed_over}
 use Rattle.golf_state.proofs.Readiness.{wakened-runs}
 
 pub found-running : (g : ℕ) (s : State) → runs g s ≡ true → (r : GoroutineView) × (find g s.goroutines ≡ Some r)
@@ -127,7 +127,7 @@ runs-moved g x m r s e h =
     ] refl
 
 passed-at : (x : Object) (g h m : ℕ) (r : GoroutineView) (s : State) → find h s.goroutines ≡ Some r → runs g s ≡ true
-    → runs g (pass_on_at x h m r s) ≡ true
+    → runs g (requeue_at x h m r s) ≡ true
 passed-at (Object.Struct fields) g h m r s e k = k
 passed-at (Object.Slice elements) g h m r s e k = k
 passed-at (Object.Chan c) g h m r s e k = k
@@ -138,12 +138,12 @@ passed-at (Object.Rw n) g h m r s e k = k
 passed-at (Object.Cond v) g h m r s e k = k
 
 pub runs-passed : (g h m : ℕ) (s : State) → runs g s ≡ true
-    → runs g (pass_on h m (find h s.goroutines) (find m s.objects) s) ≡ true
+    → runs g (requeue h m (find h s.goroutines) (find m s.objects) s) ≡ true
 runs-passed g h m s k =
     elim (find h s.goroutines) as (λ (o : Option GoroutineView). find h s.goroutines ≡ o
-    → runs g (pass_on h m o (find m s.objects) s) ≡ true) [
+    → runs g (requeue h m o (find m s.objects) s) ≡ true) [
       | None ↦ λ e. k
-      | Some r ↦ λ e. elim (find m s.objects) as (λ (x : Option Object). runs g (pass_on h m (Some r) x s)
+      | Some r ↦ λ e. elim (find m s.objects) as (λ (x : Option Object). runs g (requeue h m (Some r) x s)
           ≡ true) [ None ↦ k | Some x ↦ passed-at x g h m r s e k ]
     ] refl
 

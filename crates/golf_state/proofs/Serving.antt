@@ -1,5 +1,5 @@
 -- A waiter that goes on while the goroutine in its turn does.
--- For: `handed_over` (golf_state/specs/Handing.antt)
+-- For: `handed_over` (golf_state/specs/MutexHandover.antt)
 -- By: induction over the entries of the map for two that are put; otherwise cases of whether there is a waiter
 use Rattle.std.proofs.Common.{◌≡◌, ℕ, true, false, not, List, Option, Some, None, refl, sym, ap}
 use Rattle.std.proofs.Common.{◌∙◌}
@@ -12,18 +12,18 @@ use Rattle.golf_theory.specs.Maps.{find, put}
 use Rattle.golf_theory.proofs.MapFinds.{find-put_other, put-swap}
 use Rattle.golf_model.specs.Views.{GoroutineView}
 use Rattle.golf_model.specs.State.{State, is_running}
-use Rattle.golf_model.specs.Waiting.{Waiter}
+use Rattle.golf_model.specs.Waiters.{Waiter}
 use Rattle.golf_model.specs.Changes.{apply_all, become, block}
-use Rattle.golf_model.specs.Waking.{released}
+use Rattle.golf_model.specs.Wakes.{released}
 use Rattle.golf_model.specs.Mutexes.{hands_over}
 use Rattle.golf_state.specs.declared.waiters.Waiting.{Waiting}
 use Rattle.golf_state.specs.declared.frames.Wakening.{Wakening}
 use Rattle.golf_state.specs.declared.frames.Wakening.TheVariants as k
 use Rattle.golf_state.specs.Waited.{waiting_of}
-use Rattle.golf_state.specs.Wakening.{wakened}
+use Rattle.golf_state.specs.Wakenings.{wakened}
 use Rattle.golf_state.specs.Looked.{on_goroutine, looked_up, is_running_in, is_blocked_in, is_blocked}
-use Rattle.golf_state.specs.Doing.{Stands}
-use Rattle.golf_state.specs.Handing.{IsBlockedIn, is_blocked_where, handed_over}
+use Rattle.golf_state.specs.ActorChanges.{Stands}
+use Rattle.golf_state.specs.MutexHandover.{IsBlockedIn, is_blocked_where, handed_over}
 
 -- the first waiter, from what was told of it
 pub record IsServed (s : State) (m : Option Waiter) (x : Waiting) : Type 0 where

@@ -1,5 +1,5 @@
 -- The innermost frame, and the last operands.
--- For: `frame_views` (golf_model/specs/Views.antt) and `on_top` (golf_model/specs/Waking.antt)
+-- For: `frame_views` (golf_model/specs/Views.antt) and `on_top` (golf_model/specs/Wakes.antt)
 -- By: induction over the list for an item of its first part; otherwise computing with the last frame
 use Rattle.std.proofs.Common.{◌≡◌, ℕ, zero, suc, ◌+◌, ◌-◌, ◌<◌, ◌≤◌, Bool, true, false, not, List, [], ◌∷◌, ◌++◌}
 use Rattle.std.proofs.Common.{length, take, drop, map, Some, refl, sym, ap, ◌∙◌, inl, inr, arith, slice_get, slice_set}
@@ -11,11 +11,11 @@ use Rattle.std.proofs.lemmas.Option.{slice_get_within, get_or_from_slice_get}
 use Rattle.golf_data.specs.declared.goroutine.Frame.{Frame}
 use Rattle.golf_model.specs.Views.{FrameView, frame_view, frame_views}
 use Rattle.golf_model.specs.State.{not_empty}
-use Rattle.golf_model.specs.Waking.{on_top}
+use Rattle.golf_model.specs.Wakes.{on_top}
 use Rattle.golf_model.specs.Calls.{handed_back}
 use Rattle.golf_data.specs.declared.value.Value.{Value}
 use Rattle.golf_model.proofs.ViewForms.{reverse-push, frame_views-push}
-use Rattle.golf_state.specs.Going.{given_back, handed}
+use Rattle.golf_state.specs.FrameChanges.{given_back, handed}
 
 module _ {X : Type 0} where
   -- a list with a last item is the items before it, and it

@@ -1,5 +1,5 @@
 -- The look for the first waiter.
--- For: `first` (golf_model/specs/Waiting.antt) and `wait_for`, `first_waiter` (src/waiters.rt)
+-- For: `first` (golf_model/specs/Waiters.antt) and `wait_for`, `first_waiter` (src/waiters.rt)
 -- By: cases of the next wait or place, for each turn of the loop; no induction
 use Rattle.std.proofs.Common.{◌≡◌, ℕ, ◌+◌, ◌<◌, ◌≤◌, true, false, cond, ◌&&◌, List, [], ◌∷◌, ◌++◌, Option, Some, None}
 use Rattle.std.proofs.Common.{length, drop, get_or, ◌==◌, refl, sym, ap, ◌∙◌, arith, drop_of_length-le, inl}
@@ -15,7 +15,7 @@ use Rattle.golf_model.specs.State.{is_running}
 use Rattle.golf_model.specs.Laws.{head}
 use Rattle.golf_model.proofs.Firsts.{first-head, waiters-sound}
 use Rattle.golf_model.specs.Views.{GoroutineView}
-use Rattle.golf_model.specs.Waiting.{Waiter, same_side, wait_for, waits_of, waiter_of, first, waiters, earlier}
+use Rattle.golf_model.specs.Waiters.{Waiter, same_side, wait_for, waits_of, waiter_of, first, waiters, earlier}
 use Rattle.golf_state_goroutines.specs.Blocks.{places_in}
 use Rattle.golf_state_goroutines.specs.Places.{plain_entry, plain_entries}
 use Rattle.golf_state.specs.Seen.{sooner}

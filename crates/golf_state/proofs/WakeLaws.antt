@@ -14,18 +14,18 @@ use Rattle.golf_data.specs.declared.goroutine.Side.{Side}
 use Rattle.golf_data.specs.declared.goroutine.Wait.{Wait}
 use Rattle.golf_model.specs.Views.{GoroutineView}
 use Rattle.golf_model.specs.State.{State, is_running}
-use Rattle.golf_model.specs.Waiting.{Waiter, waiter_of, waits_of, wait_for, wait_on, same_side, ticket_of}
-use Rattle.golf_model.specs.Waking.{Waking as Woken, is_below, woken_by}
+use Rattle.golf_model.specs.Waiters.{Waiter, waiter_of, waits_of, wait_for, wait_on, same_side, ticket_of}
+use Rattle.golf_model.specs.Wakes.{Waking as Woken, is_below, woken_by}
 use Rattle.golf_model.specs.Changes.{become, wake_all}
 use Rattle.golf_state_queues.specs.WaitQueues.{IsLastBefore}
 use Rattle.golf_state_queues.specs.declared.holders.TicketHolder.{TicketHolder}
 use Rattle.golf_state.specs.Enqueued.{HasWaiters}
 use Rattle.golf_state.specs.Looked.{looked_up, on_goroutine}
-use Rattle.golf_state.specs.Wakening.{wakened}
+use Rattle.golf_state.specs.Wakenings.{wakened}
 use Rattle.golf_state.specs.Woken.{waking_of, wakening_of, wakening_on, wakening_by_close, wakened_by, released_where}
 use Rattle.golf_state.specs.WokenAll.{wakening_in, AreWokenBelow, NobodyWoken, IsHolderBelow, HasWoken}
 use Rattle.golf_state.specs.declared.frames.Wakening.{Wakening}
-use Rattle.golf_state.specs.declared.waking.Waking.{Waking}
+use Rattle.golf_state.specs.declared.wake_causes.Waking.{Waking}
 use Rattle.golf_state.proofs.EnqueuedLaws.{put-there}
 use Rattle.golf_state.proofs.Readiness.{wakened-runs}
 use Rattle.golf_state.proofs.WaiterLaws.{waiter-parts}

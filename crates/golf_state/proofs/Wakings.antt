@@ -1,5 +1,5 @@
 -- How a waiting goroutine is woken, and the list of those that run, place by place.
--- For: `woken_by` (golf_model/specs/Waking.antt) and `wait_on` (src/waking.rt), `list_running` (src/places.rt)
+-- For: `woken_by` (golf_model/specs/Wakes.antt) and `wait_on` (src/wake_causes.rt), `list_running` (src/places.rt)
 -- By: induction over the entries of the map of goroutines; otherwise cases of the mode
 use Rattle.std.proofs.Common.{◌≡◌, ℕ, Bool, true, false, cond, List, Option, Some, None, refl, ap}
 use Rattle.golf_data.specs.declared.value.Value.{Value}
@@ -8,12 +8,12 @@ use Rattle.golf_data.specs.declared.goroutine.Side.{Side}
 use Rattle.golf_data.specs.declared.goroutine.Wait.{Wait}
 use Rattle.golf_data.specs.declared.goroutine.WaitKind.{WaitKind}
 use Rattle.golf_model.specs.Views.{FrameView, GoroutineView}
-use Rattle.golf_model.specs.Waiting.{wait_for, wait_on}
-use Rattle.golf_model.specs.Waking.{received, is_below, resumed, released_by, closed_on, closed_for, woken_by}
+use Rattle.golf_model.specs.Waiters.{wait_for, wait_on}
+use Rattle.golf_model.specs.Wakes.{received, is_below, resumed, released_by, closed_on, closed_for, woken_by}
 use Rattle.golf_state.specs.Looked.{values_of}
 use Rattle.golf_state.specs.Woken.{given_for, waking_of, wakening_by_close, wakening_on, released_where, wakening_of}
 use Rattle.golf_state.specs.Woken.{wakened_by}
-use Rattle.golf_state.specs.declared.waking.Waking.{Waking}
+use Rattle.golf_state.specs.declared.wake_causes.Waking.{Waking}
 
 -- ---- along the waits of a goroutine
 

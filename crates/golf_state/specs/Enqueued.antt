@@ -4,8 +4,8 @@ use Rattle.golf_theory.specs.Maps.{Entry}
 use Rattle.golf_data.specs.declared.goroutine.Mode.{Mode}
 use Rattle.golf_data.specs.declared.goroutine.Side.{Side}
 use Rattle.golf_model.specs.Views.{GoroutineView}
-use Rattle.golf_model.specs.Waiting.{Waiter, waiter_of, ticket_of}
-use Rattle.golf_state_queues.specs.WaitQueues.{WaitQueues, key, wait_queue_at, AreBelow}
+use Rattle.golf_model.specs.Waiters.{Waiter, waiter_of, ticket_of}
+use Rattle.golf_state_queues.specs.WaitQueues.{WaitQueues, key, wait_queue_at, TicketsBelow}
 
 -- all goroutines that wait on the object with that side are in the queue, with their tickets
 abbrev pub HasWaiters : ℕ → Side → List (ℕ × GoroutineView) → List (ℕ × ℕ) → Type 0
@@ -30,7 +30,7 @@ has_queue listed Side.Cond = true
 -- On each side with full queues, every waiter is in its queue. The waiters' tickets are below the next one. Entries of
 -- goroutines that no longer wait there may have the next ticket too.
 pub record AreEnqueued (listed : Bool) (gs : List (ℕ × GoroutineView)) (queues : WaitQueues) (next : ℕ) : Type 0 where
-  pub below : AreBelow (next + 1) queues
+  pub below : TicketsBelow (next + 1) queues
   pub early : (g : ℕ) (r : GoroutineView) → Entry gs g r → IsEarly next r.mode
   pub all : (o : ℕ) (side : Side) → has_queue listed side ≡ true
       → HasWaiters o side gs (wait_queue_at (key o side) queues)

@@ -2,7 +2,7 @@
 use Rattle.std.specs.Prelude.{ℕ, Bool, false, Option, Some, None}
 use Rattle.golf_data.specs.declared.goroutine.Mode.{Mode}
 use Rattle.golf_model.specs.Views.{GoroutineView}
-use Rattle.golf_model.specs.Waiting.{ticket_of, waits_of}
+use Rattle.golf_model.specs.Waiters.{ticket_of, waits_of}
 use Rattle.golf_state_queues.specs.WaitQueues.{keys_of, leaves}
 
 -- whether this entry in the queue of key k is this goroutine, which waits there in this mode

@@ -5,10 +5,10 @@ use Rattle.golf_data.specs.declared.value.Value.{Value}
 use Rattle.golf_data.specs.declared.goroutine.Mode.{Mode}
 use Rattle.golf_model.specs.Views.{FrameView, GoroutineView}
 use Rattle.golf_model.specs.State.{State, is_running}
-use Rattle.golf_model.specs.Waking.{on_top}
+use Rattle.golf_model.specs.Wakes.{on_top}
 use Rattle.golf_model.specs.Changes.{become}
 use Rattle.golf_state.specs.declared.frames.Given.{Given}
-use Rattle.golf_state.specs.Going.{went}
+use Rattle.golf_state.specs.FrameChanges.{went}
 
 -- the change, if the goroutine is there; else no change
 abbrev pub on_goroutine : (GoroutineView → State → State) → Option GoroutineView → State → State

@@ -8,10 +8,10 @@ use Rattle.golf_data.specs.Fatal.{is_fatal}
 use Rattle.golf_model.specs.Views.{FrameView}
 use Rattle.golf_model.specs.State.{State}
 use Rattle.golf_model.specs.Changes.{Change}
-use Rattle.golf_model.specs.Acting.{Actor, panics, dies, choose}
+use Rattle.golf_model.specs.Actors.{Actor, panics, dies, choose}
 use Rattle.golf_state.specs.declared.outcome.Outcome.{Outcome}
 use Rattle.golf_state.specs.Looked.{runs, is_blocked, frames_of}
-use Rattle.golf_state.specs.Doing.{does, does_by, Stands}
+use Rattle.golf_state.specs.ActorChanges.{does, does_by, Stands}
 
 -- a fatal error ends the program at once; a panic unwinds
 abbrev pub faults : Actor → PanicKind → List Change

@@ -4,9 +4,9 @@ use Rattle.golf_state_goroutines.specs.declared.places.NumberedGoroutine.{Number
 use Rattle.golf_state.specs.Roominess.{IsReadyIn}
 
 -- if the goroutine is blocked, its innermost frame has room
-abbrev pub IsReady : NumberedGoroutine → Type 0
-IsReady p = IsReadyIn p.goroutine.mode p.goroutine.frames
+abbrev pub HasRoomToWake : NumberedGoroutine → Type 0
+HasRoomToWake p = IsReadyIn p.goroutine.mode p.goroutine.frames
 
 abbrev pub AllReady : List NumberedGoroutine → Type 0
 AllReady [] = Unit {0}
-AllReady (p ∷ ps) = IsReady p × AllReady ps
+AllReady (p ∷ ps) = HasRoomToWake p × AllReady ps

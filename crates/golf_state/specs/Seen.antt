@@ -3,7 +3,7 @@ use Rattle.std.specs.Prelude.{ℕ, cond, List, [], ◌∷◌, Option, Some, None
 use Rattle.golf_theory.specs.Maps.{find}
 use Rattle.golf_data.specs.declared.goroutine.Side.{Side}
 use Rattle.golf_model.specs.Views.{GoroutineView}
-use Rattle.golf_model.specs.Waiting.{Waiter, waiter_of, ticket_of}
+use Rattle.golf_model.specs.Waiters.{Waiter, waiter_of, ticket_of}
 use Rattle.golf_state.specs.declared.waiters.Waiting.{Waiting}
 
 -- the waiter with the smaller ticket

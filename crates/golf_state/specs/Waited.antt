@@ -1,5 +1,5 @@
 -- A waiter as the state reports it.
-use Rattle.golf_model.specs.Waiting.{Waiter, waiter_ticket}
+use Rattle.golf_model.specs.Waiters.{Waiter, waiter_ticket}
 use Rattle.golf_state.specs.declared.waiters.Waiting.{Waiting}
 
 -- its number, its wait and its ticket

@@ -6,12 +6,12 @@ use Rattle.golf_data.specs.declared.goroutine.PanicKind.{PanicKind}
 use Rattle.golf_data.specs.declared.goroutine.Side.{Side}
 use Rattle.golf_data.specs.declared.goroutine.Wait.{Wait}
 use Rattle.golf_model.specs.Views.{GoroutineView}
-use Rattle.golf_model.specs.Waiting.{wait_for, wait_on}
-use Rattle.golf_model.specs.Waking.{Waking as Woken, fault, is_below}
+use Rattle.golf_model.specs.Waiters.{wait_for, wait_on}
+use Rattle.golf_model.specs.Wakes.{Waking as Woken, fault, is_below}
 use Rattle.golf_state.specs.declared.frames.Given.{Given}
 use Rattle.golf_state.specs.declared.frames.Wakening.{Wakening}
-use Rattle.golf_state.specs.declared.waking.Waking.{Waking}
-use Rattle.golf_state.specs.Wakening.{wakened}
+use Rattle.golf_state.specs.declared.wake_causes.Waking.{Waking}
+use Rattle.golf_state.specs.Wakenings.{wakened}
 
 abbrev pub waking_of : Waking → Woken
 waking_of (Waking.Closing zero) = Woken.Closing zero

@@ -4,12 +4,12 @@ use Rattle.golf_theory.specs.Maps.{Entry}
 use Rattle.golf_data.specs.declared.goroutine.Side.{Side}
 use Rattle.golf_model.specs.Views.{GoroutineView}
 use Rattle.golf_model.specs.State.{State}
-use Rattle.golf_model.specs.Waiting.{Waiter, waiter_of, ticket_of}
+use Rattle.golf_model.specs.Waiters.{Waiter, waiter_of, ticket_of}
 use Rattle.golf_model.specs.Changes.{wake_all}
 use Rattle.golf_state_queues.specs.declared.holders.TicketHolder.{TicketHolder}
 use Rattle.golf_state.specs.Woken.{waking_of, wakening_of}
 use Rattle.golf_state.specs.declared.frames.Wakening.{Wakening}
-use Rattle.golf_state.specs.declared.waking.Waking.{Waking}
+use Rattle.golf_state.specs.declared.wake_causes.Waking.{Waking}
 
 -- how a goroutine goes on, if it is there and is woken
 abbrev pub wakening_in : Option GoroutineView → ℕ → Waking → Option Wakening

@@ -6,8 +6,8 @@
 ghost use Rattle.std.specs.Prelude.{◌≡◌, ◌∷◌, [], OnOk, OnErr};
 ghost use Rattle.golf_model.specs.Views.{frame_view, frame_views};
 ghost use Rattle.golf_model.specs.Changes.{behind_first};
-ghost use Rattle.golf_model.specs.Waking.{unwinding, on_top};
-ghost use Rattle.golf_state.specs.Going.{went, undeferred, returned, given_back, handed};
+ghost use Rattle.golf_model.specs.Wakes.{unwinding, on_top};
+ghost use Rattle.golf_state.specs.FrameChanges.{went, undeferred, returned, given_back, handed};
 
 use crate::frames::{advance_frame, unwind};
 use golf_base::{List, Memory};

@@ -6,11 +6,11 @@
 ghost use Rattle.std.specs.Prelude.{◌≡◌, ◌<◌, ◌≤◌, ◌-◌, ◌++◌, [], length, reverse, OnOk, OnErr, Some, slice_get};
 ghost use Rattle.std.specs.Borrow.{sem};
 ghost use Rattle.golf_model.specs.Views.{frame_view, frame_views, goroutine_view};
-ghost use Rattle.golf_model.specs.Waking.{resumed_frame, unwinding, on_top};
+ghost use Rattle.golf_model.specs.Wakes.{resumed_frame, unwinding, on_top};
 ghost use Rattle.golf_state.specs.Looked.{advanced, values_of};
-ghost use Rattle.golf_state.specs.Going.{went, exchanged, has_returned, has_deferred};
+ghost use Rattle.golf_state.specs.FrameChanges.{went, exchanged, has_returned, has_deferred};
 ghost use Rattle.golf_state.specs.Roominess.{HasRoom};
-ghost use Rattle.golf_state.specs.Wakening.{wakened};
+ghost use Rattle.golf_state.specs.Wakenings.{wakened};
 ghost use Rattle.golf_state.specs.LendingTop.{LendsTop};
 
 use golf_base::{List, Memory, Room};

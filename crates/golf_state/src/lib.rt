@@ -8,10 +8,10 @@
 //! - `advance_with`, `enter`, `return_frame` and their kin: changes of a goroutine's frames.
 #![tactic(auto)]
 
-mod acting;
+mod actor;
 mod calls;
-mod clearing;
-mod comparing;
+mod cleared_slots;
+mod equality;
 mod finaliser_queue;
 mod frames;
 mod operands;
@@ -21,9 +21,9 @@ mod runnable;
 mod state;
 mod waiters;
 mod wake_all;
-mod waking;
+mod wake_causes;
 
-pub use acting::Acting;
+pub use actor::Acting;
 pub use calls::{enter, enter_deferred, return_frame, unwind_caller};
 pub use frames::{Given, Wakening, advance, advance_with, begin_return, defer, exchange, unwind};
 pub use operands::{
@@ -37,4 +37,4 @@ pub use outcome::{
 pub use runnable::Runnable;
 pub use state::State;
 pub use waiters::Waiting;
-pub use waking::{Waking, received};
+pub use wake_causes::{Waking, received};

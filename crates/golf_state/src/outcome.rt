@@ -4,16 +4,16 @@
 //! these.
 
 ghost use Rattle.std.specs.Prelude.{◌≡◌, [], ◌∷◌, IfOk, OnOk, OnErr, IsSome, slice_get, drop, true};
-ghost use Rattle.golf_model.specs.Acting.{stands, blocks};
-ghost use Rattle.golf_model.specs.Waiting.{bare_wait};
+ghost use Rattle.golf_model.specs.Actors.{stands, blocks};
+ghost use Rattle.golf_model.specs.Waiters.{bare_wait};
 ghost use Rattle.golf_model.specs.Structures.{makes};
 ghost use Rattle.golf_state.specs.Operands.{operands_of};
-ghost use Rattle.golf_state.specs.Doing.{does, Stands};
-ghost use Rattle.golf_state.specs.Going.{went};
+ghost use Rattle.golf_state.specs.ActorChanges.{does, Stands};
+ghost use Rattle.golf_state.specs.FrameChanges.{went};
 ghost use Rattle.golf_state.specs.Looked.{values_of, runs, is_blocked};
 ghost use Rattle.golf_state.specs.Outcomes.{faults, carries, StandsToFault};
 
-use crate::acting::Acting;
+use crate::actor::Acting;
 use crate::frames::{Given, advance, advance_with, exchange, unwind};
 use crate::state::State;
 use golf_base::{List, Memory, ObjectId};

@@ -12,25 +12,25 @@ ghost use Rattle.golf_model.specs.Futures.{Numbered};
 ghost use Rattle.golf_model.specs.Presence.{IsWhole};
 ghost use Rattle.golf_model.specs.Views.{frame_view, frame_views, goroutine_view};
 ghost use Rattle.golf_model.specs.State.{runnable, ending, is_running, not_empty};
-ghost use Rattle.golf_model.specs.Waiting.{first};
+ghost use Rattle.golf_model.specs.Waiters.{first};
 ghost use Rattle.golf_model.specs.ReadersWriters.{readers_next};
-ghost use Rattle.golf_model.specs.Clearing.{clears};
+ghost use Rattle.golf_model.specs.ClearedSlots.{clears};
 ghost use Rattle.golf_model.specs.Changes.{apply_all, make, replace, set_global, become, block, spawn, leave, finish};
 ghost use Rattle.golf_model.specs.Changes.{set_finaliser, clear_finaliser, take_queued, output as output_of, wake_all};
-ghost use Rattle.golf_model.specs.Changes.{pass_on, move_wait};
+ghost use Rattle.golf_model.specs.Changes.{requeue, move_wait};
 ghost use Rattle.golf_heap.specs.Objects.{kept};
 ghost use Rattle.golf_state_goroutines.specs.Places.{running_of};
-ghost use Rattle.golf_state.specs.Collecting.{queue_unflagged};
+ghost use Rattle.golf_state.specs.CollectedParts.{queue_unflagged};
 ghost use Rattle.golf_state.specs.Looked.{looked_up, runs, is_blocked, frames_of, reframed, advanced, opening};
-ghost use Rattle.golf_state.specs.Wakening.{wakened};
+ghost use Rattle.golf_state.specs.Wakenings.{wakened};
 ghost use Rattle.golf_state.specs.Enqueued.{has_queue};
 ghost use Rattle.golf_state.specs.Woken.{waking_of};
 ghost use Rattle.golf_state.specs.WokenAll.{wakening_in, AreWokenBelow, IsHolderBelow};
 ghost use Rattle.golf_state.specs.Waited.{waiting_of};
 ghost use Rattle.golf_state.specs.Seen.{waiter_by};
-ghost use Rattle.golf_state.specs.Lending.{LendsFrames, LendsObject};
+ghost use Rattle.golf_state.specs.Loans.{LendsFrames, LendsStateObject};
 
-use crate::clearing::clear_goroutine;
+use crate::cleared_slots::clear_goroutine;
 use crate::finaliser_queue::FinaliserQueue;
 use crate::frames::{Wakening, settle, waken};
 use crate::places::has_no_call;
@@ -40,7 +40,7 @@ use crate::waiters::{
     move_mode, narrow_queues, waiter_by,
 };
 use crate::wake_all::{readers_next, wake_all};
-use crate::waking::{Waking, wakening_of};
+use crate::wake_causes::{Waking, wakening_of};
 use golf_base::{GoroutineId, List, Memory, ObjectId};
 use golf_data::{
     Code, Ending, Frame, Goroutine, Mode, Object, Queued, Side, Value, Wait, WaitKind,
@@ -331,7 +331,7 @@ impl State {
     #[inline(always)]
     pub fn object_mut(&mut self, object: ObjectId) -> &mut Object
         requires { IsSome (find object.0 self.old.objects) }
-        ensures* writes_back { sem 𝓛 (LendsObject self.entry object.0 result) }
+        ensures* writes_back { sem 𝓛 (LendsStateObject self.entry object.0 result) }
         ensures value { find object.0 self.old.objects ≡ Some result.now }
         ensures rises { Rises 1 self.old.objects }
     {
@@ -522,10 +522,10 @@ impl State {
     /// Passes the blocked goroutine on from a condition to its mutex. An unlocked mutex becomes locked, and
     /// the goroutine runs. For a locked mutex the goroutine waits from now on, with the next ticket. It
     /// cannot run out of memory.
-    pub fn pass_on(&mut self, g: GoroutineId, mutex: ObjectId)
+    pub fn requeue(&mut self, g: GoroutineId, mutex: ObjectId)
         requires blocked { is_blocked g.0 self.old ≡ true }
         requires tickets { self.old.next_ticket + 1 < 2 ^ 64 }
-        ensures { self.new ≡ pass_on g.0 mutex.0 (find g.0 self.old.goroutines) (find mutex.0 self.old.objects) self.old }
+        ensures { self.new ≡ requeue g.0 mutex.0 (find g.0 self.old.goroutines) (find mutex.0 self.old.objects) self.old }
     {
         match self.heap.get(mutex) {
             Some(Object::Mutex(false)) => {

@@ -8,13 +8,14 @@ ghost use Rattle.std.specs.Prelude.{option_map};
 ghost use Rattle.golf_data.specs.declared.goroutine.Side.{Side};
 ghost use Rattle.golf_theory.specs.Maps.{Entry, Rises, find, keys};
 ghost use Rattle.golf_theory.specs.Membership.{is_in};
-ghost use Rattle.golf_model.specs.Waiting.{same_side, wait_for, waiter_of, first};
+ghost use Rattle.golf_model.specs.Waiters.{same_side, wait_for, waiter_of, first};
 ghost use Rattle.golf_model.specs.Views.{GoroutineView};
 ghost use Rattle.golf_state_goroutines.specs.Blocks.{places_in};
 ghost use Rattle.golf_model.specs.Changes.{moved, moved_waits};
 ghost use Rattle.golf_state_goroutines.specs.Places.{plain_entry, plain_entries};
-ghost use Rattle.golf_state_queues.specs.WaitQueues.{held, key, wait_queue_at, narrowed, standing, IsWithout, Keeps};
-ghost use Rattle.golf_state_queues.specs.WaitQueues.{AreBelow};
+ghost use Rattle.golf_state_queues.specs.WaitQueues.{held, key, wait_queue_at, narrowed, standing, IsWithout};
+ghost use Rattle.golf_state_queues.specs.WaitQueues.{KeepsWaiters};
+ghost use Rattle.golf_state_queues.specs.WaitQueues.{TicketsBelow};
 ghost use Rattle.golf_state.specs.Seen.{sooner, waiter_by};
 ghost use Rattle.golf_state.specs.Left.{leaves_in, leaves_where};
 ghost use Rattle.golf_state.specs.Enqueued.{HasWaiters, has_queue};
@@ -34,7 +35,7 @@ pub struct Waiting {
 }
 
 /// Returns whether the wait queue has all goroutines that wait on that side. For mutexes this holds until
-/// memory runs out for a place in a queue. That can happen in `pass_on`, which makes a goroutine wait for a
+/// memory runs out for a place in a queue. That can happen in `requeue`, which makes a goroutine wait for a
 /// mutex without its own turn.
 #[inline(always)]
 pub fn has_queue(are_mutexes_enqueued: bool, side: Side) -> bool
@@ -172,8 +173,8 @@ pub fn forget(queues: &mut Queues, roster: &Roster, g: GoroutineId)
 pub fn narrow_queues(queues: &mut Queues, roster: &Roster, were: usize)
     ensures fewer { length roster.now.places < were → queues.new ≡ standing (narrowed (keys (plain_entries roster.now.places)) queues.old) }
     ensures as_many { were ≤ length roster.now.places → queues.new ≡ standing queues.old }
-    ensures kept { Keeps (λ t g. is_in g (keys (plain_entries roster.now.places)) ≡ true) queues.old queues.new }
-    ensures below { (n : ℕ) → AreBelow n queues.old → AreBelow n queues.new }
+    ensures kept { KeepsWaiters (λ t g. is_in g (keys (plain_entries roster.now.places)) ≡ true) queues.old queues.new }
+    ensures below { (n : ℕ) → TicketsBelow n queues.old → TicketsBelow n queues.new }
 {
     if roster.count() < were {
         queues.retain(roster);
@@ -222,11 +223,11 @@ pub fn enter_for_mutex(
     ticket: u64,
     g: GoroutineId,
 ) -> bool
-    requires { AreBelow (ticket + 1) queues.old }
+    requires { TicketsBelow (ticket + 1) queues.old }
     ensures still { result ≡ true → are_mutexes_enqueued ≡ true }
     ensures joins { result ≡ true → Entry (wait_queue_at (key mutex.0 Side.Lock) queues.new) ticket g.0 }
-    ensures kept { Keeps (λ t h. t < ticket) queues.old queues.new }
-    ensures below { AreBelow (ticket + 1) queues.new }
+    ensures kept { KeepsWaiters (λ t h. t < ticket) queues.old queues.new }
+    ensures below { TicketsBelow (ticket + 1) queues.new }
 {
     match queues.enter(mutex, Side::Lock, ticket, g) {
         Ok(()) => are_mutexes_enqueued,

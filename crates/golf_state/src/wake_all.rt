@@ -11,7 +11,7 @@ ghost use Rattle.golf_state.specs.Woken.{waking_of};
 ghost use Rattle.golf_state.specs.WokenAll.{HasWoken, NobodyWoken};
 
 use crate::state::State;
-use crate::waking::Waking;
+use crate::wake_causes::Waking;
 use golf_base::ObjectId;
 use golf_data::Side;
 

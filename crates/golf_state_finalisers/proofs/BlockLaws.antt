@@ -1,5 +1,5 @@
 -- Blocks in order, and what they are after a change of one.
--- For: `AreBlocks`, `AreFilled` (golf_state_finalisers/specs/Blocks.antt)
+-- For: `AreFinaliserBlocks`, `AreFilled` (golf_state_finalisers/specs/Blocks.antt)
 -- By: induction over the list of blocks
 use Rattle.std.proofs.Common.{◌≡◌, ℕ, zero, suc, ◌^◌, ◌<◌, ◌≤◌, true, false, cond, List, [], ◌∷◌, ◌++◌, length, filter}
 use Rattle.std.proofs.Common.{take, drop, Some, refl, sym, ap, ◌∙◌, subst, arith, append_assoc, slice_get, slice_set}
@@ -8,33 +8,34 @@ use Rattle.golf_theory.specs.Maps.{Rises, AllBelow}
 use Rattle.golf_theory.proofs.MapOrder.{Rises-less, AllBelow-more}
 use Rattle.golf_heap.proofs.Ranks.{few}
 use Rattle.golf_model.specs.State.{not_empty}
-use Rattle.golf_state_finalisers.specs.Blocks.{pairs_in, IsBlock, AreBlocks, is_filled, AreFilled, keyed_blocks}
+use Rattle.golf_state_finalisers.specs.Blocks.{pairs_in, IsFinaliserBlock, AreFinaliserBlocks, is_filled, AreFilled}
+use Rattle.golf_state_finalisers.specs.Blocks.{keyed_blocks}
 use Rattle.golf_state_finalisers.specs.declared.blocks.Block.{Block}
 use Rattle.golf_state_finalisers.proofs.Parts.{rises-append, below-append}
 
-pub rises-in : (lo : ℕ) (bs : List Block) → AreBlocks lo bs → Rises lo (pairs_in bs)
+pub rises-in : (lo : ℕ) (bs : List Block) → AreFinaliserBlocks lo bs → Rises lo (pairs_in bs)
 rises-in lo [] a = tt
 rises-in lo (b ∷ bs) a = rises-append lo (suc b.top) b.pairs.items (pairs_in bs)
     (omega (arith, a.0.order)) a.0.rises a.0.below (rises-in (suc b.top) bs a.1)
 
-pub tops-below : (g lo : ℕ) (bs : List Block) → AreBlocks lo bs → AllBelow g (keyed_blocks bs)
+pub tops-below : (g lo : ℕ) (bs : List Block) → AreFinaliserBlocks lo bs → AllBelow g (keyed_blocks bs)
     → AllBelow g (pairs_in bs)
 tops-below g lo [] a l = tt
 tops-below g lo (b ∷ bs) a l = below-append g b.pairs.items (pairs_in bs)
     (AllBelow-more (suc b.top) g b.pairs.items (omega (arith, l.0)) a.0.below) (tops-below g (suc b.top) bs a.1 l.1)
 
-limited : (lo : ℕ) (bs : List Block) → AreBlocks lo bs → AllBelow (2 ^ 32) (keyed_blocks bs)
+limited : (lo : ℕ) (bs : List Block) → AreFinaliserBlocks lo bs → AllBelow (2 ^ 32) (keyed_blocks bs)
 limited lo [] a = tt
 limited lo (b ∷ bs) a = (a.0.limit, limited (suc b.top) bs a.1)
 
 -- there are fewer of them than numbers of 32 bits
-pub few-pairs : (bs : List Block) → AreBlocks 0 bs → length (pairs_in bs) ≤ 2 ^ 32
+pub few-pairs : (bs : List Block) → AreFinaliserBlocks 0 bs → length (pairs_in bs) ≤ 2 ^ 32
 few-pairs bs a =
     let n = few 0 (2 ^ 32) (pairs_in bs) (omega arith) (rises-in 0 bs a)
     (tops-below (2 ^ 32) 0 bs a (limited 0 bs a)) in
     omega (arith, n)
 
-pub blocks-rise : (lo : ℕ) (bs : List Block) → AreBlocks lo bs → Rises lo (keyed_blocks bs)
+pub blocks-rise : (lo : ℕ) (bs : List Block) → AreFinaliserBlocks lo bs → Rises lo (keyed_blocks bs)
 blocks-rise lo [] a = tt
 blocks-rise lo (b ∷ bs) a = (a.0.order, blocks-rise (suc b.top) bs a.1)
 
@@ -42,28 +43,30 @@ blocks-rise lo (b ∷ bs) a = (a.0.order, blocks-rise (suc b.top) bs a.1)
 pub record Standing (lo : ℕ) (b : Block) : Type 0 where
   pub least : ℕ
   pub bound : lo ≤ least
-  pub is : IsBlock least b
+  pub is : IsFinaliserBlock least b
 
-pub block-at : (lo i : ℕ) (bs : List Block) (b : Block) → AreBlocks lo bs → slice_get bs i ≡ Some b → Standing lo b
+pub block-at : (lo i : ℕ) (bs : List Block) (b : Block) → AreFinaliserBlocks lo bs → slice_get bs i ≡ Some b
+    → Standing lo b
 block-at lo i [] b a h = absurd (cc)
 block-at lo zero (x ∷ bs) b a h = let same : x ≡ b =
-    cc in record { least = lo; bound = omega arith; is = subst (IsBlock lo) same a.0 }
+    cc in record { least = lo; bound = omega arith; is = subst (IsFinaliserBlock lo) same a.0 }
 block-at lo (suc i) (x ∷ bs) b a h =
     let rest = block-at (suc x.top) i bs b a.1 h in
     record { least = rest.least; bound = omega (arith, rest.bound, a.0.order); is = rest.is }
 
-pub blocks-take : (lo i : ℕ) (bs : List Block) → AreBlocks lo bs → AreBlocks lo (take i bs)
+pub blocks-take : (lo i : ℕ) (bs : List Block) → AreFinaliserBlocks lo bs → AreFinaliserBlocks lo (take i bs)
 blocks-take lo zero bs a = tt
 blocks-take lo (suc i) [] a = tt
 blocks-take lo (suc i) (b ∷ bs) a = (a.0, blocks-take (suc b.top) i bs a.1)
 
-pub blocks-drop : (lo i : ℕ) (bs : List Block) (b : Block) → AreBlocks lo bs → slice_get bs i ≡ Some b
-    → AreBlocks (suc b.top) (drop (suc i) bs)
+pub blocks-drop : (lo i : ℕ) (bs : List Block) (b : Block) → AreFinaliserBlocks lo bs → slice_get bs i ≡ Some b
+    → AreFinaliserBlocks (suc b.top) (drop (suc i) bs)
 blocks-drop lo i [] b a h = absurd (cc)
-blocks-drop lo zero (x ∷ bs) b a h = let same : x ≡ b = cc in subst (λ (w : Block). AreBlocks (suc w.top) bs) same a.1
+blocks-drop lo zero (x ∷ bs) b a h = let same : x ≡ b =
+    cc in subst (λ (w : Block). AreFinaliserBlocks (suc w.top) bs) same a.1
 blocks-drop lo (suc i) (x ∷ bs) b a h = blocks-drop (suc x.top) i bs b a.1 h
 
-block-less : (j k : ℕ) (b : Block) → j ≤ k → IsBlock k b → IsBlock j b
+block-less : (j k : ℕ) (b : Block) → j ≤ k → IsFinaliserBlock k b → IsFinaliserBlock j b
 block-less j k b l is = record {
   order = omega (arith, l, is.order);
   limit = is.limit;
@@ -72,57 +75,60 @@ block-less j k b l is = record {
   few = is.few;
 }
 
-blocks-less : (j k : ℕ) (bs : List Block) → j ≤ k → AreBlocks k bs → AreBlocks j bs
+blocks-less : (j k : ℕ) (bs : List Block) → j ≤ k → AreFinaliserBlocks k bs → AreFinaliserBlocks j bs
 blocks-less j k [] l a = tt
 blocks-less j k (b ∷ bs) l a = (block-less j k b l a.0, a.1)
 
 -- ---- another block in its place
 
-pub blocks-set : (lo i : ℕ) (bs : List Block) (b c : Block) → AreBlocks lo bs → slice_get bs i ≡ Some b
-    → ((l : ℕ) → IsBlock l b → IsBlock l c) → c.top ≡ b.top → AreBlocks lo (slice_set bs i c)
+pub blocks-set : (lo i : ℕ) (bs : List Block) (b c : Block) → AreFinaliserBlocks lo bs → slice_get bs i ≡ Some b
+    → ((l : ℕ) → IsFinaliserBlock l b → IsFinaliserBlock l c) → c.top ≡ b.top → AreFinaliserBlocks lo (slice_set bs i c)
 blocks-set lo i [] b c a h is e = absurd (cc)
 blocks-set lo zero (x ∷ bs) b c a h is e =
     let same : x ≡ b = cc in
     let n : c.top ≡ x.top = e ∙ ap (λ (w : Block). w.top) (sym same) in
-    (is lo (subst (IsBlock lo) same a.0), subst (λ (n : ℕ). AreBlocks (suc n) bs) (sym n) a.1)
+    (is lo (subst (IsFinaliserBlock lo) same a.0), subst (λ (n : ℕ). AreFinaliserBlocks (suc n) bs) (sym n) a.1)
 blocks-set lo (suc i) (x ∷ bs) b c a h is e = (a.0, blocks-set (suc x.top) i bs b c a.1 h is e)
 
 -- which has one number more, above the tops before
-pub blocks-put : (lo i g : ℕ) (bs : List Block) (b c : Block) → AreBlocks lo bs → lo ≤ g
-    → AllBelow g (keyed_blocks (take i bs)) → slice_get bs i ≡ Some b → ((l : ℕ) → l ≤ g → IsBlock l b → IsBlock l c)
-    → c.top ≡ b.top → AreBlocks lo (slice_set bs i c)
+pub blocks-put : (lo i g : ℕ) (bs : List Block) (b c : Block) → AreFinaliserBlocks lo bs → lo ≤ g
+    → AllBelow g (keyed_blocks (take i bs)) → slice_get bs i ≡ Some b
+    → ((l : ℕ) → l ≤ g → IsFinaliserBlock l b → IsFinaliserBlock l c)
+    → c.top ≡ b.top → AreFinaliserBlocks lo (slice_set bs i c)
 blocks-put lo i g [] b c a l u h is e = absurd (cc)
 blocks-put lo zero g (x ∷ bs) b c a l u h is e =
     let same : x ≡ b = cc in
     let n : c.top ≡ x.top = e ∙ ap (λ (w : Block). w.top) (sym same) in
-    (is lo l (subst (IsBlock lo) same a.0), subst (λ (n : ℕ). AreBlocks (suc n) bs) (sym n) a.1)
+    (is lo l (subst (IsFinaliserBlock lo) same a.0), subst (λ (n : ℕ). AreFinaliserBlocks (suc n) bs) (sym n) a.1)
 blocks-put lo (suc i) g (x ∷ bs) b c a l u h is e =
     (a.0, blocks-put (suc x.top) i g bs b c a.1 (omega (arith, u.0)) u.1 h is e)
 
 -- the last block may get a greater top
-pub blocks-end : (lo i : ℕ) (bs : List Block) (b c : Block) → AreBlocks lo bs → suc i ≡ length bs
-    → slice_get bs i ≡ Some b → ((l : ℕ) → IsBlock l b → IsBlock l c) → AreBlocks lo (slice_set bs i c)
+pub blocks-end : (lo i : ℕ) (bs : List Block) (b c : Block) → AreFinaliserBlocks lo bs → suc i ≡ length bs
+    → slice_get bs i ≡ Some b → ((l : ℕ) → IsFinaliserBlock l b → IsFinaliserBlock l c)
+    → AreFinaliserBlocks lo (slice_set bs i c)
 blocks-end lo i [] b c a n h is = absurd (cc)
-blocks-end lo zero (x ∷ []) b c a n h is = let same : x ≡ b = cc in (is lo (subst (IsBlock lo) same a.0), tt)
+blocks-end lo zero (x ∷ []) b c a n h is = let same : x ≡ b = cc in (is lo (subst (IsFinaliserBlock lo) same a.0), tt)
 blocks-end lo zero (x ∷ y ∷ bs) b c a n h is = absurd (omega (arith, n))
 blocks-end lo (suc i) (x ∷ bs) b c a n h is = (a.0, blocks-end (suc x.top) i bs b c a.1 (omega (arith, n)) h is)
 
-pub blocks-push : (lo : ℕ) (bs : List Block) (c : Block) → AreBlocks lo bs → AllBelow c.top (keyed_blocks bs)
-    → lo ≤ c.top → ((l : ℕ) → l ≤ c.top → IsBlock l c) → AreBlocks lo (bs ++ c ∷ [])
+pub blocks-push : (lo : ℕ) (bs : List Block) (c : Block) → AreFinaliserBlocks lo bs → AllBelow c.top (keyed_blocks bs)
+    → lo ≤ c.top → ((l : ℕ) → l ≤ c.top → IsFinaliserBlock l c) → AreFinaliserBlocks lo (bs ++ c ∷ [])
 blocks-push lo [] c a l h is = (is lo h, tt)
 blocks-push lo (b ∷ bs) c a l h is = (a.0, blocks-push (suc b.top) bs c a.1 l.1 (omega (arith, l.0)) is)
 
 -- ---- a block less
 
-pub blocks-remove : (lo i : ℕ) (bs : List Block) → AreBlocks lo bs → AreBlocks lo (take i bs ++ drop (suc i) bs)
+pub blocks-remove : (lo i : ℕ) (bs : List Block) → AreFinaliserBlocks lo bs
+    → AreFinaliserBlocks lo (take i bs ++ drop (suc i) bs)
 blocks-remove lo zero [] a = tt
 blocks-remove lo zero (b ∷ bs) a = blocks-less lo (suc b.top) bs (omega (arith, a.0.order)) a.1
 blocks-remove lo (suc i) [] a = tt
 blocks-remove lo (suc i) (b ∷ bs) a = (a.0, blocks-remove (suc b.top) i bs a.1)
 
-pub blocks-filled : (lo : ℕ) (bs : List Block) → AreBlocks lo bs → AreBlocks lo (filter is_filled bs)
+pub blocks-filled : (lo : ℕ) (bs : List Block) → AreFinaliserBlocks lo bs → AreFinaliserBlocks lo (filter is_filled bs)
 blocks-filled lo [] a = tt
-blocks-filled lo (b ∷ bs) a = elim (is_filled b) as (λ t. AreBlocks lo
+blocks-filled lo (b ∷ bs) a = elim (is_filled b) as (λ t. AreFinaliserBlocks lo
     (cond t (b ∷ filter is_filled bs) (filter is_filled bs))) [
       | true ↦ (a.0, blocks-filled (suc b.top) bs a.1)
       | false ↦ blocks-less lo (suc b.top) (filter is_filled bs) (omega (arith, a.0.order))

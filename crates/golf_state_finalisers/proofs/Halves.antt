@@ -1,5 +1,5 @@
 -- A block that is split in halves.
--- For: `split` (src/splitting.rt)
+-- For: `split` (src/full_blocks.rt)
 -- By: induction over the list of blocks
 use Rattle.std.proofs.Common.{◌≡◌, ℕ, zero, suc, ◌+◌, ◌-◌, ◌<◌, ◌≤◌, Bool, true, false, cond, List, [], ◌∷◌, ◌++◌}
 use Rattle.std.proofs.Common.{length, take, drop, Option, Some, None, nat_lt, refl, sym, ap, ◌∙◌, subst, arith}
@@ -10,7 +10,8 @@ use Rattle.std.proofs.lemmas.List.{length-take-le, length-drop, take-append-drop
 use Rattle.golf_theory.specs.Maps.{Rises}
 use Rattle.golf_heap.specs.Objects.{rank}
 use Rattle.golf_state_goroutines.proofs.Gathers.{gather-append, gather-split}
-use Rattle.golf_state_finalisers.specs.Blocks.{pairs_in, IsBlock, AreBlocks, is_filled, AreFilled, keyed_blocks}
+use Rattle.golf_state_finalisers.specs.Blocks.{pairs_in, IsFinaliserBlock, AreFinaliserBlocks, is_filled, AreFilled}
+use Rattle.golf_state_finalisers.specs.Blocks.{keyed_blocks}
 use Rattle.golf_state_finalisers.specs.Blocks.{has_room}
 use Rattle.golf_state_finalisers.specs.declared.blocks.Block.{Block}
 use Rattle.golf_state_finalisers.proofs.Parts.{Cut, cut-at, rises-take, below-drop, some-between}
@@ -24,8 +25,8 @@ pub record AreHalves (i : ℕ) (bs : List Block) (b f k : Block) : Type 0 where
   pub here : slice_get bs i ≡ Some b
   pub top : k.top ≡ b.top
   pub pairs : f.pairs.items ++ k.pairs.items ≡ b.pairs.items
-  pub front : (l : ℕ) → IsBlock l b → IsBlock l f
-  pub back : (l : ℕ) → IsBlock l b → IsBlock (suc f.top) k
+  pub front : (l : ℕ) → IsFinaliserBlock l b → IsFinaliserBlock l f
+  pub back : (l : ℕ) → IsFinaliserBlock l b → IsFinaliserBlock (suc f.top) k
   pub front_filled : is_filled f ≡ true
   pub back_filled : is_filled k ≡ true
   pub front_room : has_room (Some f) ≡ true
@@ -74,7 +75,7 @@ halves n i bs b f k h less count front last back top =
     }
 
 -- a full block has as many as a block may have
-pub full-count : (l i : ℕ) (bs : List Block) (b : Block) → IsBlock l b → slice_get bs i ≡ Some b
+pub full-count : (l i : ℕ) (bs : List Block) (b : Block) → IsFinaliserBlock l b → slice_get bs i ≡ Some b
     → has_room (slice_get bs i) ≡ false → length b.pairs.items ≡ 512
 full-count l i bs b is h full =
     let many = ltb-false (length b.pairs.items) 512 (ap has_room (sym h) ∙ full) in
@@ -91,18 +92,18 @@ halves-form i [] f k l = absurd (omega (arith, l))
 halves-form zero (x ∷ bs) f k l = refl
 halves-form (suc i) (x ∷ bs) f k l = ap (λ (cs : List Block). x ∷ cs) (halves-form i bs f k (omega (arith, l)))
 
-pub halves-blocks : (lo i : ℕ) (bs : List Block) (b f k : Block) → AreBlocks lo bs → AreHalves i bs b f k
-    → AreBlocks lo (with-halves i bs f k)
+pub halves-blocks : (lo i : ℕ) (bs : List Block) (b f k : Block) → AreFinaliserBlocks lo bs → AreHalves i bs b f k
+    → AreFinaliserBlocks lo (with-halves i bs f k)
 halves-blocks lo i bs b f k a s = blocks lo i bs a s.here
   where
-    blocks : (lo i : ℕ) (bs : List Block) → AreBlocks lo bs → slice_get bs i ≡ Some b
-        → AreBlocks lo (with-halves i bs f k)
+    blocks : (lo i : ℕ) (bs : List Block) → AreFinaliserBlocks lo bs → slice_get bs i ≡ Some b
+        → AreFinaliserBlocks lo (with-halves i bs f k)
     blocks lo i [] a h = absurd (cc)
     blocks lo zero (x ∷ bs) a h =
         let same : x ≡ b = cc in
-        let is : IsBlock lo b = subst (IsBlock lo) same a.0 in
+        let is : IsFinaliserBlock lo b = subst (IsFinaliserBlock lo) same a.0 in
         let top : x.top ≡ k.top = ap (λ (w : Block). w.top) same ∙ sym s.top in
-        (s.front lo is, (s.back lo is, subst (λ (n : ℕ). AreBlocks (suc n) bs) top a.1))
+        (s.front lo is, (s.back lo is, subst (λ (n : ℕ). AreFinaliserBlocks (suc n) bs) top a.1))
     blocks lo (suc i) (x ∷ bs) a h = (a.0, blocks (suc x.top) i bs a.1 h)
 
 pub halves-filled : (i : ℕ) (bs : List Block) (b f k : Block) → AreFilled bs → AreHalves i bs b f k

@@ -1,5 +1,5 @@
 -- The block of a number, and the blocks before and behind it.
--- For: `block_of` (src/blocks.rt), `put_in` (src/adding.rt), `take_from` (src/taking.rt), `function_of`
+-- For: `block_of` (src/blocks.rt), `put_in` (src/insertions.rt), `take_from` (src/removals.rt), `function_of`
 -- (src/finalisers.rt)
 -- By: the laws of three parts (proofs/Parts.antt)
 use Rattle.std.proofs.Common.{◌≡◌, ℕ, suc, ◌^◌, ◌<◌, ◌≤◌, Bool, true, false, cond, not, List, [], ◌∷◌, ◌++◌, length}
@@ -18,7 +18,7 @@ use Rattle.golf_state_goroutines.proofs.BlockLaws.{below-under}
 use Rattle.golf_state_goroutines.proofs.PlaceLaws.{rank-least}
 use Rattle.golf_state_goroutines.proofs.Gathers.{gather-split, gather-set}
 use Rattle.golf_state_goroutines.proofs.Middles.{find-middle}
-use Rattle.golf_state_finalisers.specs.Blocks.{pairs_in, IsBlock, AreBlocks, keyed_blocks, has_room}
+use Rattle.golf_state_finalisers.specs.Blocks.{pairs_in, IsFinaliserBlock, AreFinaliserBlocks, keyed_blocks, has_room}
 use Rattle.golf_state_finalisers.specs.declared.blocks.Block.{Block}
 use Rattle.golf_state_finalisers.proofs.Parts.{insert-middle, insert-length, only-middle, only-length, kept-length}
 use Rattle.golf_state_finalisers.proofs.BlockLaws.{tops-below, rises-in, block-at, blocks-take, blocks-drop}
@@ -54,7 +54,7 @@ top-least bs i g b e h =
     ∙ ap (λ (o : Option Block). option_map (λ (b : Block). (b.top, b)) o) h in
     rank-least g (keyed_blocks bs) (b.top, b) at
 
-pub sides : (bs : List Block) (i g : ℕ) (b : Block) → AreBlocks 0 bs → i ≡ rank g (keyed_blocks bs)
+pub sides : (bs : List Block) (i g : ℕ) (b : Block) → AreFinaliserBlocks 0 bs → i ≡ rank g (keyed_blocks bs)
     → slice_get bs i ≡ Some b → Sides bs i g b
 sides bs i g b a e h =
     let standing = block-at 0 i bs b a h in
@@ -107,7 +107,7 @@ module _ (bs : List Block) (i g : ℕ) (b : Block) (s : Sides bs i g b) where
 -- ---- a block after a change
 
 pub block-from : (l t : ℕ) (es : List (ℕ × ℕ)) (c : Block) → c.top ≡ t → c.pairs.items ≡ es → l ≤ t → t < 2 ^ 32
-    → Rises l es → AllBelow (suc t) es → length es ≤ 512 → IsBlock l c
+    → Rises l es → AllBelow (suc t) es → length es ≤ 512 → IsFinaliserBlock l c
 block-from l t es c e f order limit rises below few = record {
   order = omega (arith, e, order);
   limit = omega (arith, e, limit);
@@ -117,11 +117,12 @@ block-from l t es c e f order limit rises below few = record {
   few = omega (arith, few, ap (λ (xs : List (ℕ × ℕ)). length xs) f);
 }
 
-pub block-same : (l : ℕ) (b c : Block) → IsBlock l b → c.top ≡ b.top → c.pairs.items ≡ b.pairs.items → IsBlock l c
+pub block-same : (l : ℕ) (b c : Block) → IsFinaliserBlock l b → c.top ≡ b.top → c.pairs.items ≡ b.pairs.items
+    → IsFinaliserBlock l c
 block-same l b c is e f = block-from l b.top b.pairs.items c e f is.order is.limit is.rises is.below is.few
 
-pub block-put : (l g v : ℕ) (b c : Block) → IsBlock l b → l ≤ g → g ≤ b.top → find g b.pairs.items ≡ None
-    → has_room (Some b) ≡ true → c.top ≡ b.top → c.pairs.items ≡ insert g v b.pairs.items → IsBlock l c
+pub block-put : (l g v : ℕ) (b c : Block) → IsFinaliserBlock l b → l ≤ g → g ≤ b.top → find g b.pairs.items ≡ None
+    → has_room (Some b) ≡ true → c.top ≡ b.top → c.pairs.items ≡ insert g v b.pairs.items → IsFinaliserBlock l c
 block-put l g v b c is low high none room e f =
     let less = ltb-true (length b.pairs.items) 512 room in
     block-from l b.top (insert g v b.pairs.items) c e f is.order is.limit
@@ -129,8 +130,8 @@ block-put l g v b c is low high none room e f =
     (AllBelow-insert (suc b.top) g v b.pairs.items (omega (arith, high)) is.below)
     (omega (arith, less, insert-length g v b.pairs.items))
 
-pub block-append : (l g v : ℕ) (b c : Block) → IsBlock l b → b.top < g → g < 2 ^ 32 → has_room (Some b) ≡ true
-    → c.top ≡ g → c.pairs.items ≡ b.pairs.items ++ (g, v) ∷ [] → IsBlock l c
+pub block-append : (l g v : ℕ) (b c : Block) → IsFinaliserBlock l b → b.top < g → g < 2 ^ 32 → has_room (Some b) ≡ true
+    → c.top ≡ g → c.pairs.items ≡ b.pairs.items ++ (g, v) ∷ [] → IsFinaliserBlock l c
 block-append l g v b c is high limit room e f =
     let less = ltb-true (length b.pairs.items) 512 room in
     let order : l ≤ g = omega (arith, is.order, high) in
@@ -141,20 +142,21 @@ block-append l g v b c is high limit room e f =
     (AllBelow-more (suc b.top) (suc g) b.pairs.items (omega (arith, high)) is.below))
     (omega (arith, less, length-append b.pairs.items ((g, v) ∷ [])))
 
-pub block-one : (l g v : ℕ) (c : Block) → l ≤ g → g < 2 ^ 32 → c.top ≡ g → c.pairs.items ≡ (g, v) ∷ [] → IsBlock l c
+pub block-one : (l g v : ℕ) (c : Block) → l ≤ g → g < 2 ^ 32 → c.top ≡ g → c.pairs.items ≡ (g, v) ∷ []
+    → IsFinaliserBlock l c
 block-one l g v c order limit e f = block-from l g ((g, v) ∷ []) c e f order limit (order, tt) (omega arith, tt)
     (omega arith)
 
-pub block-only : (p : ℕ → Bool) (l : ℕ) (b c : Block) → IsBlock l b → c.top ≡ b.top
-    → c.pairs.items ≡ only p b.pairs.items → IsBlock l c
+pub block-only : (p : ℕ → Bool) (l : ℕ) (b c : Block) → IsFinaliserBlock l b → c.top ≡ b.top
+    → c.pairs.items ≡ only p b.pairs.items → IsFinaliserBlock l c
 block-only p l b c is e f =
     block-from l b.top (only p b.pairs.items) c e f is.order is.limit
     (Rises-only l p b.pairs.items is.rises)
     (AllBelow-only (suc b.top) p b.pairs.items is.below)
     (omega (arith, only-length p b.pairs.items, is.few))
 
-pub block-kept : (bits : List Bool) (l : ℕ) (b c : Block) → IsBlock l b → c.top ≡ b.top
-    → c.pairs.items ≡ kept bits b.pairs.items → IsBlock l c
+pub block-kept : (bits : List Bool) (l : ℕ) (b c : Block) → IsFinaliserBlock l b → c.top ≡ b.top
+    → c.pairs.items ≡ kept bits b.pairs.items → IsFinaliserBlock l c
 block-kept bits l b c is e f =
     block-from l b.top (kept bits b.pairs.items) c e f is.order is.limit
     (Rises-kept l bits b.pairs.items is.rises)

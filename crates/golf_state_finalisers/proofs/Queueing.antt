@@ -1,12 +1,12 @@
 -- The queue's entries for finalisers whose flag is false, one after another.
--- For: `add_unflagged`, `unflagged_in` (src/collecting.rt)
+-- For: `add_unflagged`, `unflagged_in` (src/walks.rt)
 -- By: the laws of flagged lists (golf_heap/proofs/Flagged.antt)
 use Rattle.std.proofs.Common.{◌≡◌, ℕ, ◌+◌, ◌<◌, Bool, true, false, List, [], ◌∷◌, ◌++◌, length, take, drop, get_or, sym}
 use Rattle.std.proofs.Common.{ap, ◌∙◌, append_assoc}
 use Rattle.std.proofs.lemmas.List.{append-nil, map-append}
 use Rattle.std.proofs.lemmas.Option.{slice_get-get_or}
 use Rattle.golf_data.specs.declared.goroutine.Queued.{Queued}
-use Rattle.golf_model.specs.Collecting.{queued}
+use Rattle.golf_model.specs.Collections.{queued}
 use Rattle.golf_heap.specs.Objects.{left_out}
 use Rattle.golf_heap.proofs.Flagged.{left_out-at}
 use Rattle.golf_state_finalisers.proofs.Parts.{left-split}

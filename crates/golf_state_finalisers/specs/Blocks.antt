@@ -12,7 +12,7 @@ abbrev pub pairs_in : List Block → List (ℕ × ℕ)
 pairs_in bs = gather (λ b. b.pairs.items) bs
 
 -- the objects' numbers rise from lo up to the top, and there are at most 512 of them
-pub record IsBlock (lo : ℕ) (b : Block) : Type 0 where
+pub record IsFinaliserBlock (lo : ℕ) (b : Block) : Type 0 where
   pub order : lo ≤ b.top
   pub limit : b.top < 2 ^ 32
   pub rises : Rises lo b.pairs.items
@@ -20,9 +20,9 @@ pub record IsBlock (lo : ℕ) (b : Block) : Type 0 where
   pub few : length b.pairs.items ≤ 512
 
 -- the blocks are in rising order of top, and their objects' numbers are at least lo
-abbrev pub AreBlocks : ℕ → List Block → Type 0
-AreBlocks lo [] = Unit {0}
-AreBlocks lo (b ∷ bs) = IsBlock lo b × AreBlocks (suc b.top) bs
+abbrev pub AreFinaliserBlocks : ℕ → List Block → Type 0
+AreFinaliserBlocks lo [] = Unit {0}
+AreFinaliserBlocks lo (b ∷ bs) = IsFinaliserBlock lo b × AreFinaliserBlocks (suc b.top) bs
 
 -- whether the block has a finaliser
 abbrev pub is_filled : Block → Bool

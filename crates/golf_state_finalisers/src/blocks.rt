@@ -7,7 +7,7 @@ ghost use Rattle.std.specs.Prelude.{◌≡◌, ◌<◌, ◌+◌, ◌-◌, ◌∷
 ghost use Rattle.std.specs.Prelude.{slice_get, option_map, IfOk, OnOk, OnErr};
 ghost use Rattle.golf_theory.specs.Maps.{find, insert, only, Rises};
 ghost use Rattle.golf_heap.specs.Objects.{rank, kept};
-ghost use Rattle.golf_state_finalisers.specs.Blocks.{AreBlocks, keyed_blocks};
+ghost use Rattle.golf_state_finalisers.specs.Blocks.{AreFinaliserBlocks, keyed_blocks};
 
 use crate::pairs::{put_pair, take_pair};
 use golf_base::Memory;
@@ -24,7 +24,7 @@ pub struct Block {
 /// Returns how many blocks have a smaller top than the object. The object belongs to the block at this
 /// place, if there is one.
 pub fn block_of(blocks: &[Block], object: u32) -> usize
-    requires { AreBlocks 0 blocks.now }
+    requires { AreFinaliserBlocks 0 blocks.now }
     ensures { result ≡ rank object (keyed_blocks blocks.now) }
 {
     blocks.partition_point(|block| block.top < object)

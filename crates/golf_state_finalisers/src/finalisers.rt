@@ -5,13 +5,13 @@
 ghost use Rattle.std.specs.Prelude.{◌≡◌, ◌==◌, [], None, not, length, IfOk, OnOk, OnErr};
 ghost use Rattle.golf_theory.specs.Maps.{find, insert, only};
 ghost use Rattle.golf_heap.specs.Objects.{kept, left_out};
-ghost use Rattle.golf_model.specs.Collecting.{queued};
+ghost use Rattle.golf_model.specs.Collections.{queued};
 
-use crate::adding::put_in;
 use crate::blocks::{Block, block_of};
-use crate::collecting::{count_pairs, list_pairs, unflagged_in};
+use crate::insertions::put_in;
 use crate::pairs::function_in;
-use crate::taking::{retain_from, take_from};
+use crate::removals::{retain_from, take_from};
+use crate::walks::{count_pairs, list_pairs, unflagged_in};
 use golf_base::{List, Memory};
 use golf_data::Queued;
 use std::alloc::Global;

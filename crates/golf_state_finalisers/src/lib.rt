@@ -4,12 +4,12 @@
 //!   at most the others of its block. If it makes or removes a block, it moves the later blocks too.
 #![tactic(auto)]
 
-mod adding;
 mod blocks;
-mod collecting;
 mod finalisers;
+mod full_blocks;
+mod insertions;
 mod pairs;
-mod splitting;
-mod taking;
+mod removals;
+mod walks;
 
 pub use finalisers::Finalisers;

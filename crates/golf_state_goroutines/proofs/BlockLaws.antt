@@ -1,5 +1,5 @@
 -- Small facts of blocks.
--- For: src/blocks.rt, src/counting.rt
+-- For: src/blocks.rt, src/counts.rt
 -- By: induction over a list
 use Rattle.std.proofs.Common.{◌≡◌, ℕ, zero, suc, ◌≤◌, List, [], ◌∷◌, ◌++◌, length, get_or, refl, ap, arith}
 use Rattle.std.proofs.lemmas.List.{length-map}

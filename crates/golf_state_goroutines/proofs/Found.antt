@@ -1,5 +1,5 @@
 -- What is found at the place of a number.
--- For: `IsPlace` (golf_state_goroutines/specs/Blocks.antt) and src/finding.rt
+-- For: `IsPlace` (golf_state_goroutines/specs/Blocks.antt) and src/lookups.rt
 -- By: the laws of blocks; no induction
 use Rattle.std.proofs.Common.{◌≡◌, ℕ, ◌*◌, ◌/◌, List, Some, None, sym, ap, ◌∙◌, subst, slice_get}
 use Rattle.golf_theory.specs.Maps.{find, Rises}

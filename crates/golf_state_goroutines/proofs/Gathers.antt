@@ -138,7 +138,7 @@ module _ {X Y : Type 0} (f : X → List Y) where
   gather-none [] y e = ap (λ (ys : List Y). ys ++ []) e
   gather-none (x ∷ xs) y e = ap (λ (ys : List Y). f x ++ ys) (gather-none xs y e)
 
-  -- the lists that pass a test are all that are not empty
+  -- the lists that satisfy a test are all that are not empty
   pub gather-full : (p : X → Bool) → ((x : X) → p x ≡ false → f x ≡ []) → (xs : List X)
       → gather f (filter p xs) ≡ gather f xs
   gather-full p none [] = refl

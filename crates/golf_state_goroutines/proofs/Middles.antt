@@ -9,7 +9,7 @@ use Rattle.golf_theory.specs.Maps.{find, keys, Rises}
 use Rattle.golf_theory.specs.Stored.{placed, without}
 use Rattle.golf_theory.proofs.MapFinds.{find_below}
 use Rattle.golf_heap.specs.Objects.{rank}
-use Rattle.golf_state_goroutines.specs.Rising.{RisesFrom}
+use Rattle.golf_state_goroutines.specs.RisingLists.{RisesFrom}
 use Rattle.golf_state_goroutines.specs.Goroutines.{AllUnder}
 use Rattle.golf_state_goroutines.proofs.Rises.{without-above}
 

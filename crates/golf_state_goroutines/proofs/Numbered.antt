@@ -1,5 +1,5 @@
 -- The list of goroutines as a list of numbers.
--- For: `numbers` (golf_state_goroutines/specs/Blocks.antt) and `put_in`, `leave_out` (src/rising.rt)
+-- For: `numbers` (golf_state_goroutines/specs/Blocks.antt) and `put_in`, `leave_out` (src/rising_lists.rt)
 -- By: induction over the list of goroutines, and over how many of them are taken or dropped
 use Rattle.std.proofs.Common.{◌≡◌, ℕ, zero, suc, List, [], ◌∷◌, ◌++◌, take, drop, refl, ap, ◌∙◌}
 use Rattle.std.specs.Prelude.{insert, remove}

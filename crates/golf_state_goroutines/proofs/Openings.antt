@@ -1,5 +1,5 @@
 -- Blocks that are made, and blocks that nothing stands in.
--- For: `AreFull`, `has_key` (golf_state_goroutines/specs/Blocks.antt) and src/opening.rt
+-- For: `AreFull`, `has_key` (golf_state_goroutines/specs/Blocks.antt) and src/block_list.rt
 -- By: induction over the list of blocks
 use Rattle.std.proofs.Common.{◌≡◌, ℕ, zero, suc, ◌+◌, ◌-◌, ◌*◌, ◌<◌, ◌≤◌, Bool, true, false, cond, ◌||◌, List, [], ◌∷◌}
 use Rattle.std.proofs.Common.{◌++◌, length, filter, Some, refl, sym, ap, ◌∙◌, subst, arith, slice_get}

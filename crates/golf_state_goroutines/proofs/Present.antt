@@ -1,5 +1,5 @@
 -- A goroutine that is there: its block and its index are in range, and the roster after a change of it.
--- For: `IsPlace` (golf_state_goroutines/specs/Blocks.antt), src/finding.rt and `get_mut` (src/roster.rt)
+-- For: `IsPlace` (golf_state_goroutines/specs/Blocks.antt), src/lookups.rt and `get_mut` (src/roster.rt)
 -- By: the laws of blocks; no induction
 use Rattle.std.proofs.Common.{◌≡◌, ℕ, ◌+◌, ◌*◌, ◌/◌, ◌<◌, true, List, length, get_or, Option, Some, None, refl, sym}
 use Rattle.std.proofs.Common.{ap, ◌∙◌, subst, slice_get, slice_set}

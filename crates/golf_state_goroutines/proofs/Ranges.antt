@@ -7,7 +7,7 @@ use Rattle.std.proofs.lemmas.Bool.{ltb-true, ltb-false}
 use Rattle.golf_theory.specs.Maps.{keys, keys_where, Rises}
 use Rattle.golf_theory.specs.Stored.{placed}
 use Rattle.golf_heap.specs.Objects.{kept}
-use Rattle.golf_state_goroutines.specs.Rising.{RisesFrom}
+use Rattle.golf_state_goroutines.specs.RisingLists.{RisesFrom}
 use Rattle.golf_state_goroutines.specs.Blocks.{RisesIn}
 use Rattle.golf_state_goroutines.specs.Goroutines.{AllUnder, IsNone}
 

@@ -1,5 +1,5 @@
 -- What is read from a list.
--- For: src/retaining.rt, src/roster.rt
+-- For: src/batch_removals.rt, src/roster.rt
 -- By: induction over the list
 use Rattle.std.proofs.Common.{◌≡◌, ℕ, zero, suc, ◌<◌, List, [], ◌∷◌, length, Option, Some, refl, arith, slice_get}
 use Rattle.std.proofs.Common.{slice_set}

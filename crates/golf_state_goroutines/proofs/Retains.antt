@@ -1,6 +1,6 @@
 -- Goroutines that are taken away together, block by block.
 -- For: `kept` (golf_heap/specs/Objects.antt), `running_of` (golf_state_goroutines/specs/Places.antt) and
--- src/retaining.rt
+-- src/batch_removals.rt
 -- By: induction over a list
 use Rattle.std.proofs.Common.{◌≡◌, ℕ, zero, suc, Bool, true, false, cond, List, [], ◌∷◌, ◌++◌, length, take, drop, refl}
 use Rattle.std.proofs.Common.{ap, arith}

@@ -1,5 +1,6 @@
 -- Goroutines in rising order of number.
--- For: `RisesFrom` (golf_state_goroutines/specs/Rising.antt) and `leading`, `put_in`, `leave_out` (src/rising.rt)
+-- For: `RisesFrom` (golf_state_goroutines/specs/RisingLists.antt) and `leading`, `put_in`, `leave_out`
+-- (src/rising_lists.rt)
 -- By: induction over the list of goroutines or of their numbers
 use Rattle.std.proofs.Common.{◌≡◌, ℕ, zero, suc, ◌+◌, ◌<◌, ◌≤◌, Bool, true, false, cond, not, List, [], ◌∷◌, length}
 use Rattle.std.proofs.Common.{get_or, Some, nat_lt, refl, sym, ap, ◌∙◌, arith, slice_get}
@@ -12,7 +13,7 @@ use Rattle.golf_base.specs.declared.ids.GoroutineId.{GoroutineId}
 use Rattle.golf_theory.specs.Maps.{keys_where, Rises}
 use Rattle.golf_theory.specs.Stored.{placed, without}
 use Rattle.golf_state_goroutines.specs.Blocks.{numbers}
-use Rattle.golf_state_goroutines.specs.Rising.{RisesFrom, leading}
+use Rattle.golf_state_goroutines.specs.RisingLists.{RisesFrom, leading}
 
 -- ---- keys rise
 

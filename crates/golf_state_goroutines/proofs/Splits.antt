@@ -12,7 +12,7 @@ use Rattle.golf_theory.specs.Maps.{find, keys, Rises, AllBelow}
 use Rattle.golf_theory.specs.Stored.{placed, without}
 use Rattle.golf_heap.specs.Objects.{rank}
 use Rattle.golf_model.specs.Views.{GoroutineView}
-use Rattle.golf_state_goroutines.specs.Rising.{RisesFrom}
+use Rattle.golf_state_goroutines.specs.RisingLists.{RisesFrom}
 use Rattle.golf_state_goroutines.specs.Places.{plain_entry, plain_entries}
 use Rattle.golf_state_goroutines.specs.Goroutines.{AllUnder}
 use Rattle.golf_state_goroutines.specs.Blocks.{numbers, gather, places_in, running_in, RisesIn, IsBlock, AreBlocks}

@@ -1,7 +1,7 @@
 pub mod Places
-pub mod Rising
+pub mod RisingLists
 pub mod Goroutines
 pub mod Blocks
 pub mod Sums
 pub mod Inside
-pub mod Lending
+pub mod Loans

@@ -13,7 +13,7 @@ ghost use Rattle.golf_state_goroutines.specs.Goroutines.{AllUnder, IsNone};
 ghost use Rattle.golf_state_goroutines.specs.Blocks.{numbers, IsBlock, AreBlocks, keyed_blocks};
 
 use crate::places::{NumberedGoroutine, list_running, take_place};
-use crate::rising::{add_last, leave_out, put_in};
+use crate::rising_lists::{add_last, leave_out, put_in};
 use golf_base::{GoroutineId, Memory};
 use golf_heap::close_up;
 

@@ -5,15 +5,15 @@
 //!   ends, blocks or is woken moves at most the others of its block.
 #![tactic(auto)]
 
+mod batch_removals;
+mod block_list;
 mod blocks;
-mod counting;
-mod finding;
-mod opening;
+mod counts;
+mod lookups;
 mod places;
-mod retaining;
-mod rising;
+mod rising_lists;
 mod roster;
-mod walking;
+mod walks;
 
 pub use blocks::Block;
 pub use places::{NumberedGoroutine, is_running, place_of};

@@ -12,7 +12,7 @@ ghost use Rattle.golf_model.specs.Views.{frame_views, goroutine_view};
 ghost use Rattle.golf_model.specs.State.{is_running};
 ghost use Rattle.golf_state_goroutines.specs.Places.{plain_entry, plain_entries, running_of};
 
-use crate::rising::add_last;
+use crate::rising_lists::add_last;
 use golf_base::{Boxed, GoroutineId, List, Memory};
 use golf_data::{Frame, Goroutine, Mode};
 use std::alloc::Global;

@@ -18,7 +18,8 @@ use Rattle.golf_theory.proofs.Insert.{find-insert, find-insert_other, Rises-inse
 use Rattle.golf_heap.specs.Objects.{rank}
 use Rattle.golf_heap.proofs.Ranks.{at_key, find-rank}
 use Rattle.golf_state_queues.specs.WaitQueues.{WaitQueues, IsInOrder, AllRise, key, held, wait_queues_of, wait_queue_in}
-use Rattle.golf_state_queues.specs.WaitQueues.{wait_queue_at, has_key, AreBelow, KeepsIn, Keeps, StandsIn, StandsInAll}
+use Rattle.golf_state_queues.specs.WaitQueues.{wait_queue_at, has_key, TicketsBelow, KeepsIn, KeepsWaiters, StandsIn}
+use Rattle.golf_state_queues.specs.WaitQueues.{StandsInAll}
 use Rattle.golf_state_queues.specs.declared.queues.Queue.{Queue}
 use Rattle.golf_heap.proofs.Keyed.{set-keyed}
 
@@ -90,7 +91,7 @@ changed-insert k es ls h = record {
 }
 
 module _ (k : ℕ) (es : List (ℕ × ℕ)) (old new : WaitQueues) (c : Changed k es old new) where
-  pub keeps-changed : (P : ℕ → ℕ → Type 0) → KeepsIn P (wait_queue_at k old) es → Keeps P old new
+  pub keeps-changed : (P : ℕ → ℕ → Type 0) → KeepsIn P (wait_queue_at k old) es → KeepsWaiters P old new
   keeps-changed P h = λ j t g p i. elim (cases_eq j k) [
     | inl e ↦ subst (λ (n : ℕ). Entry (wait_queue_at n new) t g) (sym e)
         (subst (λ (fs : List (ℕ × ℕ)). Entry fs t g) (sym c.here)
@@ -98,7 +99,7 @@ module _ (k : ℕ) (es : List (ℕ × ℕ)) (old new : WaitQueues) (c : Changed 
     | inr n ↦ subst (λ (fs : List (ℕ × ℕ)). Entry fs t g) (sym (c.others j n)) i
   ]
 
-  pub below-changed : (n : ℕ) → AllBelow n es → AreBelow n old → AreBelow n new
+  pub below-changed : (n : ℕ) → AllBelow n es → TicketsBelow n old → TicketsBelow n new
   below-changed n b a = λ j. elim (cases_eq j k) [
     | inl e ↦ subst (λ (m : ℕ). AllBelow n (wait_queue_at m new)) (sym e) (subst (AllBelow n) (sym c.here) b)
     | inr d ↦ subst (AllBelow n) (sym (c.others j d)) (a j)
@@ -160,7 +161,7 @@ insert-rank k es (e ∷ ls) = elim (nat_lt e.0 k) as (λ t. insert_item (e ∷ l
 
 -- ---- along waits
 
-pub all-kept : (t g : ℕ) (ws : List Wait) (old new : WaitQueues) → Keeps (λ u h. (u ≡ t) × (h ≡ g)) old new
+pub all-kept : (t g : ℕ) (ws : List Wait) (old new : WaitQueues) → KeepsWaiters (λ u h. (u ≡ t) × (h ≡ g)) old new
     → StandsInAll t g ws old → StandsInAll t g ws new
 all-kept t g [] old new k s = tt
 all-kept t g (w ∷ ws) old new k s = (k (key w.object.0 w.side) t g (refl, refl) s.0, all-kept t g ws old new k s.1)

@@ -1,6 +1,6 @@
--- Lists whose first items are passed.
+-- Lists whose first items are skipped.
 -- For: `move_up`, src/line.rt
--- By: induction over how many are passed
+-- By: induction over how many are skipped
 use Rattle.std.proofs.Common.{◌≡◌, ℕ, zero, suc, ◌+◌, ◌≤◌, List, [], ◌∷◌, drop, length, ap, arith}
 use Rattle.std.specs.Prelude.{remove}
 

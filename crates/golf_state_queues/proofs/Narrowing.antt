@@ -11,7 +11,7 @@ use Rattle.golf_heap.specs.Objects.{rank}
 use Rattle.golf_state_queues.specs.declared.holders.TicketHolder.{TicketHolder}
 use Rattle.golf_state_queues.proofs.Partings.{Entry-filter, AllBelow-filter, Rises-filter}
 use Rattle.golf_state_queues.specs.WaitQueues.{WaitQueues, IsInOrder, AllRise, held, wait_queue_in, wait_queue_at}
-use Rattle.golf_state_queues.specs.WaitQueues.{has_key, among, narrowed, listed, AreBelow, Keeps}
+use Rattle.golf_state_queues.specs.WaitQueues.{has_key, among, narrowed, listed, TicketsBelow, KeepsWaiters}
 
 -- ---- whether a goroutine is among some
 
@@ -56,11 +56,11 @@ holders-narrowed k gs (e ∷ ls) = elim (k == e.0) as (λ b. wait_queue_in
       | false ↦ holders-narrowed k gs ls
     ]
 
-pub keeps-narrowed : (gs : List ℕ) (ls : WaitQueues) → Keeps (λ t g. is_in g gs ≡ true) ls (narrowed gs ls)
+pub keeps-narrowed : (gs : List ℕ) (ls : WaitQueues) → KeepsWaiters (λ t g. is_in g gs ≡ true) ls (narrowed gs ls)
 keeps-narrowed gs ls = λ k t g p i. subst (λ (es : List (ℕ × ℕ)). Entry es t g) (sym (holders-narrowed k gs ls))
     (Entry-filter (λ e. is_in e.1 gs) (wait_queue_at k ls) t g p i)
 
-pub below-narrowed : (n : ℕ) (gs : List ℕ) (ls : WaitQueues) → AreBelow n ls → AreBelow n (narrowed gs ls)
+pub below-narrowed : (n : ℕ) (gs : List ℕ) (ls : WaitQueues) → TicketsBelow n ls → TicketsBelow n (narrowed gs ls)
 below-narrowed n gs ls b = λ k. subst (AllBelow n) (sym (holders-narrowed k gs ls))
     (AllBelow-filter (λ e. is_in e.1 gs) n (wait_queue_at k ls) (b k))
 

@@ -15,12 +15,12 @@ use Rattle.golf_theory.proofs.Lists.{Every-from, filter-all, filter-same}
 use Rattle.golf_heap.specs.Objects.{rank}
 use Rattle.golf_state_queues.specs.Lines.{spots}
 use Rattle.golf_state_queues.specs.WaitQueues.{WaitQueues, key, keys_of, held, wait_queue_in, wait_queue_at, is_holder}
-use Rattle.golf_state_queues.specs.WaitQueues.{is_held_in, parted, leaves, IsWithout, AreBelow, Keeps}
+use Rattle.golf_state_queues.specs.WaitQueues.{is_held_in, parted, leaves, IsWithout, TicketsBelow, KeepsWaiters}
 use Rattle.golf_state_queues.specs.declared.holders.TicketHolder.{TicketHolder}
 use Rattle.golf_state_queues.proofs.Held.{Rises-held}
 use Rattle.golf_state_queues.proofs.HolderLaws.{Changed}
 
--- ---- entries that pass a test
+-- ---- entries that satisfy a test
 
 module _ {X : Type 0} where
   filter-alike : (p q : X → Bool) (xs : List X) → ((x : X) → p x ≡ q x) → filter p xs ≡ filter q xs
@@ -231,13 +231,13 @@ without-more t g i ws d old mid new l a b =
 
 -- one who is not asked to leave stands where it stood
 pub keeps-without : (P : ℕ → ℕ → Type 0) (p : ℕ → ℕ × ℕ → Bool) (old new : WaitQueues)
-    → ((k t g : ℕ) → P t g → p k (t, g) ≡ false) → IsWithout p old new → Keeps P old new
+    → ((k t g : ℕ) → P t g → p k (t, g) ≡ false) → IsWithout p old new → KeepsWaiters P old new
 keeps-without P p old new n w = λ k t g h i.
     subst (λ (es : List (ℕ × ℕ)). Entry es t g) (sym (w k))
     (Entry-filter (λ x. not (p k x)) (wait_queue_at k old) t g (ap not (n k t g h)) i)
 
-pub below-without : (p : ℕ → ℕ × ℕ → Bool) (old new : WaitQueues) → IsWithout p old new → (n : ℕ) → AreBelow n old
-    → AreBelow n new
+pub below-without : (p : ℕ → ℕ × ℕ → Bool) (old new : WaitQueues) → IsWithout p old new → (n : ℕ) → TicketsBelow n old
+    → TicketsBelow n new
 below-without p old new w = λ n b k. subst (AllBelow n) (sym (w k))
     (AllBelow-filter (λ x. not (p k x)) n (wait_queue_at k old) (b k))
 
@@ -246,6 +246,6 @@ leaves-other t g ks k u h n = ap (λ b. is_in k ks && (b && (u == t))) (ne_eqb h
 
 -- another goroutine stands where it stood
 pub keeps-others : (t g : ℕ) (ks : List ℕ) (old new : WaitQueues) → IsWithout (leaves t g ks) old new
-    → Keeps (λ u h. h ≡ g → ⊥) old new
+    → KeepsWaiters (λ u h. h ≡ g → ⊥) old new
 keeps-others t g ks old new w = keeps-without (λ u h. h ≡ g → ⊥) (leaves t g ks) old new
     (λ k u h n. leaves-other t g ks k u h n) w

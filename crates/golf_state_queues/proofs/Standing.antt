@@ -8,7 +8,7 @@ use Rattle.golf_theory.specs.Maps.{Entry, find, Rises, AllBelow}
 use Rattle.golf_theory.proofs.MapFinds.{find_below}
 use Rattle.golf_theory.proofs.MapOrder.{Rises-less}
 use Rattle.golf_state_queues.specs.WaitQueues.{WaitQueues, IsInOrder, AllRise, key, held, wait_queues_of, wait_queue_in}
-use Rattle.golf_state_queues.specs.WaitQueues.{wait_queue_at, has_anyone, standing, AreBelow, Keeps}
+use Rattle.golf_state_queues.specs.WaitQueues.{wait_queue_at, has_anyone, standing, TicketsBelow, KeepsWaiters}
 use Rattle.golf_state_queues.specs.declared.queues.Queue.{Queue}
 
 someone : (es : List (ℕ × ℕ)) (t g : ℕ) → Entry es t g → has_anyone es ≡ true
@@ -35,7 +35,7 @@ holders-standing k t g (e ∷ ls) h =
           ] h
     ] refl
 
-pub keeps-standing : (ls : WaitQueues) → Keeps (λ t g. Unit {0}) ls (standing ls)
+pub keeps-standing : (ls : WaitQueues) → KeepsWaiters (λ t g. Unit {0}) ls (standing ls)
 keeps-standing ls = λ k t g u i. subst (λ (es : List (ℕ × ℕ)). Entry es t g) (sym (holders-standing k t g ls i)) i
 
 Rises-standing : (j : ℕ) (ls : WaitQueues) → Rises j ls → Rises j (standing ls)
@@ -77,7 +77,7 @@ holders-below n k j (e ∷ ls) r b =
           ] refl b
     ]
 
-pub below-standing : (ls : WaitQueues) → IsInOrder ls → (n : ℕ) → AreBelow n ls → AreBelow n (standing ls)
+pub below-standing : (ls : WaitQueues) → IsInOrder ls → (n : ℕ) → TicketsBelow n ls → TicketsBelow n (standing ls)
 below-standing ls o n b = λ k. holders-below n k 0 ls o.keys (b k)
 
 -- in memory

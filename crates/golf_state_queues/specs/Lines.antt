@@ -7,7 +7,7 @@ use Rattle.golf_state_queues.specs.declared.holders.TicketHolder.{TicketHolder}
 abbrev pub spots : List TicketHolder → List (ℕ × ℕ)
 spots hs = map (λ h. (h.ticket, h.goroutine.0)) hs
 
--- `front` entries are passed at the front; the tickets of the others rise
+-- `front` entries are skipped at the front; the tickets of the others rise
 pub record IsLine (front : ℕ) (hs : List TicketHolder) : Type 0 where
   pub within : front ≤ length hs
   pub rises : Rises 0 (spots (drop front hs))

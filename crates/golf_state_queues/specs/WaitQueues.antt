@@ -6,7 +6,7 @@ use Rattle.golf_theory.specs.Membership.{is_in}
 use Rattle.golf_base.specs.declared.ids.GoroutineId.{GoroutineId}
 use Rattle.golf_data.specs.declared.goroutine.Side.{Side}
 use Rattle.golf_data.specs.declared.goroutine.Wait.{Wait}
-use Rattle.golf_model.specs.Waiting.{side_number}
+use Rattle.golf_model.specs.Waiters.{side_number}
 use Rattle.golf_state_queues.specs.declared.holders.TicketHolder.{TicketHolder}
 use Rattle.golf_state_queues.specs.declared.queues.Queue.{Queue}
 
@@ -59,8 +59,8 @@ has_key k None = false
 has_key k (Some e) = e.0 == k
 
 -- all tickets are below n
-abbrev pub AreBelow : ℕ → WaitQueues → Type 0
-AreBelow n ls = (k : ℕ) → AllBelow n (wait_queue_at k ls)
+abbrev pub TicketsBelow : ℕ → WaitQueues → Type 0
+TicketsBelow n ls = (k : ℕ) → AllBelow n (wait_queue_at k ls)
 
 -- the last waiter of a queue whose ticket is below this one; `None` if all tickets are this one or later
 abbrev pub IsLastBefore : ℕ → List (ℕ × ℕ) → Option TicketHolder → Type 0
@@ -68,13 +68,13 @@ IsLastBefore t es None = (u g : ℕ) → Entry es u g → t ≤ u
 IsLastBefore t es (Some h) = Entry es h.ticket h.goroutine.0 × (h.ticket < t)
     × ((u g : ℕ) → Entry es u g → u < t → u ≤ h.ticket)
 
--- each waiter of the queue that passes the test is still in it
+-- each waiter of the queue that satisfies the test is still in it
 abbrev pub KeepsIn : (ℕ → ℕ → Type 0) → List (ℕ × ℕ) → List (ℕ × ℕ) → Type 0
 KeepsIn P old new = (t g : ℕ) → P t g → Entry old t g → Entry new t g
 
--- each waiter of each queue that passes the test is still in its queue
-abbrev pub Keeps : (ℕ → ℕ → Type 0) → WaitQueues → WaitQueues → Type 0
-Keeps P old new = (k : ℕ) → KeepsIn P (wait_queue_at k old) (wait_queue_at k new)
+-- each waiter of each queue that satisfies the test is still in its queue
+abbrev pub KeepsWaiters : (ℕ → ℕ → Type 0) → WaitQueues → WaitQueues → Type 0
+KeepsWaiters P old new = (k : ℕ) → KeepsIn P (wait_queue_at k old) (wait_queue_at k new)
 
 -- whether this waiter is the goroutine with this ticket
 abbrev pub is_holder : ℕ → ℕ → ℕ × ℕ → Bool
@@ -89,7 +89,7 @@ is_held_in t g (Some h) = not h.is_gone && is_holder t g (h.ticket, h.goroutine.
 abbrev pub parted : ℕ → ℕ → List (ℕ × ℕ) → List (ℕ × ℕ)
 parted t g es = filter (λ h. not (is_holder t g h)) es
 
--- The waiters that pass the test for the key of their queue are removed. All others keep their order.
+-- The waiters that satisfy the test for the key of their queue are removed. All others keep their order.
 abbrev pub IsWithout : (ℕ → ℕ × ℕ → Bool) → WaitQueues → WaitQueues → Type 0
 IsWithout gone old new = (k : ℕ) → wait_queue_at k new ≡ filter (λ h. not (gone k h)) (wait_queue_at k old)
 

@@ -140,7 +140,7 @@ pub fn narrow(holders: &mut Vec<TicketHolder>, roster: &Roster)
     holders.retain(|holder| is_among(roster, holder.goroutine));
 }
 
-/// Returns the last waiter in the queue whose ticket is below this one, or `None`. It passes over entries
+/// Returns the last waiter in the queue whose ticket is below this one, or `None`. It skips entries
 /// that are gone.
 /// are gone.
 pub fn last_before(holders: &[TicketHolder], ticket: u64) -> Option<TicketHolder>

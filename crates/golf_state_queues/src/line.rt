@@ -25,9 +25,9 @@ const FEW: usize = 8;
 #[derive(Debug, Drop)]
 pub struct Line {
     entries: Vec<TicketHolder>,
-    // how many entries are passed at the front
+    // how many entries are skipped at the front
     front: u32,
-    // how many entries are passed or marked
+    // how many entries are skipped or marked
     gone: u32,
 }
 
@@ -124,9 +124,9 @@ impl Line {
         self.gone = 0;
     }
 
-    // Passes the entries at the front that are gone.
+    // Skips the entries at the front that are gone.
     #[inline(always)]
-    fn pass_gone(&mut self)
+    fn skip_gone(&mut self)
         ensures { held self.new ≡ held self.old }
     {
         let start = self.front as usize + start_of(self.as_slice());
@@ -155,7 +155,7 @@ impl Line {
         if count <= FEW || self.gone as usize > count / 2 {
             self.close_up();
         } else {
-            self.pass_gone();
+            self.skip_gone();
             self.cut_gone();
         }
     }

@@ -6,12 +6,13 @@ ghost use Rattle.std.specs.Prelude.{◌≡◌, ◌<◌, ◌≤◌, ◌+◌, ℕ,
 ghost use Rattle.golf_theory.specs.Maps.{keys, Entry, Rises};
 ghost use Rattle.golf_theory.specs.Membership.{is_in};
 ghost use Rattle.golf_heap.specs.Objects.{rank};
-ghost use Rattle.golf_model.specs.Waiting.{side_number};
+ghost use Rattle.golf_model.specs.Waiters.{side_number};
 ghost use Rattle.golf_state_goroutines.specs.Places.{plain_entries};
 ghost use Rattle.golf_state_queues.specs.Lines.{spots};
 ghost use Rattle.golf_state_queues.specs.WaitQueues.{WaitQueues, IsInOrder, key, held, wait_queues_of, wait_queue_at};
-ghost use Rattle.golf_state_queues.specs.WaitQueues.{has_key, keys_of, leaves, standing, narrowed, AddsOnly, AreBelow};
-ghost use Rattle.golf_state_queues.specs.WaitQueues.{IsWithout, Keeps, StandsInAll};
+ghost use Rattle.golf_state_queues.specs.WaitQueues.{has_key, keys_of, leaves, standing, narrowed, AddsOnly};
+ghost use Rattle.golf_state_queues.specs.WaitQueues.{TicketsBelow};
+ghost use Rattle.golf_state_queues.specs.WaitQueues.{IsWithout, KeepsWaiters, StandsInAll};
 
 use crate::holders::{TicketHolder, has_anyone, join, part};
 use crate::line::Line;
@@ -112,7 +113,7 @@ impl Queues {
     }
 
     /// Returns the entries of the wait queue of the object with that side. Entries that are gone may be
-    /// among them, which the caller passes over.
+    /// among them, which the caller skips.
     #[inline(always)]
     pub fn holders(&self, object: ObjectId, side: Side) -> &[TicketHolder]
         ensures holders { held result.now ≡ wait_queue_at (key object.0 side) self.now }
@@ -138,12 +139,12 @@ impl Queues {
         ticket: u64,
         goroutine: GoroutineId,
     ) -> Result<(), Memory>
-        requires below { AreBelow (ticket + 1) self.old }
+        requires below { TicketsBelow (ticket + 1) self.old }
         ensures joins { OnOk result (Entry (wait_queue_at (key object.0 side) self.new) ticket goroutine.0) }
-        ensures again { OnOk result (Keeps (λ t g. (t ≡ ticket) × (g ≡ goroutine.0)) self.old self.new) }
-        ensures kept { Keeps (λ t g. t < ticket) self.old self.new }
+        ensures again { OnOk result (KeepsWaiters (λ t g. (t ≡ ticket) × (g ≡ goroutine.0)) self.old self.new) }
+        ensures kept { KeepsWaiters (λ t g. t < ticket) self.old self.new }
         ensures only { AddsOnly ticket goroutine.0 (key object.0 side ∷ []) self.old self.new }
-        ensures below { AreBelow (ticket + 1) self.new }
+        ensures below { TicketsBelow (ticket + 1) self.new }
     {
         let key = key_of(object, side);
         let at = rank_of(self.queues.as_slice(), key);
@@ -171,11 +172,11 @@ impl Queues {
         ticket: u64,
         goroutine: GoroutineId,
     ) -> Result<(), Memory>
-        requires below { AreBelow (ticket + 1) self.old }
+        requires below { TicketsBelow (ticket + 1) self.old }
         ensures joins { OnOk result (StandsInAll ticket goroutine.0 waits.now self.new) }
-        ensures kept { Keeps (λ t g. t < ticket) self.old self.new }
+        ensures kept { KeepsWaiters (λ t g. t < ticket) self.old self.new }
         ensures only { AddsOnly ticket goroutine.0 (keys_of waits.now) self.old self.new }
-        ensures below { AreBelow (ticket + 1) self.new }
+        ensures below { TicketsBelow (ticket + 1) self.new }
     {
         for wait in waits {
             self.enter(wait.object, wait.side, ticket, goroutine)?;
@@ -209,8 +210,8 @@ impl Queues {
     /// Keeps in each queue the waiters whose goroutine is in the roster. It takes no memory.
     pub fn retain(&mut self, roster: &Roster)
         ensures queues { self.new ≡ narrowed (keys (plain_entries roster.now.places)) self.old }
-        ensures kept { Keeps (λ t g. is_in g (keys (plain_entries roster.now.places)) ≡ true) self.old self.new }
-        ensures below { (n : ℕ) → AreBelow n self.old → AreBelow n self.new }
+        ensures kept { KeepsWaiters (λ t g. is_in g (keys (plain_entries roster.now.places)) ≡ true) self.old self.new }
+        ensures below { (n : ℕ) → TicketsBelow n self.old → TicketsBelow n self.new }
     {
         narrow_all(&mut self.queues, roster);
     }
@@ -218,8 +219,8 @@ impl Queues {
     /// Removes the empty queues. It takes no memory.
     pub fn drop_empty(&mut self)
         ensures queues { self.new ≡ standing self.old }
-        ensures kept { Keeps (λ t g. Unit {0}) self.old self.new }
-        ensures below { (n : ℕ) → AreBelow n self.old → AreBelow n self.new }
+        ensures kept { KeepsWaiters (λ t g. Unit {0}) self.old self.new }
+        ensures below { (n : ℕ) → TicketsBelow n self.old → TicketsBelow n self.new }
     {
         self.queues
             .retain(|queue| has_anyone(queue.holders.as_slice()));

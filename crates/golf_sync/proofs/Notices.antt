@@ -1,5 +1,5 @@
--- Waiters of a condition that are passed on.
--- For: `notify_by` and `pass_all`, src/conditions.rt; `notified`, specs/Notified.antt
+-- Waiters of a condition that are requeued.
+-- For: `notify_by` and `requeue_all`, src/conditions.rt; `notified`, specs/Notified.antt
 -- By: induction over the list of goroutines, and over the list of waiters
 use Rattle.std.proofs.Common.{◌≡◌, ℕ, suc, ◌+◌, ◌<◌, ◌≤◌, Bool, true, false, cond, ◌&&◌, List, [], ◌∷◌, length, Option}
 use Rattle.std.proofs.Common.{Some, None, ◌==◌, refl, sym, ap, ◌∙◌, inl, inr, arith}
@@ -14,18 +14,18 @@ use Rattle.golf_theory.proofs.MapFinds.{find-put, Entry-above, find-Entry}
 use Rattle.golf_theory.proofs.Placing.{put_below}
 use Rattle.golf_model.specs.Views.{GoroutineView}
 use Rattle.golf_model.specs.State.{State, is_running}
-use Rattle.golf_model.specs.Waiting.{Waiter, waiter_ticket, waiter_of, waits_of, wait_for, first, by_ticket, enter}
-use Rattle.golf_model.specs.Waiting.{waiters}
-use Rattle.golf_model.specs.Waking.{released}
-use Rattle.golf_model.specs.Changes.{apply_all, pass_on, moved, behind_first}
-use Rattle.golf_model.specs.Acting.{stands, standing}
-use Rattle.golf_model.specs.Conditions.{first_only, passes_on}
+use Rattle.golf_model.specs.Waiters.{Waiter, waiter_ticket, waiter_of, waits_of, wait_for, first, by_ticket, enter}
+use Rattle.golf_model.specs.Waiters.{waiters}
+use Rattle.golf_model.specs.Wakes.{released}
+use Rattle.golf_model.specs.Changes.{apply_all, requeue, moved, behind_first}
+use Rattle.golf_model.specs.Actors.{stands, standing}
+use Rattle.golf_model.specs.Conditions.{first_only, requeues}
 use Rattle.golf_model.specs.Laws.{head}
 use Rattle.golf_model.proofs.Firsts.{first-head, waiters-sound}
 use Rattle.golf_state.specs.declared.waiters.Waiting.{Waiting}
 use Rattle.golf_state.specs.Waited.{waiting_of}
-use Rattle.golf_state.specs.Doing.{does, Stands}
-use Rattle.golf_state.specs.Going.{went}
+use Rattle.golf_state.specs.ActorChanges.{does, Stands}
+use Rattle.golf_state.specs.FrameChanges.{went}
 use Rattle.golf_state.specs.Looked.{runs}
 use Rattle.golf_state.proofs.Doings.{does-is, actor_of}
 use Rattle.golf_state.proofs.Runnings.{runs-passed}
@@ -154,7 +154,7 @@ notified-same {old} all o g s t v rising found ran runs e =
           ∙ sym (first-head o Side.Cond s.goroutines))
     ]
 
--- ---- one waiter is passed on
+-- ---- one waiter is requeued
 
 moved-out : (o k m ticket : ℕ) (r : GoroutineView) (mode : Mode)
     → option_map (λ w. let x : Waiter = record { number = k; goroutine = r; wait = w } in x)
@@ -184,7 +184,7 @@ pub record WaitsFirst (o m : ℕ) (s : State) (w : Waiter) (ws : List Waiter) (r
   pub first : waiters o Side.Cond s.goroutines ≡ w ∷ ws
 
 pub passed : (o m : ℕ) (s : State) (w : Waiter) (ws : List Waiter) (r : Option GoroutineView) (x : Option Object)
-    → WaitsFirst o m s w ws r x → Passed o m s (pass_on w.number m r x s) ws
+    → WaitsFirst o m s w ws r x → Passed o m s (requeue w.number m r x s) ws
 passed o m s w ws (Some r) (Some (Object.Mutex false)) h = record {
   waiters = waiters-less o Side.Cond w.number (released r) refl 0 s.goroutines w ws h.rises refl h.first;
   tickets = omega arith;
@@ -218,7 +218,7 @@ waiters-count o side [] = omega arith
 waiters-count o side (e ∷ es) = let h = waiters-count o side es in omega
     (arith, enter-count (waiter_of o side e) (waiters o side es), h)
 
--- ---- who is passed on
+-- ---- who is requeued
 
 pub none-of : (m : Option Waiter) (r : Option Waiting) → r ≡ option_map waiting_of m → is_some r ≡ false → m ≡ None
 none-of None r e h = refl
@@ -251,14 +251,14 @@ notified-from all o gs r e h =
     let rest = notified-some all o gs w.0 w.1 in
     (w.0, rest.0, rest.1)
 
--- who runs still does once they are passed on
+-- who runs still does once they are requeued
 pub passes-run : (g m : ℕ) (ws : List Waiter) (s : State) → runs g s ≡ true
-    → runs g (apply_all (passes_on m ws) s) ≡ true
+    → runs g (apply_all (requeues m ws) s) ≡ true
 passes-run g m [] s h = h
-passes-run g m (w ∷ ws) s h = passes-run g m ws (pass_on w.number m (find w.number s.goroutines) (find m s.objects) s)
+passes-run g m (w ∷ ws) s h = passes-run g m ws (requeue w.number m (find w.number s.goroutines) (find m s.objects) s)
     (runs-passed g w.number m s h)
 
--- the goroutine in its turn has gone on, and then they are passed on
+-- the goroutine in its turn has gone on, and then they are requeued
 module _ (g after line : ℕ) (s t : State) (st : Stands g after s)
     (is : t ≡ does (λ a. stands a (went after 1 [] a.frame)) g line s) where
   pub gone-on : t ≡ apply_all (stands (actor_of st line) (went after 1 [] st.frame)) s
@@ -271,10 +271,10 @@ module _ (g after line : ℕ) (s t : State) (st : Stands g after s)
   count-same = ap (λ (u : State). length u.goroutines) gone-on
       ∙ length-put g (standing (actor_of st line) (went after 1 [] st.frame)) s.goroutines
 
-  pub passed-on : (all : Bool) (o m : ℕ) (u : State) → IsRising s.goroutines → runs g t ≡ true
-      → u ≡ apply_all (passes_on m (notified all o t.goroutines)) t
-      → (u ≡ apply_all (passes_on m (notified all o s.goroutines)) t) × (runs g u ≡ true)
-  passed-on all o m u rising ran e =
+  pub requeued : (all : Bool) (o m : ℕ) (u : State) → IsRising s.goroutines → runs g t ≡ true
+      → u ≡ apply_all (requeues m (notified all o t.goroutines)) t
+      → (u ≡ apply_all (requeues m (notified all o s.goroutines)) t) × (runs g u ≡ true)
+  requeued all o m u rising ran e =
       let same = notified-same all o g s t _ rising st.found refl refl (ap (λ (v : State). v.goroutines) gone-on) in
-      let then = e ∙ ap (λ (ws : List Waiter). apply_all (passes_on m ws) t) same in
+      let then = e ∙ ap (λ (ws : List Waiter). apply_all (requeues m ws) t) same in
       (then, ap (runs g) then ∙ passes-run g m (notified all o s.goroutines) t ran)

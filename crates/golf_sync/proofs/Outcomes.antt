@@ -6,15 +6,15 @@ use Rattle.golf_data.specs.declared.goroutine.Side.{Side}
 use Rattle.golf_data.specs.declared.goroutine.Wait.{Wait}
 use Rattle.golf_data.specs.declared.goroutine.WaitKind.{WaitKind}
 use Rattle.golf_model.specs.Views.{FrameView, GoroutineView}
-use Rattle.golf_model.specs.Acting.{Actor, blocks, choose}
-use Rattle.golf_model.specs.Waiting.{Waiter, first, waiter_ticket}
+use Rattle.golf_model.specs.Actors.{Actor, blocks, choose}
+use Rattle.golf_model.specs.Waiters.{Waiter, first, waiter_ticket}
 use Rattle.golf_model.specs.Mutexes.{hands_over}
 use Rattle.golf_model.specs.ReadersWriters.{to_readers, to_writer, serves_first, serves}
-use Rattle.golf_model.specs.Conditions.{passes_on}
+use Rattle.golf_model.specs.Conditions.{requeues}
 use Rattle.golf_state.specs.Outcomes.{has_block, outcome_of}
 use Rattle.golf_state.specs.declared.outcome.Outcome.{Outcome}
 
-pub passes-free : (m : ℕ) (ws : List Waiter) → has_block (passes_on m ws) ≡ false
+pub passes-free : (m : ℕ) (ws : List Waiter) → has_block (requeues m ws) ≡ false
 passes-free m [] = refl
 passes-free m (w ∷ ws) = passes-free m ws
 

@@ -6,16 +6,16 @@ use Rattle.std.specs.Prelude.{nat_lt, negsuc}
 use Rattle.golf_data.specs.declared.goroutine.Side.{Side}
 use Rattle.golf_data.specs.declared.value.Object.{Object}
 use Rattle.golf_model.specs.State.{State}
-use Rattle.golf_model.specs.Waiting.{Waiter, waiter_ticket, first}
+use Rattle.golf_model.specs.Waiters.{Waiter, waiter_ticket, first}
 use Rattle.golf_model.specs.Changes.{apply_all, replace}
-use Rattle.golf_model.specs.Waking.{Waking}
-use Rattle.golf_model.specs.Acting.{choose, stands}
+use Rattle.golf_model.specs.Wakes.{Waking}
+use Rattle.golf_model.specs.Actors.{choose, stands}
 use Rattle.golf_model.specs.ReadersWriters.{to_readers, to_writer, serves_first}
-use Rattle.golf_state.specs.Handing.{IsBlockedIn}
+use Rattle.golf_state.specs.MutexHandover.{IsBlockedIn}
 use Rattle.golf_state.specs.Waited.{waiting_of}
 use Rattle.golf_state.specs.declared.frames.Wakening.TheVariants as k
-use Rattle.golf_state.specs.Doing.{does, Stands}
-use Rattle.golf_state.specs.Going.{went}
+use Rattle.golf_state.specs.ActorChanges.{does, Stands}
+use Rattle.golf_state.specs.FrameChanges.{went}
 use Rattle.golf_state.specs.Looked.{runs}
 use Rattle.golf_state.proofs.Runnings.{runs-woken, runs-all}
 use Rattle.golf_state.proofs.Serving.{Beside, IsServed, beside-put, served-blocked, served-woken}

@@ -1,8 +1,8 @@
--- The waiters that are passed on from a condition to its mutex.
+-- The waiters that are requeued from a condition to its mutex.
 use Rattle.std.specs.Prelude.{ℕ, Bool, true, false, List}
 use Rattle.golf_data.specs.declared.goroutine.Side.{Side}
 use Rattle.golf_model.specs.Views.{GoroutineView}
-use Rattle.golf_model.specs.Waiting.{Waiter, first, waiters}
+use Rattle.golf_model.specs.Waiters.{Waiter, first, waiters}
 use Rattle.golf_model.specs.Conditions.{first_only}
 
 -- all waiters, or only the first one

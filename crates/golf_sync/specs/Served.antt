@@ -3,8 +3,8 @@ use Rattle.std.specs.Prelude.{ℕ, Bool, true, cond, List, Option, Some, None, p
 use Rattle.golf_data.specs.declared.value.Object.{Object}
 use Rattle.golf_model.specs.Views.{GoroutineView}
 use Rattle.golf_model.specs.State.{State}
-use Rattle.golf_model.specs.Waiting.{Waiter, waiter_ticket}
-use Rattle.golf_model.specs.Waking.{Waking, released}
+use Rattle.golf_model.specs.Waiters.{Waiter, waiter_ticket}
+use Rattle.golf_model.specs.Wakes.{Waking, released}
 use Rattle.golf_model.specs.Changes.{become, replace, wake_all}
 use Rattle.golf_model.specs.ReadersWriters.{readers_next}
 use Rattle.golf_state.specs.Looked.{looked_up, is_blocked}

@@ -6,11 +6,11 @@
 ghost use Rattle.std.specs.Prelude.{◌≡◌, ◌+◌, ◌<◌, ◌^◌, ◌++◌, IfOk, OnErr, IsSome, drop, length};
 ghost use Rattle.golf_theory.specs.Maps.{find, IsRising};
 ghost use Rattle.golf_model.specs.Changes.{apply_all};
-ghost use Rattle.golf_model.specs.Acting.{goes, taking_one, at_reference, at_mutex, at_condition};
-ghost use Rattle.golf_model.specs.Waiting.{first, waiters};
-ghost use Rattle.golf_model.specs.Conditions.{awaits, awaits_by, signals, broadcasts, notifies, first_only, passes_on};
+ghost use Rattle.golf_model.specs.Actors.{goes, taking_one, at_reference, at_mutex, at_condition};
+ghost use Rattle.golf_model.specs.Waiters.{first, waiters};
+ghost use Rattle.golf_model.specs.Conditions.{awaits, awaits_by, signals, broadcasts, notifies, first_only, requeues};
 ghost use Rattle.golf_data.specs.declared.goroutine.Side.{Side};
-ghost use Rattle.golf_state.specs.Doing.{Stands};
+ghost use Rattle.golf_state.specs.ActorChanges.{Stands};
 ghost use Rattle.golf_state.specs.Outcomes.{Comes};
 ghost use Rattle.golf_sync.specs.Objects.{mutex_of};
 ghost use Rattle.golf_sync.specs.Notified.{notified};
@@ -96,23 +96,23 @@ pub fn cond_wait(alloc: Global, state: &mut State, acting: Acting) -> Result<Out
 }
 
 // Passes all waiters of a condition on to a mutex, by rising ticket. It takes no memory.
-fn pass_all(state: &mut State, condition: ObjectId, mutex: ObjectId)
+fn requeue_all(state: &mut State, condition: ObjectId, mutex: ObjectId)
     requires tickets { state.old.next_ticket + length state.old.goroutines < 2 ^ 64 }
     requires mutex { IsSome (mutex_of (find mutex.0 state.old.objects)) }
-    ensures { state.new ≡ apply_all (passes_on mutex.0 (waiters condition.0 Side.Cond state.old.goroutines)) state.old }
+    ensures { state.new ≡ apply_all (requeues mutex.0 (waiters condition.0 Side.Cond state.old.goroutines)) state.old }
 {
     while let Some(waiting) = state.first_waiter(condition, Side::Cond) {
-        state.pass_on(waiting.goroutine, mutex);
+        state.requeue(waiting.goroutine, mutex);
     }
 }
 
 // Passes the first waiter of a condition on to a mutex. It takes no memory.
-fn pass_first(state: &mut State, condition: ObjectId, mutex: ObjectId)
+fn requeue_first(state: &mut State, condition: ObjectId, mutex: ObjectId)
     requires { state.old.next_ticket + length state.old.goroutines < 2 ^ 64 }
-    ensures { state.new ≡ apply_all (passes_on mutex.0 (first_only (first condition.0 Side.Cond state.old.goroutines))) state.old }
+    ensures { state.new ≡ apply_all (requeues mutex.0 (first_only (first condition.0 Side.Cond state.old.goroutines))) state.old }
 {
     if let Some(waiting) = state.first_waiter(condition, Side::Cond) {
-        state.pass_on(waiting.goroutine, mutex);
+        state.requeue(waiting.goroutine, mutex);
     }
 }
 
@@ -127,16 +127,16 @@ fn notify_with(
     requires stands { Stands acting.goroutine.0 acting.after state.old }
     requires tickets { state.old.next_ticket + length state.old.goroutines < 2 ^ 64 }
     requires rises { IsRising state.old.goroutines }
-    ensures { Comes result (λ a. at_mutex (λ locked. goes a (drop 1 a.frame.operands) ++ passes_on mutex.0 (notified all condition.0 state.old.goroutines)) (find mutex.0 state.old.objects)) acting.goroutine.0 acting.line state.old state.new }
+    ensures { Comes result (λ a. at_mutex (λ locked. goes a (drop 1 a.frame.operands) ++ requeues mutex.0 (notified all condition.0 state.old.goroutines)) (find mutex.0 state.old.objects)) acting.goroutine.0 acting.line state.old state.new }
 {
     if mutex_at(state, mutex).is_none() {
         return Outcome::Stuck;
     }
     proceed(state, acting, acting.after, 1);
     if all {
-        pass_all(state, condition, mutex);
+        requeue_all(state, condition, mutex);
     } else {
-        pass_first(state, condition, mutex);
+        requeue_first(state, condition, mutex);
     }
     Outcome::Done
 }

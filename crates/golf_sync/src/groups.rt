@@ -4,10 +4,10 @@
 
 ghost use Rattle.std.specs.Prelude.{◌≡◌, IfOk, OnErr, drop};
 ghost use Rattle.golf_theory.specs.Maps.{find};
-ghost use Rattle.golf_model.specs.Acting.{at_group, at_reference};
-ghost use Rattle.golf_model.specs.Calculating.{sum};
+ghost use Rattle.golf_model.specs.Actors.{at_group, at_reference};
+ghost use Rattle.golf_model.specs.Arithmetic.{sum};
 ghost use Rattle.golf_model.specs.Mutexes.{adds, counts, waits, waits_by};
-ghost use Rattle.golf_state.specs.Doing.{Stands};
+ghost use Rattle.golf_state.specs.ActorChanges.{Stands};
 ghost use Rattle.golf_state.specs.Outcomes.{Comes};
 
 use crate::objects::group_at;

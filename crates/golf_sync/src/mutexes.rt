@@ -3,11 +3,11 @@
 
 ghost use Rattle.std.specs.Prelude.{◌≡◌, IfOk, OnErr, drop, true};
 ghost use Rattle.golf_theory.specs.Maps.{find};
-ghost use Rattle.golf_model.specs.Acting.{at_mutex};
+ghost use Rattle.golf_model.specs.Actors.{at_mutex};
 ghost use Rattle.golf_model.specs.Mutexes.{locks, locks_by, unlocks, unlocks_by};
-ghost use Rattle.golf_state.specs.Doing.{Stands};
+ghost use Rattle.golf_state.specs.ActorChanges.{Stands};
 ghost use Rattle.golf_state.specs.Outcomes.{Comes};
-ghost use Rattle.golf_state.specs.Handing.{is_blocked_where, handed_over};
+ghost use Rattle.golf_state.specs.MutexHandover.{is_blocked_where, handed_over};
 
 use crate::objects::{mutex_at, put_mutex};
 use golf_base::{Memory, ObjectId};

@@ -5,14 +5,14 @@
 ghost use Rattle.std.specs.Prelude.{◌≡◌, ◌||◌, IfOk, OnErr, drop, true, is_some};
 ghost use Rattle.golf_model.specs.Values.{is_minus_one};
 ghost use Rattle.golf_theory.specs.Maps.{find};
-ghost use Rattle.golf_model.specs.Acting.{at_rw};
-ghost use Rattle.golf_model.specs.Waiting.{first};
+ghost use Rattle.golf_model.specs.Actors.{at_rw};
+ghost use Rattle.golf_model.specs.Waiters.{first};
 ghost use Rattle.golf_model.specs.ReadersWriters.{write_locks, write_locks_by, write_unlocks, write_unlocks_by};
 ghost use Rattle.golf_model.specs.ReadersWriters.{read_locks, read_locks_by, read_unlocks, read_unlocks_by};
 ghost use Rattle.golf_data.specs.declared.goroutine.Side.{Side};
-ghost use Rattle.golf_state.specs.Doing.{Stands};
+ghost use Rattle.golf_state.specs.ActorChanges.{Stands};
 ghost use Rattle.golf_state.specs.Outcomes.{Comes};
-ghost use Rattle.golf_state.specs.Handing.{IsBlockedIn};
+ghost use Rattle.golf_state.specs.MutexHandover.{IsBlockedIn};
 ghost use Rattle.golf_sync.specs.Served.{readers_of, next_in, served_by, is_ready_for};
 
 use crate::objects::rw_at;

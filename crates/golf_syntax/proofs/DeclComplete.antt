@@ -32,19 +32,21 @@ use Rattle.golf_syntax_trees.specs.Declarations.{print_const, text, print_import
 use Rattle.golf_syntax_trees.specs.Declarations.{print_decl, field_good, func_good, decl_good}
 use Rattle.golf_syntax_expressions.specs.Plan.{◌>>=◌}
 use Rattle.golf_syntax_expressions.specs.Front.{after, after_kind, after_keyword, name_at, name_of}
-use Rattle.golf_syntax_expressions.specs.TypeReading.{type_at, OfType}
+use Rattle.golf_syntax_expressions.specs.TypeReader.{type_at, OfType}
 use Rattle.golf_syntax_expressions.proofs.Fronts.{both, Spelt, nothing, punctuation-then, split, first, ends}
 use Rattle.golf_syntax_expressions.proofs.Fronts.{behind-punctuation, behind-keyword, behind-name, not-after}
 use Rattle.golf_syntax_expressions.proofs.Fronts.{after-shorter, name-shorter}
 use Rattle.golf_syntax_expressions.proofs.ExprFronts.{then}
 use Rattle.golf_syntax_expressions.proofs.TypeLaws.{type-complete}
 use Rattle.golf_syntax_expressions.proofs.TypeSteps.{type-starts}
-use Rattle.golf_syntax_statements.specs.VarReading.{var_at}
-use Rattle.golf_syntax_statements.specs.StmtReading.{found, block_at}
+use Rattle.golf_syntax_statements.specs.VariableReader.{var_at}
+use Rattle.golf_syntax_statements.specs.StatementReader.{found, block_at}
 use Rattle.golf_syntax.specs.Many.{list_at}
-use Rattle.golf_syntax.specs.DeclReading.{text_of, text_at, import_by, import_at, integer_of, negative_at, const_of}
-use Rattle.golf_syntax.specs.DeclReading.{const_at, names_by, names_in, names_at, field_at, receiver_by, result_by}
-use Rattle.golf_syntax.specs.DeclReading.{func_behind, func_at, decl_from, decl_kind, decl_at}
+use Rattle.golf_syntax.specs.DeclarationReader.{text_of, text_at, import_by, import_at, integer_of, negative_at}
+use Rattle.golf_syntax.specs.DeclarationReader.{const_of}
+use Rattle.golf_syntax.specs.DeclarationReader.{const_at, names_by, names_in, names_at, field_at, receiver_by}
+use Rattle.golf_syntax.specs.DeclarationReader.{result_by}
+use Rattle.golf_syntax.specs.DeclarationReader.{func_behind, func_at, decl_from, decl_kind, decl_at}
 use Rattle.golf_syntax_statements.proofs.Nothing.{semicolon, stops}
 use Rattle.golf_syntax_statements.proofs.VarLaws.{var-complete}
 use Rattle.golf_syntax_statements.proofs.StmtComplete.{block-complete}

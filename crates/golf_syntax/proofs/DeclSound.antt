@@ -33,18 +33,21 @@ use Rattle.golf_syntax_trees.specs.Declarations.{print_const, text, print_import
 use Rattle.golf_syntax_trees.specs.Declarations.{print_decl, field_good, decl_good}
 use Rattle.golf_syntax_expressions.specs.Plan.{◌>>=◌, run, given}
 use Rattle.golf_syntax_expressions.specs.Front.{after, after_keyword, name_at}
-use Rattle.golf_syntax_expressions.specs.TypeReading.{type_at, OfType}
+use Rattle.golf_syntax_expressions.specs.TypeReader.{type_at, OfType}
 use Rattle.golf_syntax_expressions.proofs.Plans.{bind_some}
 use Rattle.golf_syntax_expressions.proofs.Fronts.{some-same, and-true, Spelt, nothing, kind-then, punctuation-then}
 use Rattle.golf_syntax_expressions.proofs.Fronts.{keyword-then, name-then, join}
 use Rattle.golf_syntax_expressions.proofs.TypeLaws.{type-sound}
 use Rattle.golf_syntax_expressions.proofs.SimpleLines.{on-line-then}
-use Rattle.golf_syntax_statements.specs.VarReading.{var_at}
-use Rattle.golf_syntax_statements.specs.StmtReading.{body, found, stmt_at, Body, block_at}
+use Rattle.golf_syntax_statements.specs.VariableReader.{var_at}
+use Rattle.golf_syntax_statements.specs.StatementReader.{body, found, stmt_at, Body, block_at}
 use Rattle.golf_syntax.specs.Many.{list_at}
-use Rattle.golf_syntax.specs.DeclReading.{text_of, text_at, import_by, import_at, integer_of, negative_at, const_of}
-use Rattle.golf_syntax.specs.DeclReading.{const_at, names_by, names_in, names_at, field_at, receiver_by, result_by}
-use Rattle.golf_syntax.specs.DeclReading.{func_behind, func_at, const_decl, struct_decl, decl_from, decl_kind, decl_at}
+use Rattle.golf_syntax.specs.DeclarationReader.{text_of, text_at, import_by, import_at, integer_of, negative_at}
+use Rattle.golf_syntax.specs.DeclarationReader.{const_of}
+use Rattle.golf_syntax.specs.DeclarationReader.{const_at, names_by, names_in, names_at, field_at, receiver_by}
+use Rattle.golf_syntax.specs.DeclarationReader.{result_by}
+use Rattle.golf_syntax.specs.DeclarationReader.{func_behind, func_at, const_decl, struct_decl, decl_from, decl_kind}
+use Rattle.golf_syntax.specs.DeclarationReader.{decl_at}
 use Rattle.golf_syntax_statements.proofs.VarLaws.{var-sound}
 use Rattle.golf_syntax_statements.proofs.StmtSound.{body-sound}
 use Rattle.golf_syntax.proofs.ManyLaws.{AreItems, list-sound}

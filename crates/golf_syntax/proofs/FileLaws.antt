@@ -11,19 +11,20 @@ use Rattle.golf_syntax_trees.specs.declared.declarations.Import.{Import}
 use Rattle.golf_syntax_trees.specs.declared.declarations.Decl.{Decl}
 use Rattle.golf_syntax_trees.specs.declared.declarations.File.{File}
 use Rattle.golf_syntax_trees.specs.Words as words
-use Rattle.golf_syntax_trees.specs.Words.{Word, closed, Spells}
+use Rattle.golf_syntax_trees.specs.Words.{Word, closed, SpellsWords}
 use Rattle.golf_syntax_trees.specs.Declarations.{package_words, print_import, print_decl, print_file, decl_good}
-use Rattle.golf_syntax_trees.specs.Segments.{before_segment, depth_behind, ends_segment, segments, BeginsOn, IsWhole}
+use Rattle.golf_syntax_trees.specs.Segments.{before_segment, depth_behind, ends_segment, segments, BeginsOn}
+use Rattle.golf_syntax_trees.specs.Segments.{IsWholeSegment}
 use Rattle.golf_syntax_trees.specs.Segments.{BreaksOn, FileBreaksOn}
 use Rattle.golf_syntax_trees.specs.Reads.{no_counts, is_affordable, first_too_complex, ReadsTokens, BrokenOn, FaultOn}
 use Rattle.golf_syntax_expressions.proofs.Fronts.{both, and-true}
-use Rattle.golf_syntax_segments.specs.Cut.{Cut}
-use Rattle.golf_syntax_segments.specs.Laws.{Ended, DeclSegments, ImportSegments, FileSegments}
+use Rattle.golf_syntax_segments.specs.Cut.{CutsOff}
+use Rattle.golf_syntax_segments.specs.Laws.{EndedBySemicolon, DeclSegments, ImportSegments, FileSegments}
 use Rattle.golf_syntax_segments.proofs.CostLaws.{Costs, costs-same}
 use Rattle.golf_syntax_segments.proofs.Spelling.{join, longer, closing}
 use Rattle.golf_syntax_segments.proofs.Whole.{imports-are, decls-are, files-are, taken}
-use Rattle.golf_syntax.specs.SegmentReading.{import_of, decl_of, is_package}
-use Rattle.golf_syntax.specs.Parses.{Parsed, Accepts, Refuses, NoImport, Imported, Declared, FirstLine}
+use Rattle.golf_syntax.specs.SegmentReader.{import_of, decl_of, is_package}
+use Rattle.golf_syntax.specs.Parses.{Parsed, AcceptsTokens, RefusesTokens, NoImport, Imported, Declared, FirstLine}
 use Rattle.golf_syntax.specs.declared.parser.SyntaxFault.{SyntaxFault}
 use Rattle.golf_syntax.specs.declared.parser.SyntaxFault.TheVariants as faults
 use Rattle.golf_syntax.proofs.SegmentLaws.{import-found, import-read, decl-found, decl-read, no-import, no-decl}
@@ -43,32 +44,32 @@ begins-on : (p : List Token) (line : ℕ) → (p ≡ [] → ⊥) → FirstLine p
 begins-on [] line some f = absurd (some refl)
 begins-on (t ∷ ts) line some f = f
 
-first-begins : (ts p rest : List Token) (line : ℕ) → Cut ts p rest → FirstLine p line → BeginsOn line p
+first-begins : (ts p rest : List Token) (line : ℕ) → CutsOff ts p rest → FirstLine p line → BeginsOn line p
 first-begins ts p rest line c f = begins-on p line
     (λ e. no-empty ts (segments 0 rest) (c.segments ∙ ap (λ q. q ∷ segments 0 rest) e)) f
 
 abbrev Ended-up-to : List Word → List Token → List Token → Type 0
-Ended-up-to ws ts mid = Spells (ws ++ words.punctuation punctuations.Semicolon ∷ []) ts mid
+Ended-up-to ws ts mid = SpellsWords (ws ++ words.punctuation punctuations.Semicolon ∷ []) ts mid
 
 -- one printed text more
-behind-closed : (ws vs : List Word) (ts mid rest : List Token) → Ended-up-to ws ts mid → Spells vs mid rest
-    → Spells (ws ++ words.punctuation punctuations.Semicolon ∷ vs) ts rest
+behind-closed : (ws vs : List Word) (ts mid rest : List Token) → Ended-up-to ws ts mid → SpellsWords vs mid rest
+    → SpellsWords (ws ++ words.punctuation punctuations.Semicolon ∷ vs) ts rest
 behind-closed [] vs [] mid rest h k = absurd h
-behind-closed [] vs (t ∷ ts) mid rest h k = (h.0, subst (λ us. Spells vs us rest) (sym h.1) k)
+behind-closed [] vs (t ∷ ts) mid rest h k = (h.0, subst (λ us. SpellsWords vs us rest) (sym h.1) k)
 behind-closed (w ∷ ws) vs [] mid rest h k = absurd h
 behind-closed (w ∷ ws) vs (t ∷ ts) mid rest h k = (h.0, behind-closed ws vs ts mid rest h.1 k)
 
 module _ (A : Type 0) (print : A → List Word) where
-  closed-more : (xs : List A) (x : A) (ts mid rest : List Token) → Spells (closed (map print xs)) ts mid
-      → Ended-up-to (print x) mid rest → Spells (closed (map print (xs ++ x ∷ []))) ts rest
+  closed-more : (xs : List A) (x : A) (ts mid rest : List Token) → SpellsWords (closed (map print xs)) ts mid
+      → Ended-up-to (print x) mid rest → SpellsWords (closed (map print (xs ++ x ∷ []))) ts rest
   closed-more [] x ts mid rest h k = subst (λ us. Ended-up-to (print x) us rest) (sym h) k
   closed-more (y ∷ ys) x ts mid rest h k =
       let c = closing (print y) (closed (map print ys)) ts mid h in
       behind-closed (print y) (closed (map print (ys ++ x ∷ []))) ts c.0 rest c.1 (closed-more ys x c.0 mid rest c.2 k)
 
   -- a segment more
-  pub one-more : (xs : List A) (x : A) (ts left p rest : List Token) → Spells (closed (map print xs)) ts left
-      → Cut left p rest → Ended (print x) p → Spells (closed (map print (xs ++ x ∷ []))) ts rest
+  pub one-more : (xs : List A) (x : A) (ts left p rest : List Token) → SpellsWords (closed (map print xs)) ts left
+      → CutsOff left p rest → EndedBySemicolon (print x) p → SpellsWords (closed (map print (xs ++ x ∷ []))) ts rest
   one-more xs x ts left p rest h c k = closed-more xs x ts left rest h
       (subst (λ us. Ended-up-to (print x) us rest) (sym c.whole)
       (longer (print x ++ words.punctuation punctuations.Semicolon ∷ []) p [] rest k))
@@ -81,26 +82,26 @@ all-more (y ∷ ys) x h k = let a = both (decl_good y) (list_all decl_good ys) h
 
 -- imports
 pub import-more : (xs : List Import) (x : Import) (ts left p rest : List Token)
-    → Spells (closed (map print_import xs)) ts left → Cut left p rest → import_of p ≡ Some x
-    → Spells (closed (map print_import (xs ++ x ∷ []))) ts rest
+    → SpellsWords (closed (map print_import xs)) ts left → CutsOff left p rest → import_of p ≡ Some x
+    → SpellsWords (closed (map print_import (xs ++ x ∷ []))) ts rest
 import-more xs x ts left p rest h c e = one-more Import print_import xs x ts left p rest h c (import-found p x e)
 
-pub imports-end : (xs : List Import) (ts left p rest : List Token) → Spells (closed (map print_import xs)) ts left
-    → Cut left p rest → import_of p ≡ None → Imported ts xs left
+pub imports-end : (xs : List Import) (ts left p rest : List Token) → SpellsWords (closed (map print_import xs)) ts left
+    → CutsOff left p rest → import_of p ≡ None → Imported ts xs left
 imports-end xs ts left p rest h c e = record { words = h; over = subst NoImport (sym c.segments) (no-import p e) }
 
 -- declarations
 pub record Known (ts : List Token) (xs : List Decl) (left : List Token) : Type 0 where
-  pub words : Spells (closed (map print_decl xs)) ts left
+  pub words : SpellsWords (closed (map print_decl xs)) ts left
   pub good : list_all decl_good xs ≡ true
 
-pub decl-more : (xs : List Decl) (x : Decl) (ts left p rest : List Token) → Known ts xs left → Cut left p rest
+pub decl-more : (xs : List Decl) (x : Decl) (ts left p rest : List Token) → Known ts xs left → CutsOff left p rest
     → decl_of p ≡ Some x → Known ts (xs ++ x ∷ []) rest
 decl-more xs x ts left p rest h c e =
     let k = decl-found p x e in
     record { words = one-more Decl print_decl xs x ts left p rest h.words c k.0; good = all-more xs x h.good k.1 }
 
-breaks-behind : (xs : List Decl) (ts mid : List Token) (line : ℕ) → Spells (closed (map print_decl xs)) ts mid
+breaks-behind : (xs : List Decl) (ts mid : List Token) (line : ℕ) → SpellsWords (closed (map print_decl xs)) ts mid
     → list_all decl_good xs ≡ true → BreaksOn true (segments 0 mid) line → BreaksOn true (segments 0 ts) line
 breaks-behind [] ts mid line h good b = subst (λ us. BreaksOn true (segments 0 us) line) (sym h) b
 breaks-behind (x ∷ xs) ts mid line h good b =
@@ -113,13 +114,13 @@ breaks-behind (x ∷ xs) ts mid line h good b =
 true-no-false : ◌≡◌ {A = Bool} true false → ⊥
 true-no-false e = cc
 
-pub decls-broken : (xs : List Decl) (ts left p rest : List Token) (line : ℕ) → Known ts xs left → Cut left p rest
+pub decls-broken : (xs : List Decl) (ts left p rest : List Token) (line : ℕ) → Known ts xs left → CutsOff left p rest
     → decl_of p ≡ None → FirstLine p line → Declared ts (Err (faults.At line))
 decls-broken xs ts left p rest line h c e f =
     breaks-behind xs ts left line h.words h.good
     (subst (λ ps. BreaksOn true ps line) (sym c.segments) (inl (neither, first-begins left p rest line c f)))
   where
-    neither : IsWhole true p → ⊥
+    neither : IsWholeSegment true p → ⊥
     neither (inl i) = true-no-false i.1
     neither (inr x) = no-decl p e x
 
@@ -128,13 +129,13 @@ not-declared : (ps : List (List Token)) (line : ℕ) → NoImport ps → BreaksO
 not-declared [] line n b = b
 not-declared (p ∷ ps) line n (inl b) = inl (neither, b.1)
   where
-    neither : IsWhole false p → ⊥
+    neither : IsWholeSegment false p → ⊥
     neither (inl i) = n i.0
     neither (inr x) = b.0 (inr x)
 not-declared (p ∷ ps) line n (inr (inl b)) = absurd (true-no-false b.0.1)
 not-declared (p ∷ ps) line n (inr (inr b)) = inr (inr b)
 
-behind-imports : (xs : List Import) (ts mid : List Token) (line : ℕ) → Spells (closed (map print_import xs)) ts mid
+behind-imports : (xs : List Import) (ts mid : List Token) (line : ℕ) → SpellsWords (closed (map print_import xs)) ts mid
     → BreaksOn false (segments 0 mid) line → BreaksOn false (segments 0 ts) line
 behind-imports [] ts mid line h b = subst (λ us. BreaksOn false (segments 0 us) line) (sym h) b
 behind-imports (x ∷ xs) ts mid line h b =
@@ -204,7 +205,7 @@ broken : (ts : List Token) (line : ℕ) → first_too_complex no_counts ts ≡ N
 broken ts line c b = (unread ts line b, subst (λ o. FaultOn o ts line) (sym c) (broken-on ts line b))
 
 no-decls : (ts p rest left : List Token) (is : List Import) (line : ℕ) → first_too_complex no_counts ts ≡ None
-    → Cut ts p rest → is_package p ≡ true → Imported rest is left → Declared left (Err (faults.At line))
+    → CutsOff ts p rest → is_package p ≡ true → Imported rest is left → Declared left (Err (faults.At line))
     → Parsed ts (Err (faults.At line))
 no-decls ts p rest left is line c cut main i b =
     broken ts line c (subst (λ ps. FileBreaksOn ps line) (sym cut.segments)
@@ -215,7 +216,7 @@ no-decls ts p rest left is line c cut main i b =
     )))
 
 pub not-read : (ts p rest left : List Token) (is : List Import) (fault : SyntaxFault)
-    → first_too_complex no_counts ts ≡ None → Cut ts p rest → is_package p ≡ true → Imported rest is left
+    → first_too_complex no_counts ts ≡ None → CutsOff ts p rest → is_package p ≡ true → Imported rest is left
     → Declared left (Err fault) → Parsed ts (Err fault)
 not-read ts p rest left is (faults.At line) c cut main i b = no-decls ts p rest left is line c cut main i b
 not-read ts p rest left is faults.Memory c cut main i b = tt
@@ -223,16 +224,17 @@ not-read ts p rest left is faults.Memory c cut main i b = tt
 abbrev file : List Import → List Decl → File
 file is ds = record { imports = is; declarations = ds }
 
-prints : (ts p rest left : List Token) (is : List Import) (ds : List Decl) → Cut ts p rest → is_package p ≡ true
-    → Imported rest is left → Declared left (Ok ds) → Spells (print_file (file is ds)) ts []
+prints : (ts p rest left : List Token) (is : List Import) (ds : List Decl) → CutsOff ts p rest → is_package p ≡ true
+    → Imported rest is left → Declared left (Ok ds) → SpellsWords (print_file (file is ds)) ts []
 prints ts p rest left is ds cut main i k =
     join package_words (closed (map print_import is) ++ closed (map print_decl ds)) ts rest []
-    (subst (λ us. Spells package_words us rest) (sym cut.whole)
+    (subst (λ us. SpellsWords package_words us rest) (sym cut.whole)
     (longer package_words p [] rest (package-found p main)))
     (join (closed (map print_import is)) (closed (map print_decl ds)) rest left [] i.words k.0)
 
 pub all-read : (ts p rest left : List Token) (is : List Import) (ds : List Decl) → first_too_complex no_counts ts ≡ None
-    → Cut ts p rest → is_package p ≡ true → Imported rest is left → Declared left (Ok ds) → Parsed ts (Ok (file is ds))
+    → CutsOff ts p rest → is_package p ≡ true → Imported rest is left → Declared left (Ok ds)
+    → Parsed ts (Ok (file is ds))
 all-read ts p rest left is ds c cut main i k =
     let spelt = prints ts p rest left is ds cut main i k in
     record {
@@ -248,10 +250,12 @@ all-read ts p rest left is ds c cut main i k =
 never-none : {A : Type 0} (x y : A) → Some x ≡ Some y → x ≡ y
 never-none x y e = cc
 
-same-import : (p : List Token) (i j : Import) → Ended (print_import i) p → Ended (print_import j) p → i ≡ j
+same-import : (p : List Token) (i j : Import) → EndedBySemicolon (print_import i) p
+    → EndedBySemicolon (print_import j) p → i ≡ j
 same-import p i j h k = never-none i j (sym (import-read p i h) ∙ import-read p j k)
 
-same-decl : (p : List Token) (x y : Decl) → Ended (print_decl x) p → Ended (print_decl y) p → decl_good x ≡ true
+same-decl : (p : List Token) (x y : Decl) → EndedBySemicolon (print_decl x) p → EndedBySemicolon (print_decl y) p
+    → decl_good x ≡ true
     → decl_good y ≡ true → x ≡ y
 same-decl p x y h k g l = never-none x y (sym (decl-read p x h g) ∙ decl-read p y k l)
 
@@ -303,12 +307,12 @@ pub one-reads : (ts : List Token) (f g : File) → ReadsTokens ts f → ReadsTok
 one-reads ts f g r s = same-file f g (segments 0 ts) r.form.good s.form.good (files-are f ts r.prints)
     (files-are g ts s.prints)
 
-pub accepts : (ts : List Token) (result : Result File SyntaxFault) → Parsed ts result → Accepts ts result
+pub accepts : (ts : List Token) (result : Result File SyntaxFault) → Parsed ts result → AcceptsTokens ts result
 accepts ts (Ok f) a = λ g r. inl (ap Ok (one-reads ts f g a r))
 accepts ts (Err (faults.At line)) a = λ g r. absurd (a.0 g r)
 accepts ts (Err faults.Memory) a = λ g r. inr refl
 
-pub refuses : (ts : List Token) (result : Result File SyntaxFault) → Parsed ts result → Refuses ts result
+pub refuses : (ts : List Token) (result : Result File SyntaxFault) → Parsed ts result → RefusesTokens ts result
 refuses ts (Ok f) a = λ n. absurd (n f a)
 refuses ts (Err (faults.At line)) a = λ n. inl (line, refl, a.1)
 refuses ts (Err faults.Memory) a = λ n. inr refl

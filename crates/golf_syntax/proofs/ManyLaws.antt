@@ -15,9 +15,9 @@ use Rattle.golf_syntax_expressions.proofs.Fronts.{some-same, both, and-true, Spe
 use Rattle.golf_syntax_expressions.proofs.Fronts.{split, ends, behind-punctuation, after-shorter}
 use Rattle.golf_syntax_expressions.proofs.ExprFronts.{then}
 use Rattle.golf_syntax_statements.proofs.StmtSteps.{spelt-within}
-use Rattle.golf_syntax.specs.Many.{Item, many_behind, many_in, many_at, list_by, list_at}
+use Rattle.golf_syntax.specs.Many.{Listed, many_behind, many_in, many_at, list_by, list_at}
 
-module _ (A : Type 0) (item : Item A) (print : A → List Word) (good : A → Bool) (sep close : Punctuation) where
+module _ (A : Type 0) (item : Listed A) (print : A → List Word) (good : A → Bool) (sep close : Punctuation) where
   -- one item in these tokens, up to those that are left
   pub record IsItem (ts : List Token) (x : A × List Token) : Type 0 where
     pub words : Spelt (print x.0) ts x.1

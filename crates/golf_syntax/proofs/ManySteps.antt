@@ -10,16 +10,16 @@ use Rattle.golf_syntax_expressions.specs.Plan.{◌>>=◌}
 use Rattle.golf_syntax_expressions.specs.Front.{after, name_at}
 use Rattle.golf_syntax_expressions.proofs.Fronts.{after-shorter, name-shorter}
 use Rattle.golf_syntax_statements.proofs.StmtSteps.{spelt-within}
-use Rattle.golf_syntax.specs.Many.{Item, many_behind, many_in, many_at, list_by, list_at}
-use Rattle.golf_syntax.specs.DeclReading.{text_at, names_by, names_in, names_at, field_at}
+use Rattle.golf_syntax.specs.Many.{Listed, many_behind, many_in, many_at, list_by, list_at}
+use Rattle.golf_syntax.specs.DeclarationReader.{text_at, names_by, names_in, names_at, field_at}
 use Rattle.golf_syntax.proofs.DeclSound.{text-sound, field-sound}
 
-abbrev Shrinks : {A : Type 0} → Item A → Type 0
+abbrev Shrinks : {A : Type 0} → Listed A → Type 0
 Shrinks {A} item = (ts : List Token) (x : A × List Token) → item ts ≡ Some x → length x.1 ≤ length ts
 
-module _ (A : Type 0) (item : Item A) (sep close : Punctuation) (shrinks : Shrinks item) where
+module _ (A : Type 0) (item : Listed A) (sep close : Punctuation) (shrinks : Shrinks item) where
   -- the number of items allowed does not matter if there are more than tokens
-  same-behind : (done : List A) (ts us : List Token) (again other : Item (List A)) (o : Option (List Token))
+  same-behind : (done : List A) (ts us : List Token) (again other : Listed (List A)) (o : Option (List Token))
       → after sep us ≡ o → length us ≤ length ts →
       ((vs : List Token) → length vs < length ts → again vs ≡ other vs)
       → many_behind close done us again o ≡ many_behind close done us other o

@@ -16,7 +16,7 @@ use Rattle.golf_syntax_trees.specs.declared.declarations.Import.TheVariants as i
 use Rattle.golf_syntax_trees.specs.declared.declarations.Decl.{Decl}
 use Rattle.golf_syntax_trees.specs.declared.declarations.Decl.TheVariants as d
 use Rattle.golf_syntax_trees.specs.Words as words
-use Rattle.golf_syntax_trees.specs.Words.{Word, Spells}
+use Rattle.golf_syntax_trees.specs.Words.{Word, SpellsWords}
 use Rattle.golf_syntax_trees.specs.Declarations.{print_import, print_decl, decl_good}
 use Rattle.golf_syntax_trees.specs.Segments.{IsPackage, IsImport, IsDecl}
 use Rattle.golf_syntax_expressions.specs.Plan.{◌>>=◌}
@@ -25,25 +25,26 @@ use Rattle.golf_syntax_expressions.proofs.Plans.{bind_some}
 use Rattle.golf_syntax_expressions.proofs.Fronts.{some-same, both, nothing, punctuation-then, keyword-then, name-then}
 use Rattle.golf_syntax_expressions.proofs.Fronts.{behind-punctuation, ends}
 use Rattle.golf_syntax_expressions.proofs.ExprFronts.{then}
-use Rattle.golf_syntax_segments.specs.Laws.{Ended}
+use Rattle.golf_syntax_segments.specs.Laws.{EndedBySemicolon}
 use Rattle.golf_syntax_segments.proofs.Spelling.{split, join}
-use Rattle.golf_syntax.specs.DeclReading.{import_at, decl_at}
-use Rattle.golf_syntax.specs.SegmentReading.{is_last, is_end, alone, import_by_word, import_of, decl_of, is_main}
-use Rattle.golf_syntax.specs.SegmentReading.{is_package}
+use Rattle.golf_syntax.specs.DeclarationReader.{import_at, decl_at}
+use Rattle.golf_syntax.specs.SegmentReader.{is_last, is_end, alone, import_by_word, import_of, decl_of, is_main}
+use Rattle.golf_syntax.specs.SegmentReader.{is_package}
 use Rattle.golf_syntax.proofs.Found.{imports-found, imports-read, declarations-found, declarations-read}
 
 abbrev semicolon : List Word
 semicolon = words.punctuation punctuations.Semicolon ∷ []
 
-end-spelt : (ts : List Token) → is_end ts ≡ true → Spells semicolon ts []
+end-spelt : (ts : List Token) → is_end ts ≡ true → SpellsWords semicolon ts []
 end-spelt ts e = at (after punctuations.Semicolon ts) refl e
   where
-    at : (o : Option (List Token)) → after punctuations.Semicolon ts ≡ o → is_last o ≡ true → Spells semicolon ts []
+    at : (o : Option (List Token)) → after punctuations.Semicolon ts ≡ o → is_last o ≡ true
+        → SpellsWords semicolon ts []
     at (Some []) q f = (punctuation-then punctuations.Semicolon ts q nothing).are
     at (Some (u ∷ us)) q f = cc
     at None q f = cc
 
-spelt-end : (ts : List Token) → Spells semicolon ts [] → is_end ts ≡ true
+spelt-end : (ts : List Token) → SpellsWords semicolon ts [] → is_end ts ≡ true
 spelt-end ts h = let b = behind-punctuation {ts = ts} punctuations.Semicolon (record { are = h }) in ap is_last
     (b.1 ∙ ap Some (ends b.2))
 
@@ -54,33 +55,33 @@ alone-found x a e = at (is_end x.1) refl e
     at true q f = (some-same x.0 a f, q)
     at false q f = cc
 
-alone-is : {A : Type 0} (a : A) (ts : List Token) → Spells semicolon ts [] → alone (a, ts) ≡ Some a
+alone-is : {A : Type 0} (a : A) (ts : List Token) → SpellsWords semicolon ts [] → alone (a, ts) ≡ Some a
 alone-is a ts h = ap (λ b. cond b (Some a) None) (spelt-end ts h)
 
 behind-word : (t : Token) (ts : List Token) (i : Import) → t.kind ≡ kinds.Keyword keywords.Import
-    → (import_at t.line ts >>= alone) ≡ Some i → Ended (print_import i) (t ∷ ts)
+    → (import_at t.line ts >>= alone) ≡ Some i → EndedBySemicolon (print_import i) (t ∷ ts)
 behind-word t ts i is e =
     let a = bind_some (import_at t.line ts) alone i e in
     let k = alone-found a.0 i a.2 in
-    subst (λ j. Ended (print_import j) (t ∷ ts)) k.0
+    subst (λ j. EndedBySemicolon (print_import j) (t ∷ ts)) k.0
     (join (print_import a.0.0) semicolon (t ∷ ts) a.0.1 [] (imports-found t ts a.0 is a.1).words
     (end-spelt a.0.1 k.1))
 
 by-word : (t : Token) (ts : List Token) (i : Import) (w : Keyword) → t.kind ≡ kinds.Keyword w
-    → import_by_word t.line (kinds.Keyword w) ts ≡ Some i → Ended (print_import i) (t ∷ ts)
+    → import_by_word t.line (kinds.Keyword w) ts ≡ Some i → EndedBySemicolon (print_import i) (t ∷ ts)
 by-word t ts i keywords.Import is e = behind-word t ts i is e
 by-word t ts i _ is e = cc
 
 by-kind : (t : Token) (ts : List Token) (i : Import) (k : TokenKind) → t.kind ≡ k → import_by_word t.line k ts ≡ Some i
-    → Ended (print_import i) (t ∷ ts)
+    → EndedBySemicolon (print_import i) (t ∷ ts)
 by-kind t ts i (kinds.Keyword w) is e = by-word t ts i w is e
 by-kind t ts i _ is e = cc
 
-pub import-found : (p : List Token) (i : Import) → import_of p ≡ Some i → Ended (print_import i) p
+pub import-found : (p : List Token) (i : Import) → import_of p ≡ Some i → EndedBySemicolon (print_import i) p
 import-found [] i e = cc
 import-found (t ∷ ts) i e = by-kind t ts i t.kind refl e
 
-pub import-read : (p : List Token) (i : Import) → Ended (print_import i) p → import_of p ≡ Some i
+pub import-read : (p : List Token) (i : Import) → EndedBySemicolon (print_import i) p → import_of p ≡ Some i
 import-read p i h =
     let k = split (print_import i) semicolon p [] h in
     let r = imports-read p (i, k.0) (record { words = k.1 }) in
@@ -89,15 +90,17 @@ import-read p i h =
     ∙ then alone (import_at r.0.line r.1) (i, k.0) r.4
     ∙ alone-is i k.0 k.2
 
-pub decl-found : (p : List Token) (x : Decl) → decl_of p ≡ Some x → Ended (print_decl x) p × (decl_good x ≡ true)
+pub decl-found : (p : List Token) (x : Decl) → decl_of p ≡ Some x → EndedBySemicolon (print_decl x) p
+    × (decl_good x ≡ true)
 decl-found p x e =
     let a = bind_some (decl_at p) alone x e in
     let k = alone-found a.0 x a.2 in
     let r = declarations-found p a.0 a.1 in
-    subst (λ y. Ended (print_decl y) p × (decl_good y ≡ true)) k.0
+    subst (λ y. EndedBySemicolon (print_decl y) p × (decl_good y ≡ true)) k.0
     (join (print_decl a.0.0) semicolon p a.0.1 [] r.words (end-spelt a.0.1 k.1), r.good)
 
-pub decl-read : (p : List Token) (x : Decl) → Ended (print_decl x) p → decl_good x ≡ true → decl_of p ≡ Some x
+pub decl-read : (p : List Token) (x : Decl) → EndedBySemicolon (print_decl x) p → decl_good x ≡ true
+    → decl_of p ≡ Some x
 decl-read p x h good =
     let k = split (print_decl x) semicolon p [] h in
     let b = behind-punctuation {ws = []} {ts = k.0} {rest = []} punctuations.Semicolon (record { are = k.2 }) in
@@ -148,13 +151,13 @@ abbrev Begins : Keyword → List Token → Type 0
 Begins w [] = ⊥
 Begins w (t ∷ ts) = t.kind ≡ kinds.Keyword w
 
-import-begins : (i : Import) (p : List Token) → Ended (print_import i) p → Begins keywords.Import p
+import-begins : (i : Import) (p : List Token) → EndedBySemicolon (print_import i) p → Begins keywords.Import p
 import-begins (imports.One l path) [] h = absurd h
 import-begins (imports.One l path) (t ∷ ts) h = h.0.0
 import-begins (imports.Group l paths) [] h = absurd h
 import-begins (imports.Group l paths) (t ∷ ts) h = h.0.0
 
-decl-begins : (x : Decl) (p : List Token) → Ended (print_decl x) p → Begins (decl_word x) p
+decl-begins : (x : Decl) (p : List Token) → EndedBySemicolon (print_decl x) p → Begins (decl_word x) p
 decl-begins (d.Const l n c) [] h = absurd h
 decl-begins (d.Const l n c) (t ∷ ts) h = h.0.0
 decl-begins (d.Var v) [] h = absurd h
@@ -174,5 +177,6 @@ both-begin : (x : Decl) (p : List Token) → Begins keywords.Import p → Begins
 both-begin x [] h k = h
 both-begin x (t ∷ ts) h k = no-import-word x t.kind h k
 
-pub apart : (i : Import) (x : Decl) (p : List Token) → Ended (print_import i) p → Ended (print_decl x) p → ⊥
+pub apart : (i : Import) (x : Decl) (p : List Token) → EndedBySemicolon (print_import i) p
+    → EndedBySemicolon (print_decl x) p → ⊥
 apart i x p h k = both-begin x p (import-begins i p h) (decl-begins x p k)

@@ -5,21 +5,21 @@ use Rattle.golf_lex_tokens.specs.declared.token.Token.{Token}
 use Rattle.golf_lex_tokens.specs.declared.token.TokenKind.TheVariants as kinds
 use Rattle.golf_lex_tokens.specs.declared.token.Punctuation.TheVariants as punctuations
 use Rattle.golf_lex_tokens.specs.declared.token.Keyword.TheVariants as keywords
-use Rattle.golf_syntax_trees.specs.Words.{Spells}
+use Rattle.golf_syntax_trees.specs.Words.{SpellsWords}
 use Rattle.golf_syntax_trees.specs.declared.declarations.Import.{Import}
 use Rattle.golf_syntax_trees.specs.declared.declarations.Decl.{Decl}
 use Rattle.golf_syntax_trees.specs.Declarations.{print_import, print_decl, decl_good}
 use Rattle.golf_syntax_trees.specs.declared.declarations.File.{File}
 use Rattle.golf_syntax_trees.specs.Reads.{ReadsTokens, Reads}
 use Rattle.golf_syntax_expressions.specs.Front.{after}
-use Rattle.golf_syntax.specs.DeclReading.{import_at, decl_at}
+use Rattle.golf_syntax.specs.DeclarationReader.{import_at, decl_at}
 
 -- an import, and a well-formed declaration, are printed at the front of these tokens
 pub record IsImportIn (ts : List Token) (x : Import × List Token) : Type 0 where
-  pub words : Spells (print_import x.0) ts x.1
+  pub words : SpellsWords (print_import x.0) ts x.1
 
 pub record IsDeclIn (ts : List Token) (x : Decl × List Token) : Type 0 where
-  pub words : Spells (print_decl x.0) ts x.1
+  pub words : SpellsWords (print_decl x.0) ts x.1
   pub good : decl_good x.0 ≡ true
 
 abbrev pub ImportsFound : Type 0

@@ -1,5 +1,5 @@
 pub mod Laws
 pub mod Many
-pub mod DeclReading
-pub mod SegmentReading
+pub mod DeclarationReader
+pub mod SegmentReader
 pub mod Parses

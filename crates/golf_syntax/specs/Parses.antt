@@ -5,7 +5,7 @@ use Rattle.golf_lex_tokens.specs.declared.token.Token.{Token}
 use Rattle.golf_syntax_trees.specs.declared.declarations.Import.{Import}
 use Rattle.golf_syntax_trees.specs.declared.declarations.Decl.{Decl}
 use Rattle.golf_syntax_trees.specs.declared.declarations.File.{File}
-use Rattle.golf_syntax_trees.specs.Words.{closed, Spells}
+use Rattle.golf_syntax_trees.specs.Words.{closed, SpellsWords}
 use Rattle.golf_syntax_trees.specs.Declarations.{print_import, print_decl, decl_good}
 use Rattle.golf_syntax_trees.specs.Segments.{segments, IsImport, BreaksOn}
 use Rattle.golf_syntax_trees.specs.Reads.{ReadsTokens, IsFaultOn}
@@ -19,12 +19,13 @@ Parsed tokens (Err (faults.At line)) = ((file : File) → ReadsTokens tokens fil
 Parsed tokens (Err faults.Memory) = Unit {0}
 
 -- if a tree reads the tokens, the answer is that tree, unless memory runs out
-abbrev pub Accepts : List Token → Result File SyntaxFault → Type 0
-Accepts tokens result = (file : File) → ReadsTokens tokens file → (result ≡ Ok file) ⊎ (result ≡ Err faults.Memory)
+abbrev pub AcceptsTokens : List Token → Result File SyntaxFault → Type 0
+AcceptsTokens tokens result = (file : File) → ReadsTokens tokens file → (result ≡ Ok file)
+    ⊎ (result ≡ Err faults.Memory)
 
 -- if no tree reads the tokens, the answer is the line of the fault, unless memory runs out
-abbrev pub Refuses : List Token → Result File SyntaxFault → Type 0
-Refuses tokens result = ((file : File) → ReadsTokens tokens file → ⊥)
+abbrev pub RefusesTokens : List Token → Result File SyntaxFault → Type 0
+RefusesTokens tokens result = ((file : File) → ReadsTokens tokens file → ⊥)
     → ((line : ℕ) × (result ≡ Err (faults.At line)) × IsFaultOn tokens line) ⊎ (result ≡ Err faults.Memory)
 
 -- the first segment is no import
@@ -34,12 +35,12 @@ NoImport (p ∷ ps) = IsImport p → ⊥
 
 -- these imports are the first segments, and no import follows them
 pub record Imported (ts : List Token) (found : List Import) (rest : List Token) : Type 0 where
-  pub words : Spells (closed (map print_import found)) ts rest
+  pub words : SpellsWords (closed (map print_import found)) ts rest
   pub over : NoImport (segments 0 rest)
 
 -- the segments are these declarations, or the line is that of the first segment that is no declaration
 abbrev pub Declared : List Token → Result (List Decl) SyntaxFault → Type 0
-Declared ts (Ok found) = Spells (closed (map print_decl found)) ts [] × (list_all decl_good found ≡ true)
+Declared ts (Ok found) = SpellsWords (closed (map print_decl found)) ts [] × (list_all decl_good found ≡ true)
 Declared ts (Err (faults.At line)) = BreaksOn true (segments 0 ts) line
 Declared ts (Err faults.Memory) = Unit {0}
 

@@ -5,7 +5,7 @@
 
 ghost use Rattle.std.specs.Prelude.{◌≡◌, ◌<◌, ◌≤◌, length, IfOk, IfSome};
 ghost use Rattle.golf_syntax_expressions.specs.Front.{seen};
-ghost use Rattle.golf_syntax.specs.DeclReading as decl_spec;
+ghost use Rattle.golf_syntax.specs.DeclarationReader as decl_spec;
 
 use golf_base::{List, Memory};
 use golf_lex_tokens::{Punctuation, Token, TokenKind};
@@ -59,7 +59,7 @@ fn const_of<'a>(
 }
 
 /// Reads the value of a constant at the front. Returns it and the tokens after it.
-#[tactic(auto, unfolding(crate::specs::DeclReading::const_at))]
+#[tactic(auto, unfolding(crate::specs::DeclarationReader::const_at))]
 pub fn const_at(alloc: Global, tokens: &[Token]) -> Result<Option<(Const, &[Token])>, Memory>
     ensures value { IfOk result (λ o. seen o ≡ decl_spec.const_at tokens.now) }
     ensures shorter { IfOk result (λ o. IfSome o (λ x. length x.1.now < length tokens.now)) }

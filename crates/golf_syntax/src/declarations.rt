@@ -6,10 +6,10 @@
 ghost use Rattle.std.specs.Prelude.{◌≡◌, ◌<◌, ◌≤◌, length, IfOk, IfSome, Some};
 ghost use Rattle.golf_syntax_expressions.specs.Front as front_spec;
 ghost use Rattle.golf_syntax_expressions.specs.Front.{seen};
-ghost use Rattle.golf_syntax_expressions.specs.TypeReading as type_spec;
-ghost use Rattle.golf_syntax_expressions.specs.TypeReading.{OfType};
-ghost use Rattle.golf_syntax.specs.DeclReading as decl_spec;
-ghost use Rattle.golf_syntax.specs.DeclReading.{receiver_by, result_by};
+ghost use Rattle.golf_syntax_expressions.specs.TypeReader as type_spec;
+ghost use Rattle.golf_syntax_expressions.specs.TypeReader.{OfType};
+ghost use Rattle.golf_syntax.specs.DeclarationReader as decl_spec;
+ghost use Rattle.golf_syntax.specs.DeclarationReader.{receiver_by, result_by};
 
 use crate::constants::const_at;
 use crate::fields::fields_at;
@@ -175,7 +175,7 @@ fn func_named(
 }
 
 // Reads a function after its keyword, which is on this line.
-#[tactic(auto, unfolding(crate::specs::DeclReading::func_at))]
+#[tactic(auto, unfolding(crate::specs::DeclarationReader::func_at))]
 fn func_at(
     alloc: Global,
     line: u32,
@@ -225,7 +225,7 @@ fn decl_from(
 }
 
 /// Reads the declaration at the front. Returns it and the tokens after it.
-#[tactic(auto, unfolding(crate::specs::DeclReading::decl_at))]
+#[tactic(auto, unfolding(crate::specs::DeclarationReader::decl_at))]
 pub fn decl_at(alloc: Global, tokens: &[Token]) -> Result<Option<(OwnedDecl, &[Token])>, Memory>
     ensures value { IfOk result (λ o. seen o ≡ decl_spec.decl_at tokens.now) }
     ensures shorter { IfOk result (λ o. IfSome o (λ x. length x.1.now < length tokens.now)) }

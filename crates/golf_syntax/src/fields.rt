@@ -5,7 +5,7 @@
 ghost use Rattle.std.specs.Prelude.{◌≡◌, ◌<◌, ◌≤◌, length, IfOk, IfSome};
 ghost use Rattle.golf_syntax_expressions.specs.Front.{seen};
 ghost use Rattle.golf_syntax.specs.Many.{list_at};
-ghost use Rattle.golf_syntax.specs.DeclReading as decl_spec;
+ghost use Rattle.golf_syntax.specs.DeclarationReader as decl_spec;
 
 use golf_base::{List, Memory};
 use golf_lex_tokens::{Punctuation, Token};
@@ -33,7 +33,7 @@ fn names_at(alloc: Global, tokens: &[Token]) -> Result<Option<(List<Name>, &[Tok
 }
 
 /// Reads names that share a type. Returns them and the tokens after them.
-#[tactic(auto, unfolding(crate::specs::DeclReading::field_at))]
+#[tactic(auto, unfolding(crate::specs::DeclarationReader::field_at))]
 pub fn field_at(alloc: Global, tokens: &[Token]) -> Result<Option<(Field, &[Token])>, Memory>
     ensures value { IfOk result (λ o. seen o ≡ decl_spec.field_at tokens.now) }
     ensures shorter { IfOk result (λ o. IfSome o (λ x. length x.1.now < length tokens.now)) }

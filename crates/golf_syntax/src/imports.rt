@@ -5,7 +5,7 @@
 ghost use Rattle.std.specs.Prelude.{◌≡◌, ◌<◌, length, IfOk, IfSome};
 ghost use Rattle.golf_syntax_expressions.specs.Front.{seen};
 ghost use Rattle.golf_syntax.specs.Many.{list_at};
-ghost use Rattle.golf_syntax.specs.DeclReading as decl_spec;
+ghost use Rattle.golf_syntax.specs.DeclarationReader as decl_spec;
 
 use golf_base::{List, Memory};
 use golf_lex_tokens::{Punctuation, Token, TokenKind};
@@ -53,7 +53,7 @@ fn texts_at(alloc: Global, tokens: &[Token]) -> Result<Option<(List<List<u8>>, &
 }
 
 /// Reads the import after its keyword, which is on this line. Returns it and the tokens after it.
-#[tactic(auto, unfolding(crate::specs::DeclReading::import_at))]
+#[tactic(auto, unfolding(crate::specs::DeclarationReader::import_at))]
 pub fn import_at(
     alloc: Global,
     line: u32,

@@ -4,9 +4,9 @@
 //! is the line of the fault.
 
 ghost use Rattle.std.specs.Prelude.{◌≡◌, List, IfOk};
-ghost use Rattle.golf_syntax.specs.SegmentReading as segment_spec;
-ghost use Rattle.golf_syntax.specs.SegmentReading.{import_by_word};
-ghost use Rattle.golf_syntax.specs.Parses.{Accepts, Declared, FirstLine, Imported, Parsed, Refuses};
+ghost use Rattle.golf_syntax.specs.SegmentReader as segment_spec;
+ghost use Rattle.golf_syntax.specs.SegmentReader.{import_by_word};
+ghost use Rattle.golf_syntax.specs.Parses.{AcceptsTokens, Declared, FirstLine, Imported, Parsed, RefusesTokens};
 
 use crate::declarations::decl_at;
 use crate::imports::import_at;
@@ -184,8 +184,8 @@ pub fn parse(alloc: Global, tokens: &[Token]) -> Result<File, SyntaxFault>
     ensures answer { Parsed tokens.now result }
 
     // If a tree reads the tokens, the answer is that tree. If none does, it is the line of the fault.
-    ensures accepts { Accepts tokens.now result }
-    ensures refuses { Refuses tokens.now result }
+    ensures accepts { AcceptsTokens tokens.now result }
+    ensures refuses { RefusesTokens tokens.now result }
 {
     file_of(alloc, tokens)
 }

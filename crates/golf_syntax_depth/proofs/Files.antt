@@ -20,7 +20,8 @@ use Rattle.golf_syntax_trees.specs.declared.declarations.Func.{Func}
 use Rattle.golf_syntax_trees.specs.declared.declarations.Decl.{Decl}
 use Rattle.golf_syntax_trees.specs.declared.declarations.Decl.TheVariants as d
 use Rattle.golf_syntax_trees.specs.declared.declarations.File.{File}
-use Rattle.golf_syntax_trees.specs.Words.{Word, word, punctuation, keyword, name, behind, separated, closed, Spells}
+use Rattle.golf_syntax_trees.specs.Words.{Word, word, punctuation, keyword, name, behind, separated, closed}
+use Rattle.golf_syntax_trees.specs.Words.{SpellsWords}
 use Rattle.golf_syntax_trees.specs.declared.types.TypeExpr.{TypeExpr}
 use Rattle.golf_syntax_trees.specs.Types.{print_type}
 use Rattle.golf_syntax_trees.specs.Expressions.{parens, braces}
@@ -173,7 +174,7 @@ file-rises f =
 -- ---- words and tokens
 
 -- no count rises higher than the largest cost of the tokens that the words stand for
-peak-is-a-cost : (counts : List ℕ) (ws : List Word) (ts : List Token) → Spells ws ts []
+peak-is-a-cost : (counts : List ℕ) (ws : List Word) (ts : List Token) → SpellsWords ws ts []
     → peak counts ws ≤ max (sum counts) (largest (costs_from counts ts))
 peak-is-a-cost counts [] ts h = le-max_left (sum counts) (largest (costs_from counts ts))
 peak-is-a-cost counts (w ∷ ws) [] h = absurd h

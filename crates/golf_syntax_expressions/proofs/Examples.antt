@@ -15,12 +15,12 @@ use Rattle.golf_syntax_trees.specs.declared.expressions.Expr.TheVariants as ex
 use Rattle.golf_syntax_trees.specs.Words as words
 use Rattle.golf_syntax_trees.specs.Types.{type_form}
 use Rattle.golf_syntax_trees.specs.Expressions.{print_expr, form}
-use Rattle.golf_syntax_expressions.specs.TypeReading.{type_at, OfType}
+use Rattle.golf_syntax_expressions.specs.TypeReader.{type_at, OfType}
 use Rattle.golf_syntax_expressions.specs.Operators.{unary_at, binary_at}
 use Rattle.golf_syntax_expressions.specs.Starts.{start_at, start_from, named_start, make_start, new_start, empty_start}
 use Rattle.golf_syntax_expressions.specs.Starts.{slice_start, sync_start, literal_start, punctuation_start, suffix_at}
 use Rattle.golf_syntax_expressions.specs.Starts.{call_at}
-use Rattle.golf_syntax_expressions.specs.ExprReading.{Level, expr_at}
+use Rattle.golf_syntax_expressions.specs.ExpressionReader.{Level, expr_at}
 use Rattle.golf_syntax_expressions.proofs.TypeShapes as type_shape
 use Rattle.golf_syntax_expressions.proofs.ExprShapes as shape
 

@@ -1,5 +1,5 @@
 -- An expression that is printed is read.
--- For: `expr_at`, golf_syntax_expressions/specs/ExprReading.antt; the law `expressions_read`, src/laws.rt.
+-- For: `expr_at`, golf_syntax_expressions/specs/ExpressionReader.antt; the law `expressions_read`, src/laws.rt.
 -- By: induction over the tree of an expression, and over the list of its arguments, items or fields.
 use Rattle.std.proofs.Common.{◌≡◌, ℕ, suc, ◌≤◌, ◌<◌, Bool, true, false, not, ◌&&◌, ◌||◌, cond, List, [], ◌∷◌, ◌++◌, map}
 use Rattle.std.proofs.Common.{refl, ap, sym, subst, ◌∙◌, append_assoc, arith}
@@ -35,8 +35,8 @@ use Rattle.golf_syntax_expressions.specs.Starts.{whole, make_behind, make_start,
 use Rattle.golf_syntax_expressions.specs.Starts.{slice_behind, slice_start, sync_start, struct_behind, literal_behind}
 use Rattle.golf_syntax_expressions.specs.Starts.{literal_start, punctuation_start, named_start, start_from, start_at}
 use Rattle.golf_syntax_expressions.specs.Starts.{call_behind, call_at, no_field, suffix_by, suffix_at}
-use Rattle.golf_syntax_expressions.specs.ExprReading.{Extend, Suffixes, Prefixed, Level, Climb, Items, Elements}
-use Rattle.golf_syntax_expressions.specs.ExprReading.{element, expr_at}
+use Rattle.golf_syntax_expressions.specs.ExpressionReader.{Extend, Suffixes, Prefixed, Level, Climb, Items, Elements}
+use Rattle.golf_syntax_expressions.specs.ExpressionReader.{element, expr_at}
 use Rattle.golf_syntax_expressions.proofs.Fronts.{both, Spelt, nothing, punctuation-then, split, ends}
 use Rattle.golf_syntax_expressions.proofs.Fronts.{behind-punctuation, behind-name, not-after}
 use Rattle.golf_syntax_expressions.proofs.TypeLaws.{type-complete}

@@ -21,7 +21,7 @@ use Rattle.golf_syntax_expressions.specs.Front.{after, after_kind}
 use Rattle.golf_syntax_expressions.specs.Operators.{unary_of, binary_of, punctuation_of, unary_at, binary_at}
 use Rattle.golf_syntax_expressions.specs.Starts.{start_from, start_at, call_behind, call_at, no_field, suffix_by}
 use Rattle.golf_syntax_expressions.specs.Starts.{suffix_at}
-use Rattle.golf_syntax_expressions.specs.ExprReading.{Climb, expr_at}
+use Rattle.golf_syntax_expressions.specs.ExpressionReader.{Climb, expr_at}
 use Rattle.golf_syntax_expressions.proofs.Fronts.{Spelt, first, not-after}
 use Rattle.golf_syntax_expressions.proofs.ExprSteps.{climb_by, grown_by, expr-Climb}
 

@@ -25,7 +25,7 @@ use Rattle.golf_syntax_trees.specs.declared.expressions.Element.{Element, roll-E
 use Rattle.golf_syntax_trees.specs.Words.{Word}
 use Rattle.golf_syntax_trees.specs.Expressions.{print_step, print_element_step, print_expr, print_element, Form}
 use Rattle.golf_syntax_trees.specs.Expressions.{form_step, element_form_step, form, element_form}
-use Rattle.golf_syntax_expressions.specs.ExprReading.{element}
+use Rattle.golf_syntax_expressions.specs.ExpressionReader.{element}
 
 pub print-Integer : (digits : List ℕ) → print_expr (Integer digits) ≡ print_step (F.Integer digits)
 print-Integer digits = ap print_expr (sym (rolls-Integer digits))

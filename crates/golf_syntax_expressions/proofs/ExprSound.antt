@@ -1,5 +1,5 @@
 -- What is read is a good expression, and is printed as the tokens that were read.
--- For: `expr_at`, golf_syntax_expressions/specs/ExprReading.antt; the law `expressions_found`, src/laws.rt.
+-- For: `expr_at`, golf_syntax_expressions/specs/ExpressionReader.antt; the law `expressions_found`, src/laws.rt.
 -- By: cases of the mode and of the next token; the induction, over how deep reading goes, is in Plans.antt.
 use Rattle.std.proofs.Common.{◌≡◌, ℕ, suc, ◌+◌, ◌*◌, ◌-◌, ◌≤◌, ◌<◌, Bool, true, false, ◌&&◌, ◌||◌, cond, List, [], ◌∷◌}
 use Rattle.std.proofs.Common.{◌++◌, map, length, refl, ap, sym, subst, ◌∙◌, append_assoc, arith}
@@ -27,10 +27,11 @@ use Rattle.golf_syntax_expressions.specs.Plan.{Ask, given}
 use Rattle.golf_syntax_expressions.specs.Front.{after, name_at}
 use Rattle.golf_syntax_expressions.specs.Operators.{unary_at, binary_at}
 use Rattle.golf_syntax_expressions.specs.Starts.{start_at, suffix_at}
-use Rattle.golf_syntax_expressions.specs.ExprReading.{Mode, Node, just, found, finish, extend, suffixes_plan}
-use Rattle.golf_syntax_expressions.specs.ExprReading.{prefixed_plan, climb_plan, items_behind, elements_behind}
-use Rattle.golf_syntax_expressions.specs.ExprReading.{elements_plan, expr_plan, Finish, Extend, Suffixes, Prefixed}
-use Rattle.golf_syntax_expressions.specs.ExprReading.{Level, Climb, Items, Elements, element, expr_at}
+use Rattle.golf_syntax_expressions.specs.ExpressionReader.{ExpressionMode, ExpressionTree, just, found, finish, extend}
+use Rattle.golf_syntax_expressions.specs.ExpressionReader.{suffixes_plan}
+use Rattle.golf_syntax_expressions.specs.ExpressionReader.{prefixed_plan, climb_plan, items_behind, elements_behind}
+use Rattle.golf_syntax_expressions.specs.ExpressionReader.{elements_plan, expr_plan, Finish, Extend, Suffixes, Prefixed}
+use Rattle.golf_syntax_expressions.specs.ExpressionReader.{Level, Climb, Items, Elements, element, expr_at}
 use Rattle.golf_syntax_expressions.proofs.Plans.{Keeps, keeps-given, reads-keeps}
 use Rattle.golf_syntax_expressions.proofs.Fronts.{and-true, Spelt, nothing, punctuation-then, name-then, join}
 use Rattle.golf_syntax_expressions.proofs.ExprShapes as shape
@@ -84,7 +85,7 @@ abbrev Grows : (List Word) → List Token → (Bool → Type 0) → Expr × List
 Grows ws ts good x = (header : Bool) (before : List Token) → Spelt ws before ts → good header
     → Spelt (print_expr x.0) before x.1 × Primary header x.0
 
-abbrev Sound : (m : Mode) → List Token → Node m × List Token → Type 0
+abbrev Sound : (m : ExpressionMode) → List Token → ExpressionTree m × List Token → Type 0
 Sound (Finish s) ts x = Grows (opening s) ts (λ h. StartGood h s) x
 Sound (Extend base s) ts x = Grows (print_expr base ++ suffix_words s) ts (λ h. Primary h base) x
 Sound (Suffixes base) ts x = Grows (print_expr base) ts (λ h. Primary h base) x
@@ -355,7 +356,7 @@ elements-sound done ts =
     (name-then n.0 ts e (punctuation-then punctuations.Colon n.1 f k.words))) k.good
     (after punctuations.Comma x.1) refl))
 
-plan-sound : (m : Mode) (ts : List Token) → Keeps Sound (Sound m ts) (expr_plan m ts)
+plan-sound : (m : ExpressionMode) (ts : List Token) → Keeps Sound (Sound m ts) (expr_plan m ts)
 plan-sound (Finish s) ts = finish-sound s ts
 plan-sound (Extend base s) ts = extend-sound base s ts
 plan-sound (Suffixes base) ts = suffixes-sound base ts (suffix_at ts) refl
@@ -378,11 +379,13 @@ plan-sound (Elements done) ts = elements-sound done ts
 pub expr-sound : (header : Bool) (ts : List Token) (x : Expr × List Token) → expr_at (Level header 1) ts ≡ Some x
     → IsAtLevel header 1 ts x
 unfolding expr_at
-expr-sound header ts x e = reads-keeps Token Mode Node expr_plan Sound plan-sound (suc (5 * length ts + 3))
+expr-sound header ts x e = reads-keeps Token ExpressionMode ExpressionTree expr_plan Sound plan-sound
+    (suc (5 * length ts + 3))
     (Level header 1) ts x e (omega arith)
 
 pub prefixed-is-sound : (header : Bool) (ts : List Token) (x : Expr × List Token)
     → expr_at (Prefixed header) ts ≡ Some x → IsPrefixed header ts x
 unfolding expr_at
-prefixed-is-sound header ts x e = reads-keeps Token Mode Node expr_plan Sound plan-sound (suc (5 * length ts + 2))
+prefixed-is-sound header ts x e = reads-keeps Token ExpressionMode ExpressionTree expr_plan Sound plan-sound
+    (suc (5 * length ts + 2))
     (Prefixed header) ts x e

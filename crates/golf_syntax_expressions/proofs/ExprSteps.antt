@@ -1,5 +1,5 @@
 -- An expression is read as its plan says.
--- For: `expr_at` and `expr_plan`, golf_syntax_expressions/specs/ExprReading.antt.
+-- For: `expr_at` and `expr_plan`, golf_syntax_expressions/specs/ExpressionReader.antt.
 -- By: cases of the mode and of the next token; the induction, over the size of what is left, is in Plans.antt.
 use Rattle.std.proofs.Common.{◌≡◌, ℕ, suc, ◌+◌, ◌*◌, ◌≤◌, ◌<◌, Bool, true, false, cond, List, [], ◌∷◌, ◌++◌, length}
 use Rattle.std.proofs.Common.{refl, ap, sym, subst, ◌∙◌, arith}
@@ -27,25 +27,28 @@ use Rattle.golf_syntax_expressions.specs.declared.starts.Suffix.TheVariants as s
 use Rattle.golf_syntax_expressions.specs.Plan.{◌>>=◌, Ask, run, given}
 use Rattle.golf_syntax_expressions.specs.Front.{after, name_at}
 use Rattle.golf_syntax_expressions.specs.Operators.{unary_of, binary_of, punctuation_of, unary_at, binary_at}
-use Rattle.golf_syntax_expressions.specs.TypeReading.{type_at, OfType}
+use Rattle.golf_syntax_expressions.specs.TypeReader.{type_at, OfType}
 use Rattle.golf_syntax_expressions.specs.Starts.{whole, make_behind, make_start, new_behind, new_start, empty_start}
 use Rattle.golf_syntax_expressions.specs.Starts.{slice_behind, slice_start, sync_start, struct_behind, literal_behind}
 use Rattle.golf_syntax_expressions.specs.Starts.{literal_start, punctuation_start, named_start, keyword_start}
 use Rattle.golf_syntax_expressions.specs.Starts.{start_from, start_at, call_behind, call_at, no_field, suffix_by}
 use Rattle.golf_syntax_expressions.specs.Starts.{suffix_at}
-use Rattle.golf_syntax_expressions.specs.ExprReading.{Mode, Finish, Extend, Suffixes, Prefixed, Level, Climb, Items}
-use Rattle.golf_syntax_expressions.specs.ExprReading.{Elements, Node, ExprPlan, just, found, inside, finish, extend}
-use Rattle.golf_syntax_expressions.specs.ExprReading.{suffixes_plan, prefixed_plan, climb_plan, items_behind, element}
-use Rattle.golf_syntax_expressions.specs.ExprReading.{elements_behind, elements_plan, expr_plan, rank, expr_at}
+use Rattle.golf_syntax_expressions.specs.ExpressionReader.{ExpressionMode, Finish, Extend, Suffixes, Prefixed, Level}
+use Rattle.golf_syntax_expressions.specs.ExpressionReader.{Climb, Items}
+use Rattle.golf_syntax_expressions.specs.ExpressionReader.{Elements, ExpressionTree, ExprPlan, just, found, inside}
+use Rattle.golf_syntax_expressions.specs.ExpressionReader.{finish, extend}
+use Rattle.golf_syntax_expressions.specs.ExpressionReader.{suffixes_plan, prefixed_plan, climb_plan, items_behind}
+use Rattle.golf_syntax_expressions.specs.ExpressionReader.{element}
+use Rattle.golf_syntax_expressions.specs.ExpressionReader.{elements_behind, elements_plan, expr_plan, rank, expr_at}
 use Rattle.golf_syntax_expressions.proofs.Plans.{bind-same, bind_some, Leaves, Within, within-given, whole-is}
 use Rattle.golf_syntax_expressions.proofs.Plans.{whole-leaves}
 use Rattle.golf_syntax_expressions.proofs.Fronts.{some-same, after-shorter, name-shorter}
 use Rattle.golf_syntax_expressions.proofs.TypeSteps.{type-leaves}
 
-abbrev size : Mode → List Token → ℕ
+abbrev size : ExpressionMode → List Token → ℕ
 size m ts = 5 * length ts + rank m
 
-abbrev pub gap : Mode → ℕ
+abbrev pub gap : ExpressionMode → ℕ
 gap (Finish s) = 0
 gap (Extend base s) = 0
 gap (Suffixes base) = 0
@@ -317,7 +320,7 @@ elements-fits done ts =
           (omega arith) (omega arith) (after punctuations.Comma x.1) refl,
     )))
 
-expr-fits : (m : Mode) (ts : List Token) → Within size gap (size m ts) (gap m) (length ts) (expr_plan m ts)
+expr-fits : (m : ExpressionMode) (ts : List Token) → Within size gap (size m ts) (gap m) (length ts) (expr_plan m ts)
 expr-fits (Finish s) ts = finish-fits s ts
 expr-fits (Extend base s) ts = extend-fits base s ts
 expr-fits (Suffixes base) ts = suffixes-fits base ts (suffix_at ts) refl
@@ -332,14 +335,14 @@ expr-fits (Items close done) ts = (
 expr-fits (Elements done) ts = elements-fits done ts
 
 -- what is read is what the plan finds
-pub expr-is : (m : Mode) (ts : List Token) → expr_at m ts ≡ run expr_at (expr_plan m ts)
+pub expr-is : (m : ExpressionMode) (ts : List Token) → expr_at m ts ≡ run expr_at (expr_plan m ts)
 unfolding expr_at
-expr-is m ts = whole-is Token Mode Node expr_plan size gap expr-fits m ts
+expr-is m ts = whole-is Token ExpressionMode ExpressionTree expr_plan size gap expr-fits m ts
 
 -- what is left is shorter
-pub expr-leaves : (m : Mode) (ts : List Token) → Leaves (gap m) (length ts) (expr_at m ts)
+pub expr-leaves : (m : ExpressionMode) (ts : List Token) → Leaves (gap m) (length ts) (expr_at m ts)
 unfolding expr_at
-expr-leaves m ts = whole-leaves Token Mode Node expr_plan size gap expr-fits m ts
+expr-leaves m ts = whole-leaves Token ExpressionMode ExpressionTree expr_plan size gap expr-fits m ts
 
 -- a plan that gives on what it was given
 given-just : {A : Type 0} (o : Option (List Token)) (a : A)

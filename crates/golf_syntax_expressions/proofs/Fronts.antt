@@ -1,5 +1,5 @@
 -- Words that stand at the beginning of the tokens: joined, split, and read off one by one.
--- For: `Spells`, golf_syntax_trees/specs/Words.antt; `after` and `name_at`, src/front.rt.
+-- For: `SpellsWords`, golf_syntax_trees/specs/Words.antt; `after` and `name_at`, src/front.rt.
 -- By: induction over the list of words.
 use Rattle.std.proofs.Common.{◌≡◌, ℕ, suc, Bool, true, false, ◌&&◌, cond, List, [], ◌∷◌, ◌++◌, length, refl, ap, sym}
 use Rattle.std.proofs.Common.{subst, ◌∙◌, rules}
@@ -13,7 +13,7 @@ use Rattle.golf_lex_tokens.specs.declared.token.Keyword.{Keyword}
 use Rattle.golf_lex_tokens.specs.contracts.token.Punctuation as punctuation
 use Rattle.golf_lex_tokens.specs.contracts.token.Keyword as keyword
 use Rattle.golf_syntax_trees.specs.Words as words
-use Rattle.golf_syntax_trees.specs.Words.{Word, Spells}
+use Rattle.golf_syntax_trees.specs.Words.{Word, SpellsWords}
 use Rattle.golf_syntax_expressions.specs.Front.{same_punctuation, same_keyword, after_kind, after, after_keyword_kind}
 use Rattle.golf_syntax_expressions.specs.Front.{after_keyword, name_of, name_at}
 
@@ -34,7 +34,7 @@ found P (Some x) k = k x refl
 
 -- these words are the tokens of the first list, up to the second
 pub record Spelt (ws : List Word) (ts rest : List Token) : Type 0 where
-  pub are : Spells ws ts rest
+  pub are : SpellsWords ws ts rest
 
 pub nothing : {ts : List Token} → Spelt [] ts ts
 nothing = record { are = refl }
@@ -90,8 +90,8 @@ pub join : {xs ys : List Word} {ts mid rest : List Token} → Spelt xs ts mid �
     → Spelt (xs ++ ys) ts rest
 join {xs} {ys} {ts} {mid} {rest} h k = record { are = at xs ts h.are }
   where
-    at : (xs : List Word) (ts : List Token) → Spells xs ts mid → Spells (xs ++ ys) ts rest
-    at [] ts p = subst (λ us. Spells ys us rest) (sym p) k.are
+    at : (xs : List Word) (ts : List Token) → SpellsWords xs ts mid → SpellsWords (xs ++ ys) ts rest
+    at [] ts p = subst (λ us. SpellsWords ys us rest) (sym p) k.are
     at (x ∷ xs) [] p = absurd p
     at (x ∷ xs) (t ∷ ts) p = (p.0, at xs ts p.1)
 

@@ -22,9 +22,11 @@ use Rattle.golf_syntax_expressions.specs.Plan.{◌>>=◌}
 use Rattle.golf_syntax_expressions.specs.Front.{after, name_at}
 use Rattle.golf_syntax_expressions.specs.Operators.{unary_at}
 use Rattle.golf_syntax_expressions.specs.Starts.{start_at, suffix_at}
-use Rattle.golf_syntax_expressions.specs.ExprReading.{Mode, Node, Finish, Extend, Suffixes, Prefixed, Level, Items}
-use Rattle.golf_syntax_expressions.specs.ExprReading.{Elements, element, expr_at}
-use Rattle.golf_syntax_expressions.specs.Moves.{Found, suffixed, argument_at, item_at, element_at, pending_at, waited}
+use Rattle.golf_syntax_expressions.specs.ExpressionReader.{ExpressionMode, ExpressionTree, Finish, Extend, Suffixes}
+use Rattle.golf_syntax_expressions.specs.ExpressionReader.{Prefixed, Level, Items}
+use Rattle.golf_syntax_expressions.specs.ExpressionReader.{Elements, element, expr_at}
+use Rattle.golf_syntax_expressions.specs.Moves.{FoundExpression, suffixed, argument_at, item_at, element_at, pending_at}
+use Rattle.golf_syntax_expressions.specs.Moves.{waited}
 use Rattle.golf_syntax_expressions.specs.Moves.{field_at, started_at, extended_at}
 use Rattle.golf_syntax_expressions.proofs.Plans.{bind-assoc, bind-same, waits-last, waits-none}
 use Rattle.golf_syntax_expressions.proofs.ExprSteps.{inside_by, begun_by, finish_by, extend_by, suffixes_by}
@@ -33,7 +35,7 @@ use Rattle.golf_syntax_expressions.proofs.ExprSteps.{expr-Extend, expr-Suffixes,
 use Rattle.golf_syntax_expressions.proofs.ExprSteps.{expr-Items, expr-Elements, expr-leaves}
 
 -- the last of those that wait goes on first
-pub waited-last : (fs : List Pending) (f : Pending) (o : Found)
+pub waited-last : (fs : List Pending) (f : Pending) (o : FoundExpression)
     → waited (fs ++ f ∷ []) o ≡ waited fs (o >>= pending_at f)
 waited-last = waits-last pending_at
 
@@ -160,7 +162,7 @@ pub ruleset resume_steps = (arguments-go, items-go, elements-go)
 pub ruleset read_steps = (waited-last, waited-none)
 
 -- what is found is shorter
-pub shorter : (m : Mode) (ts : List Token) (x : Node m × List Token) → expr_at m ts ≡ Some x
+pub shorter : (m : ExpressionMode) (ts : List Token) (x : ExpressionTree m × List Token) → expr_at m ts ≡ Some x
     → length x.1 + gap m ≤ length ts
 shorter m ts x e = left (gap m) (length ts) (expr_at m ts) x (expr-leaves m ts) e
 

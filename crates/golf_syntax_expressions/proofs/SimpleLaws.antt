@@ -1,5 +1,5 @@
 -- A simple statement is read exactly if it is printed there.
--- For: `kind_at`, src/simple.rt and golf_syntax_expressions/specs/SimpleReading.antt.
+-- For: `kind_at`, src/simple.rt and golf_syntax_expressions/specs/SimpleStatementReader.antt.
 -- By: cases of the kind of statement; by induction over the tree of an expression, it begins no definition.
 use Rattle.std.proofs.Common.{◌≡◌, ℕ, ◌≤◌, Bool, true, false, ◌&&◌, ◌||◌, List, [], ◌∷◌, ◌++◌, map, refl, ap, sym}
 use Rattle.std.proofs.Common.{subst, ◌∙◌}
@@ -30,10 +30,11 @@ use Rattle.golf_syntax_expressions.specs.declared.simple.Follow.TheVariants as f
 use Rattle.golf_syntax_expressions.specs.Plan.{◌>>=◌}
 use Rattle.golf_syntax_expressions.specs.Front.{after, after_kind, name_at, name_of}
 use Rattle.golf_syntax_expressions.specs.Operators.{punctuation_of}
-use Rattle.golf_syntax_expressions.specs.ExprReading.{Level, Prefixed, expr_at}
-use Rattle.golf_syntax_expressions.specs.SimpleReading.{follow_of, follow_at, second, followed, behind_expr}
-use Rattle.golf_syntax_expressions.specs.SimpleReading.{expression_at, received, behind_names, pair_at, behind_name}
-use Rattle.golf_syntax_expressions.specs.SimpleReading.{kind_by, kind_at}
+use Rattle.golf_syntax_expressions.specs.ExpressionReader.{Level, Prefixed, expr_at}
+use Rattle.golf_syntax_expressions.specs.SimpleStatementReader.{follow_of, follow_at, second, followed, behind_expr}
+use Rattle.golf_syntax_expressions.specs.SimpleStatementReader.{expression_at, received, behind_names, pair_at}
+use Rattle.golf_syntax_expressions.specs.SimpleStatementReader.{behind_name}
+use Rattle.golf_syntax_expressions.specs.SimpleStatementReader.{kind_by, kind_at}
 use Rattle.golf_syntax_expressions.proofs.Fronts.{some-same, both, and-true, Spelt, nothing, kind-then}
 use Rattle.golf_syntax_expressions.proofs.Fronts.{punctuation-then, name-then, join, split, first, ends}
 use Rattle.golf_syntax_expressions.proofs.Fronts.{behind-punctuation, behind-name, not-after}

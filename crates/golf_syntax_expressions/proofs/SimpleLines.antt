@@ -12,7 +12,7 @@ use Rattle.golf_syntax_trees.specs.Words as words
 use Rattle.golf_syntax_trees.specs.Words.{Word, on_line}
 use Rattle.golf_syntax_trees.specs.Expressions.{print_expr}
 use Rattle.golf_syntax_trees.specs.Simple.{print_simple_kind, print_simple, simple_form}
-use Rattle.golf_syntax_expressions.specs.SimpleReading.{kind_at, simple_at}
+use Rattle.golf_syntax_expressions.specs.SimpleStatementReader.{kind_at, simple_at}
 use Rattle.golf_syntax_expressions.proofs.Fronts.{some-same, Spelt}
 use Rattle.golf_syntax_expressions.proofs.ExprShapes as shape
 use Rattle.golf_syntax_expressions.proofs.ExprFronts.{then}

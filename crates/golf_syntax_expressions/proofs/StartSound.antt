@@ -31,7 +31,7 @@ use Rattle.golf_syntax_expressions.specs.declared.starts.Suffix.{Suffix}
 use Rattle.golf_syntax_expressions.specs.declared.starts.Suffix.TheVariants as suffixes
 use Rattle.golf_syntax_expressions.specs.Plan.{◌>>=◌}
 use Rattle.golf_syntax_expressions.specs.Front.{after, name_at}
-use Rattle.golf_syntax_expressions.specs.TypeReading.{type_at, OfType}
+use Rattle.golf_syntax_expressions.specs.TypeReader.{type_at, OfType}
 use Rattle.golf_syntax_expressions.specs.Operators.{unary_of, binary_of, punctuation_of, unary_at, binary_at}
 use Rattle.golf_syntax_expressions.specs.Starts.{whole, make_behind, make_start, new_behind, new_start, empty_start}
 use Rattle.golf_syntax_expressions.specs.Starts.{slice_behind, slice_start, sync_start, struct_behind, literal_behind}

@@ -1,5 +1,5 @@
 -- A type that is read is printed so, and a type that is printed is read.
--- For: `type_at`, golf_syntax_expressions/specs/TypeReading.antt; the laws `types_found` and `types_read`, src/laws.rt.
+-- For: `type_at`, golf_syntax_expressions/specs/TypeReader.antt; the laws `types_found` and `types_read`, src/laws.rt.
 -- By: induction over the tree of a type; of what is read, cases of the token and the induction in Plans.antt.
 use Rattle.std.proofs.Common.{◌≡◌, ℕ, suc, Bool, true, false, not, ◌&&◌, cond, List, [], ◌∷◌, length, refl, ap, sym}
 use Rattle.std.proofs.Common.{subst, ◌∙◌}
@@ -21,9 +21,10 @@ use Rattle.golf_syntax_trees.specs.Words.{Word}
 use Rattle.golf_syntax_trees.specs.Types.{sync, print_type, TypeForm, type_form}
 use Rattle.golf_syntax_expressions.specs.Plan.{◌>>=◌, run, given}
 use Rattle.golf_syntax_expressions.specs.Front.{after, after_keyword, name_at}
-use Rattle.golf_syntax_expressions.specs.TypeReading.{Mode, OfType, Node, inside, pointer_to, pointer, empty_struct}
-use Rattle.golf_syntax_expressions.specs.TypeReading.{chan_of, type_from_keyword, type_from_punctuation, type_from}
-use Rattle.golf_syntax_expressions.specs.TypeReading.{type_plan, type_at}
+use Rattle.golf_syntax_expressions.specs.TypeReader.{TypeMode, OfType, TypeTree, inside, pointer_to, pointer}
+use Rattle.golf_syntax_expressions.specs.TypeReader.{empty_struct}
+use Rattle.golf_syntax_expressions.specs.TypeReader.{chan_of, type_from_keyword, type_from_punctuation, type_from}
+use Rattle.golf_syntax_expressions.specs.TypeReader.{type_plan, type_at}
 use Rattle.golf_syntax_expressions.proofs.Plans.{bind_some, Keeps, keeps-given, reads-keeps}
 use Rattle.golf_syntax_expressions.proofs.Fronts.{some-same, both, found, Spelt, nothing, kind-then, punctuation-then}
 use Rattle.golf_syntax_expressions.proofs.Fronts.{keyword-then, name-then, first, ends, behind-punctuation}
@@ -80,7 +81,7 @@ made x ts us ws f p q h g = record {
   good = ap (λ (f : TypeForm). f.good) q ∙ g;
 }
 
-abbrev Sound : (m : Mode) → List Token → Node m × List Token → Type 0
+abbrev Sound : (m : TypeMode) → List Token → TypeTree m × List Token → Type 0
 Sound m ts x = IsType ts x
 
 module _ (t : Token) (ts : List Token) where
@@ -167,14 +168,14 @@ module _ (t : Token) (ts : List Token) where
   kind-sound (kinds.Punctuation m) is = punctuation-sound m is
   kind-sound _ is = tt
 
-plan-sound : (m : Mode) (ts : List Token) → Keeps Sound (Sound m ts) (type_plan m ts)
+plan-sound : (m : TypeMode) (ts : List Token) → Keeps Sound (Sound m ts) (type_plan m ts)
 plan-sound m [] = tt
 plan-sound m (t ∷ ts) = kind-sound t ts t.kind refl
 
 -- what is read is a type
 pub type-sound : (ts : List Token) (x : TypeExpr × List Token) → type_at OfType ts ≡ Some x → IsType ts x
 unfolding type_at
-type-sound ts x e = reads-keeps Token Mode Node type_plan Sound plan-sound (suc (length ts)) OfType ts x e
+type-sound ts x e = reads-keeps Token TypeMode TypeTree type_plan Sound plan-sound (suc (length ts)) OfType ts x e
 
 -- a type is read if no dot follows
 abbrev IsRead : TypeExpr → Type 0

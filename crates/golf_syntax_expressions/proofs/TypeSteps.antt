@@ -1,5 +1,5 @@
 -- A type is read as its first token says.
--- For: `type_at` and `type_plan`, golf_syntax_expressions/specs/TypeReading.antt.
+-- For: `type_at` and `type_plan`, golf_syntax_expressions/specs/TypeReader.antt.
 -- By: cases of the first token; the induction, over the tokens that are left, is in Plans.antt.
 use Rattle.std.proofs.Common.{◌≡◌, ℕ, suc, ◌≤◌, ◌<◌, Bool, true, false, cond, List, [], ◌∷◌, length, refl, ap, ◌∙◌}
 use Rattle.std.proofs.Common.{arith}
@@ -17,16 +17,17 @@ use Rattle.golf_syntax_trees.specs.declared.types.TypeExpr.TheVariants as types
 use Rattle.golf_syntax_trees.specs.Types.{sync}
 use Rattle.golf_syntax_expressions.specs.Plan.{◌>>=◌, run}
 use Rattle.golf_syntax_expressions.specs.Front.{after, after_keyword, name_at}
-use Rattle.golf_syntax_expressions.specs.TypeReading.{Mode, OfType, Node, inside, pointer_to, pointer, empty_struct}
-use Rattle.golf_syntax_expressions.specs.TypeReading.{chan_of, type_from_keyword, type_from_punctuation, type_from}
-use Rattle.golf_syntax_expressions.specs.TypeReading.{type_plan, type_at}
+use Rattle.golf_syntax_expressions.specs.TypeReader.{TypeMode, OfType, TypeTree, inside, pointer_to, pointer}
+use Rattle.golf_syntax_expressions.specs.TypeReader.{empty_struct}
+use Rattle.golf_syntax_expressions.specs.TypeReader.{chan_of, type_from_keyword, type_from_punctuation, type_from}
+use Rattle.golf_syntax_expressions.specs.TypeReader.{type_plan, type_at}
 use Rattle.golf_syntax_expressions.proofs.Plans.{Leaves, Within, within-given, whole-is, whole-leaves}
 use Rattle.golf_syntax_expressions.proofs.Fronts.{after-shorter, keyword-shorter, name-shorter}
 
-abbrev size : Mode → List Token → ℕ
+abbrev size : TypeMode → List Token → ℕ
 size m ts = length ts
 
-abbrev gap : Mode → ℕ
+abbrev gap : TypeMode → ℕ
 gap m = 1
 
 inside-within : (bound all : ℕ) (wrap : TypeExpr → TypeExpr) (ts : List Token) → length ts < bound → length ts ≤ all
@@ -93,19 +94,19 @@ kind-within (kinds.Keyword k) ts = keyword-within k ts
 kind-within (kinds.Punctuation m) ts = punctuation-within m ts
 kind-within _ ts = tt
 
-type-fits : (m : Mode) (ts : List Token) → Within size gap (size m ts) (gap m) (length ts) (type_plan m ts)
+type-fits : (m : TypeMode) (ts : List Token) → Within size gap (size m ts) (gap m) (length ts) (type_plan m ts)
 type-fits m [] = tt
 type-fits m (t ∷ ts) = kind-within t.kind ts
 
 -- what is read is what the plan finds
-pub type-is : (m : Mode) (ts : List Token) → type_at m ts ≡ run type_at (type_plan m ts)
+pub type-is : (m : TypeMode) (ts : List Token) → type_at m ts ≡ run type_at (type_plan m ts)
 unfolding type_at
-type-is m ts = whole-is Token Mode Node type_plan size gap type-fits m ts
+type-is m ts = whole-is Token TypeMode TypeTree type_plan size gap type-fits m ts
 
 -- what is left is shorter
 pub type-leaves : (ts : List Token) → Leaves 1 (length ts) (type_at OfType ts)
 unfolding type_at
-type-leaves ts = whole-leaves Token Mode Node type_plan size gap type-fits OfType ts
+type-leaves ts = whole-leaves Token TypeMode TypeTree type_plan size gap type-fits OfType ts
 
 -- the kind of the first token decides
 pub type-starts : (t : Token) (ts : List Token) (k : TokenKind) → t.kind ≡ k

@@ -5,25 +5,25 @@ use Rattle.golf_lex_tokens.specs.declared.token.Punctuation.TheVariants as punct
 use Rattle.golf_syntax_trees.specs.declared.types.TypeExpr.{TypeExpr}
 use Rattle.golf_syntax_trees.specs.declared.expressions.Expr.{Expr}
 use Rattle.golf_syntax_trees.specs.declared.statements.Simple.{Simple}
-use Rattle.golf_syntax_trees.specs.Words.{Spells}
+use Rattle.golf_syntax_trees.specs.Words.{SpellsWords}
 use Rattle.golf_syntax_trees.specs.Types.{print_type, type_form}
 use Rattle.golf_syntax_trees.specs.Expressions.{print_expr, form}
 use Rattle.golf_syntax_trees.specs.Simple.{print_simple, simple_form}
 use Rattle.golf_syntax_expressions.specs.Front.{after}
 use Rattle.golf_syntax_expressions.specs.Operators.{binary_at}
 use Rattle.golf_syntax_expressions.specs.Starts.{suffix_at}
-use Rattle.golf_syntax_expressions.specs.TypeReading.{type_at, OfType}
-use Rattle.golf_syntax_expressions.specs.ExprReading.{Level, Prefixed, expr_at}
-use Rattle.golf_syntax_expressions.specs.SimpleReading.{follow_at, simple_at}
+use Rattle.golf_syntax_expressions.specs.TypeReader.{type_at, OfType}
+use Rattle.golf_syntax_expressions.specs.ExpressionReader.{Level, Prefixed, expr_at}
+use Rattle.golf_syntax_expressions.specs.SimpleStatementReader.{follow_at, simple_at}
 
 -- a well-formed type is printed at the front of these tokens, before the rest
 pub record IsTypeIn (ts : List Token) (x : TypeExpr × List Token) : Type 0 where
-  pub words : Spells (print_type x.0) ts x.1
+  pub words : SpellsWords (print_type x.0) ts x.1
   pub good : (type_form x.0).good ≡ true
 
 -- a well-formed expression is printed there; in a header no operand outside its brackets begins with `&`
 pub record IsExprIn (header : Bool) (ts : List Token) (x : Expr × List Token) : Type 0 where
-  pub words : Spells (print_expr x.0) ts x.1
+  pub words : SpellsWords (print_expr x.0) ts x.1
   pub good : (form x.0).good ≡ true
   pub clear : (header && (form x.0).ampersand) ≡ false
 
@@ -33,7 +33,7 @@ pub record IsOperandIn (header : Bool) (ts : List Token) (x : Expr × List Token
   pub top : 6 ≤ (form x.0).top
 
 pub record IsSimpleIn (header : Bool) (ts : List Token) (x : Simple × List Token) : Type 0 where
-  pub words : Spells (print_simple x.0) ts x.1
+  pub words : SpellsWords (print_simple x.0) ts x.1
   pub good : (simple_form x.0.kind).good ≡ true
   pub clear : (header && (simple_form x.0.kind).ampersand) ≡ false
 

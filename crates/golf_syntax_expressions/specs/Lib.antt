@@ -1,10 +1,10 @@
 pub mod Plan
 pub mod Front
-pub mod TypeReading
+pub mod TypeReader
 pub mod Operators
 pub mod Starts
-pub mod ExprReading
+pub mod ExpressionReader
 pub mod Moves
-pub mod SimpleReading
+pub mod SimpleStatementReader
 pub mod Laws
 pub mod Places

@@ -19,7 +19,7 @@ use Rattle.golf_syntax_expressions.specs.declared.starts.Suffix.{Suffix}
 use Rattle.golf_syntax_expressions.specs.declared.starts.Suffix.TheVariants as suffixes
 use Rattle.golf_syntax_expressions.specs.Plan.{◌>>=◌}
 use Rattle.golf_syntax_expressions.specs.Front.{after, name_at}
-use Rattle.golf_syntax_expressions.specs.TypeReading.{type_at, OfType}
+use Rattle.golf_syntax_expressions.specs.TypeReader.{type_at, OfType}
 
 abbrev pub Started : Type 0
 Started = Option (Start × List Token)

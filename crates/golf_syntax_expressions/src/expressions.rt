@@ -6,7 +6,7 @@
 ghost use Rattle.std.specs.Prelude.{false, Some, ◌≡◌, ◌+◌, ◌*◌, ◌<◌, length, IfOk, IfSome};
 ghost use Rattle.golf_syntax_expressions.specs.Front as front_spec;
 ghost use Rattle.golf_syntax_expressions.specs.Front.{seen};
-ghost use Rattle.golf_syntax_expressions.specs.ExprReading.{expr_at, Suffixes, Prefixed, Level, Climb};
+ghost use Rattle.golf_syntax_expressions.specs.ExpressionReader.{expr_at, Suffixes, Prefixed, Level, Climb};
 ghost use Rattle.golf_syntax_expressions.specs.Places as places_spec;
 ghost use Rattle.golf_syntax_expressions.specs.Moves as moves_spec;
 ghost use Rattle.golf_syntax_expressions.specs.Moves.{goal_at, pending_at, argument_at, item_at, element_at, closed_at};

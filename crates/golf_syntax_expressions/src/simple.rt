@@ -6,8 +6,8 @@
 ghost use Rattle.std.specs.Prelude.{◌≡◌, ◌<◌, ◌≤◌, length, IfOk, IfSome};
 ghost use Rattle.golf_syntax_expressions.specs.Front.{seen};
 ghost use Rattle.golf_syntax_expressions.specs.Places as places_spec;
-ghost use Rattle.golf_syntax_expressions.specs.SimpleReading as simple_spec;
-ghost use Rattle.golf_syntax_expressions.specs.SimpleReading.{follow_of, second, received};
+ghost use Rattle.golf_syntax_expressions.specs.SimpleStatementReader as simple_spec;
+ghost use Rattle.golf_syntax_expressions.specs.SimpleStatementReader.{follow_of, second, received};
 
 use crate::expressions::{level_at, prefixed_at};
 use crate::front::{after, copied, name_at};
@@ -46,7 +46,7 @@ fn punctuation_follow(punctuation: Punctuation) -> Option<Follow>
     }
 }
 
-#[tactic(auto, unfolding(crate::specs::SimpleReading::follow_at))]
+#[tactic(auto, unfolding(crate::specs::SimpleStatementReader::follow_at))]
 fn follow_at(tokens: &[Token]) -> Option<(Follow, &[Token])>
     ensures value { seen result ≡ simple_spec.follow_at tokens.now }
     ensures shorter { IfSome result (λ x. length x.1.now < length tokens.now) }
@@ -148,7 +148,7 @@ fn followed(
 }
 
 // Reads a simple statement that begins with an expression.
-#[tactic(auto, unfolding(crate::specs::SimpleReading::expression_at))]
+#[tactic(auto, unfolding(crate::specs::SimpleStatementReader::expression_at))]
 fn expression_at(
     alloc: Global,
     header: bool,
@@ -213,7 +213,7 @@ fn assigned_pair(
 }
 
 // Reads `ok := <-channel` or `ok = <-channel` after a name and its comma.
-#[tactic(auto, unfolding(crate::specs::SimpleReading::pair_at))]
+#[tactic(auto, unfolding(crate::specs::SimpleStatementReader::pair_at))]
 fn pair_at(
     alloc: Global,
     header: bool,
@@ -256,7 +256,7 @@ fn defined(
 }
 
 // Reads a simple statement without its line.
-#[tactic(auto, unfolding(crate::specs::SimpleReading::kind_at))]
+#[tactic(auto, unfolding(crate::specs::SimpleStatementReader::kind_at))]
 fn kind_at(
     alloc: Global,
     header: bool,
@@ -279,7 +279,7 @@ fn kind_at(
 
 /// Reads the simple statement at the front. It has the line of its first token. Returns it and the
 /// tokens after it.
-#[tactic(auto, unfolding(crate::specs::SimpleReading::simple_at))]
+#[tactic(auto, unfolding(crate::specs::SimpleStatementReader::simple_at))]
 pub fn simple_at(
     alloc: Global,
     place: Context,

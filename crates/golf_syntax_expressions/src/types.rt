@@ -5,8 +5,8 @@
 ghost use Rattle.std.specs.Prelude.{◌≡◌, ◌<◌, ◌≤◌, length, IfOk, IfSome};
 ghost use Rattle.golf_syntax_expressions.specs.Plan.{run};
 ghost use Rattle.golf_syntax_expressions.specs.Front.{seen};
-ghost use Rattle.golf_syntax_expressions.specs.TypeReading as type_spec;
-ghost use Rattle.golf_syntax_expressions.specs.TypeReading.{OfType};
+ghost use Rattle.golf_syntax_expressions.specs.TypeReader as type_spec;
+ghost use Rattle.golf_syntax_expressions.specs.TypeReader.{OfType};
 
 use crate::front::{after, after_keyword, copied, name_at};
 use golf_base::Memory;

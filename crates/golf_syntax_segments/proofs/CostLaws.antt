@@ -6,7 +6,7 @@ use Rattle.std.specs.Prelude.{Option, Some, None, nat_lt, sum}
 use Rattle.golf_lex_tokens.specs.declared.token.Token.{Token}
 use Rattle.golf_lex_tokens.specs.declared.token.TokenKind.{TokenKind}
 use Rattle.golf_lex_tokens.specs.Cost.{counted}
-use Rattle.golf_syntax_trees.specs.Words.{Word, Spells}
+use Rattle.golf_syntax_trees.specs.Words.{Word, SpellsWords}
 use Rattle.golf_syntax_trees.specs.Reads.{most, is_affordable, first_too_complex}
 
 abbrev kinds_of : List Word → List TokenKind
@@ -22,7 +22,7 @@ step : (b : Bool) (line : ℕ) (rest : Bool) (o : Option ℕ) → Costs rest o
 step true line rest o h = (line, refl)
 step false line rest o h = h
 
-pub costs-same : (ws : List Word) (ts : List Token) (counts : List ℕ) → Spells ws ts []
+pub costs-same : (ws : List Word) (ts : List Token) (counts : List ℕ) → SpellsWords ws ts []
     → Costs (is_affordable counts (kinds_of ws)) (first_too_complex counts ts)
 costs-same [] ts counts h = ap (first_too_complex counts) h
 costs-same (w ∷ ws) [] counts h = absurd h

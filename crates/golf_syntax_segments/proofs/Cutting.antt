@@ -10,7 +10,7 @@ use Rattle.golf_lex_tokens.specs.declared.token.TokenKind.TheVariants as kinds
 use Rattle.golf_lex_tokens.specs.declared.token.Punctuation.{Punctuation}
 use Rattle.golf_lex_tokens.specs.declared.token.Punctuation.TheVariants as punctuations
 use Rattle.golf_syntax_trees.specs.Segments.{deeper, depth_behind, ends_segment, in_front, before_segment, segments}
-use Rattle.golf_syntax_segments.specs.Cut.{front_length, Cut}
+use Rattle.golf_syntax_segments.specs.Cut.{front_length, CutsOff}
 
 -- if a segment ends no bracket is open
 ends-punctuation : (m : Punctuation) (depth : ℕ) → ends_segment (kinds.Punctuation m) depth ≡ true → deeper m depth ≡ 0
@@ -50,7 +50,8 @@ front t [] depth = ended t [] depth (ends_segment t.kind depth) refl (λ _. inl 
 front t (u ∷ us) depth = ended t (u ∷ us) depth (ends_segment t.kind depth) refl
     (λ _. inr (front u us (depth_behind t.kind depth)))
 
-pub front-is : (ts : List Token) → 0 < length ts → Cut ts (take (front_length 0 ts) ts) (drop (front_length 0 ts) ts)
+pub front-is : (ts : List Token) → 0 < length ts
+    → CutsOff ts (take (front_length 0 ts) ts) (drop (front_length 0 ts) ts)
 front-is [] h = absurd (omega (arith, h))
 front-is (t ∷ ts) h = record {
   whole = sym (take-append-drop (front_length 0 (t ∷ ts)) (t ∷ ts));
@@ -75,7 +76,7 @@ length-some depth (t ∷ ts) h = by (ends_segment t.kind depth)
     by false = omega arith
 
 pub cut-is : (ts front back : List Token) (n : ℕ) → n ≡ front_length 0 ts → 0 < length ts → front ≡ take n ts
-    → back ≡ drop n ts → Cut ts front back
+    → back ≡ drop n ts → CutsOff ts front back
 cut-is ts front back n is some f b =
-    subst (λ us. Cut ts us back) (sym (f ∙ ap (λ m. take m ts) is))
-    (subst (λ us. Cut ts (take (front_length 0 ts) ts) us) (sym (b ∙ ap (λ m. drop m ts) is)) (front-is ts some))
+    subst (λ us. CutsOff ts us back) (sym (f ∙ ap (λ m. take m ts) is))
+    (subst (λ us. CutsOff ts (take (front_length 0 ts) ts) us) (sym (b ∙ ap (λ m. drop m ts) is)) (front-is ts some))

@@ -13,10 +13,10 @@ use Rattle.golf_lex_tokens.specs.declared.token.Keyword.TheVariants as keywords
 use Rattle.golf_syntax_trees.specs.declared.declarations.Import.{Import}
 use Rattle.golf_syntax_trees.specs.declared.declarations.Decl.{Decl}
 use Rattle.golf_syntax_trees.specs.Words as words
-use Rattle.golf_syntax_trees.specs.Words.{Word, closed, Spells}
+use Rattle.golf_syntax_trees.specs.Words.{Word, closed, SpellsWords}
 use Rattle.golf_syntax_trees.specs.Declarations.{package_words, print_import, print_decl}
 use Rattle.golf_syntax_trees.specs.Segments.{deeper, depth_behind, ends_segment, in_front, before_segment, segments}
-use Rattle.golf_syntax_segments.specs.Laws.{Ended, IsSegment, DeclSegments, ImportSegments, FileSegments}
+use Rattle.golf_syntax_segments.specs.Laws.{EndedBySemicolon, IsSegment, DeclSegments, ImportSegments, FileSegments}
 use Rattle.golf_syntax_segments.specs.Laws.{ImportsAreSegments, DeclsAreSegments, FilesAreSegments}
 use Rattle.golf_syntax_segments.proofs.Nested.{Nested, none, ordinary, semicolon, bracket, is_open, is_close}
 use Rattle.golf_syntax_segments.proofs.Nested.{is_ordinary_punctuation, is_ordinary, one}
@@ -29,13 +29,13 @@ chop [] ts ps = ps
 chop (w ∷ ws) [] ps = ps
 chop (w ∷ ws) (t ∷ ts) ps = in_front t (chop ws ts ps)
 
-chop-append : (xs ys : List Word) (ts mid : List Token) (ps : List (List Token)) → Spells xs ts mid
+chop-append : (xs ys : List Word) (ts mid : List Token) (ps : List (List Token)) → SpellsWords xs ts mid
     → chop (xs ++ ys) ts ps ≡ chop xs ts (chop ys mid ps)
 chop-append [] ys ts mid ps h = ap (λ us. chop ys us ps) h
 chop-append (x ∷ xs) ys [] mid ps h = absurd h
 chop-append (x ∷ xs) ys (t ∷ ts) mid ps h = ap (in_front t) (chop-append xs ys ts mid ps h.1)
 
-chop-all : (ws : List Word) (ts mid : List Token) (ps : List (List Token)) → Spells ws ts mid
+chop-all : (ws : List Word) (ts mid : List Token) (ps : List (List Token)) → SpellsWords ws ts mid
     → chop ws ts (mid ∷ ps) ≡ ts ∷ ps
 chop-all [] ts mid ps h = ap (λ us. us ∷ ps) (sym h)
 chop-all (w ∷ ws) [] mid ps h = absurd h
@@ -86,8 +86,8 @@ Deep true depth = (outer : ℕ) × (depth ≡ suc outer)
 Deep false depth = Unit {0}
 
 closed-bracket : (last : Punctuation) (ws : List Word) (depth : ℕ) (m mid us : List Token) (ps : List (List Token))
-    → is_close last ≡ true → Spells (words.punctuation last ∷ ws) m mid →
-    ((n : List Token) → Spells ws n mid → segments depth (n ++ us) ≡ chop ws n ps)
+    → is_close last ≡ true → SpellsWords (words.punctuation last ∷ ws) m mid →
+    ((n : List Token) → SpellsWords ws n mid → segments depth (n ++ us) ≡ chop ws n ps)
     → segments (suc depth) (m ++ us) ≡ chop (words.punctuation last ∷ ws) m ps
 closed-bracket last ws depth [] mid us ps c h k = absurd h
 closed-bracket last ws depth (t ∷ n) mid us ps c h k =
@@ -102,7 +102,7 @@ semicolon-inside (suc depth) t ts d is =
 
 -- no segment ends within
 cut : (b : Bool) (ws : List Word) → Nested b ws → (depth : ℕ) → Deep b depth → (ts mid us : List Token)
-    → Spells ws ts mid → segments depth (ts ++ us) ≡ chop ws ts (segments depth (mid ++ us))
+    → SpellsWords ws ts mid → segments depth (ts ++ us) ≡ chop ws ts (segments depth (mid ++ us))
 cut _ _ (none b) depth f ts mid us h = ap (λ vs. segments depth (vs ++ us)) h
 cut _ _ (ordinary b k l vs p n) depth f [] mid us h = absurd h
 cut _ _ (ordinary b k l vs p n) depth f (t ∷ ts) mid us h =
@@ -122,7 +122,7 @@ cut _ _ (bracket b first last l inner vs o c i n) depth f (t ∷ ts) mid us h =
     (λ m g. cut b vs n depth f m mid us g))
     ∙ sym (chop-append inner (words.punctuation last ∷ vs) ts k.0 (segments depth (mid ++ us)) k.1))
 
-end : (mid us : List Token) → Spells (words.punctuation punctuations.Semicolon ∷ []) mid []
+end : (mid us : List Token) → SpellsWords (words.punctuation punctuations.Semicolon ∷ []) mid []
     → segments 0 (mid ++ us) ≡ mid ∷ segments 0 us
 end [] us h = absurd h
 end (t ∷ ts) us h =
@@ -145,15 +145,15 @@ decls-are d = nested-segment (print_decl d) (decl-nested d)
 
 -- the first segment, taken off
 abbrev pub Taken : List Word → List Token → List Token → Type 0
-Taken ws ts mid = (p : List Token) × (Ended ws p) × (segments 0 ts ≡ p ∷ segments 0 mid)
+Taken ws ts mid = (p : List Token) × (EndedBySemicolon ws p) × (segments 0 ts ≡ p ∷ segments 0 mid)
 
 pub taken : (ws : List Word) (ts mid : List Token) → IsSegment ws
-    → Spells (ws ++ words.punctuation punctuations.Semicolon ∷ []) ts mid → Taken ws ts mid
+    → SpellsWords (ws ++ words.punctuation punctuations.Semicolon ∷ []) ts mid → Taken ws ts mid
 taken ws ts mid is h =
     let k = part (ws ++ words.punctuation punctuations.Semicolon ∷ []) ts mid h in
     (k.segment, k.words, ap (segments 0) k.whole ∙ is k.segment mid k.words)
 
-decl-segments : (ds : List Decl) (ts : List Token) → Spells (closed (map print_decl ds)) ts []
+decl-segments : (ds : List Decl) (ts : List Token) → SpellsWords (closed (map print_decl ds)) ts []
     → DeclSegments ds (segments 0 ts)
 decl-segments [] ts h = ap (segments 0) h
 decl-segments (d ∷ ds) ts h =
@@ -162,7 +162,7 @@ decl-segments (d ∷ ds) ts h =
     subst (DeclSegments (d ∷ ds)) (sym p.2) (p.1, decl-segments ds k.0 k.2)
 
 import-segments : (is : List Import) (ds : List Decl) (ts mid : List Token)
-    → Spells (closed (map print_import is)) ts mid → DeclSegments ds (segments 0 mid)
+    → SpellsWords (closed (map print_import is)) ts mid → DeclSegments ds (segments 0 mid)
     → ImportSegments is ds (segments 0 ts)
 import-segments [] ds ts mid h rest = subst (λ us. DeclSegments ds (segments 0 us)) (sym h) rest
 import-segments (i ∷ is) ds ts mid h rest =

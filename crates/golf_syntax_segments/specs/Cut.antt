@@ -10,11 +10,11 @@ front_length depth [] = 0
 front_length depth (t ∷ ts) = cond (ends_segment t.kind depth) 1 (suc (front_length (depth_behind t.kind depth) ts))
 
 -- the list is this segment and the rest, and its segments are this one and those of the rest
-pub record Cut (ts segment rest : List Token) : Type 0 where
+pub record CutsOff (ts segment rest : List Token) : Type 0 where
   pub whole : ts ≡ segment ++ rest
   pub segments : segments 0 ts ≡ segment ∷ segments 0 rest
 
 -- the result is the first segment and the rest, or none if there are no tokens
 abbrev pub CutAt : List Token → Option (Bor (List Token) × Bor (List Token)) → Type 0
 CutAt ts None = ts ≡ []
-CutAt ts (Some x) = Cut ts x.0.now x.1.now
+CutAt ts (Some x) = CutsOff ts x.0.now x.1.now

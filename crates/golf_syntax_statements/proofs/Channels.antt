@@ -1,5 +1,5 @@
 -- The channel that an expression receives from.
--- For: `channel_of` (golf_syntax_statements/specs/CommReading.antt) and `comm_of` (src/communications.rt)
+-- For: `channel_of` (golf_syntax_statements/specs/CommunicationReader.antt) and `comm_of` (src/communications.rt)
 -- By: cases of the kind of the expression and of its operator; no induction
 use Rattle.std.proofs.Common.{◌≡◌, ℕ, List, ap, sym, ◌∙◌, refl}
 use Rattle.std.specs.Prelude.{Some, None}
@@ -13,7 +13,7 @@ use Rattle.golf_syntax_trees.specs.declared.expressions.Expr.TheVariants as ex
 use Rattle.golf_syntax_trees.specs.declared.expressions.Expr.TheOpen as F
 use Rattle.golf_syntax_trees.specs.declared.statements.SimpleKind.{SimpleKind}
 use Rattle.golf_syntax_trees.specs.declared.statements.SimpleKind.TheVariants as s
-use Rattle.golf_syntax_statements.specs.CommReading.{channel_in, channel_of, operand_of, comm_of}
+use Rattle.golf_syntax_statements.specs.CommunicationReader.{channel_in, channel_of, operand_of, comm_of}
 
 -- an expression with a channel is a receive from it
 pub channel-is : (e c : Expr) → channel_of e ≡ Some c → e ≡ ex.Unary unary.Receive c

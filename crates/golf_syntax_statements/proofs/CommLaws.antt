@@ -1,5 +1,5 @@
 -- A communication is read exactly if it is printed.
--- For: `comm_at` (golf_syntax_statements/specs/CommReading.antt) and `comm_at` (src/communications.rt)
+-- For: `comm_at` (golf_syntax_statements/specs/CommunicationReader.antt) and `comm_at` (src/communications.rt)
 -- By: cases of the simple statement that is read; induction over the tree of an expression for what it begins with
 use Rattle.std.proofs.Common.{◌≡◌, ℕ, true, false, ◌&&◌, List, [], ◌∷◌, refl, ap, sym, subst, ◌∙◌}
 use Rattle.std.specs.Prelude.{Option, Some, None, nat_le}
@@ -27,8 +27,8 @@ use Rattle.golf_syntax_trees.specs.Expressions.{Form}
 use Rattle.golf_syntax_trees.specs.Simple.{print_simple_kind, simple_form, print_comm, comm_good}
 use Rattle.golf_syntax_expressions.specs.Plan.{◌>>=◌}
 use Rattle.golf_syntax_expressions.specs.Front.{after, after_kind, name_at, name_of}
-use Rattle.golf_syntax_expressions.specs.ExprReading.{Prefixed, expr_at}
-use Rattle.golf_syntax_expressions.specs.SimpleReading.{kind_at, simple_at}
+use Rattle.golf_syntax_expressions.specs.ExpressionReader.{Prefixed, expr_at}
+use Rattle.golf_syntax_expressions.specs.SimpleStatementReader.{kind_at, simple_at}
 use Rattle.golf_syntax_expressions.proofs.Plans.{bind_some}
 use Rattle.golf_syntax_expressions.proofs.Fronts.{some-same, both, and-true, Spelt, punctuation-then, name-then, split}
 use Rattle.golf_syntax_expressions.proofs.Fronts.{first, ends, behind-punctuation, behind-name, not-after}
@@ -38,7 +38,7 @@ use Rattle.golf_syntax_expressions.proofs.ExprSound.{prefixed-is-sound}
 use Rattle.golf_syntax_expressions.proofs.ExprComplete.{prefixed-complete}
 use Rattle.golf_syntax_expressions.proofs.SimpleLaws.{kind-sound, kind-complete}
 use Rattle.golf_syntax_expressions.proofs.SimpleLines.{unlined-kind}
-use Rattle.golf_syntax_statements.specs.CommReading.{channel_of, comm_of, assigned_at, comm_by, comm_at}
+use Rattle.golf_syntax_statements.specs.CommunicationReader.{channel_of, comm_of, assigned_at, comm_by, comm_at}
 use Rattle.golf_syntax_statements.proofs.Nothing.{Stops}
 use Rattle.golf_syntax_statements.proofs.Channels.{channel-is}
 use Rattle.golf_syntax_trees.proofs.Parts.{channel_parts}

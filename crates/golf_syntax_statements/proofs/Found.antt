@@ -5,7 +5,7 @@ use Rattle.std.proofs.Common.{inl, inr, ap, ◌∙◌, List, []}
 use Rattle.golf_lex_tokens.specs.declared.token.Token.{Token}
 use Rattle.golf_lex_tokens.specs.declared.token.Punctuation.TheVariants as punctuations
 use Rattle.golf_syntax_expressions.proofs.Fronts.{nothing, punctuation-then}
-use Rattle.golf_syntax_statements.specs.VarReading.{var_at}
+use Rattle.golf_syntax_statements.specs.VariableReader.{var_at}
 use Rattle.golf_syntax_statements.specs.Laws.{EndsStatement, VarsFound, VarsRead, TestsFound, TestsRead, HeadersFound}
 use Rattle.golf_syntax_statements.specs.Laws.{HeadersRead, CommsFound, CommsRead, StatementsFound, StatementsRead}
 use Rattle.golf_syntax_statements.proofs.Nothing.{semicolon, close_brace, colon, Stops, stops}

@@ -1,5 +1,5 @@
 -- What is read as a header of `if` or `for` is printed there.
--- For: `test_at`, `header_at` (golf_syntax_statements/specs/HeaderReading.antt)
+-- For: `test_at`, `header_at` (golf_syntax_statements/specs/HeaderReader.antt)
 -- By: cases of the punctuation that comes next; no induction
 use Rattle.std.proofs.Common.{◌≡◌, ℕ, Bool, true, false, not, cond, ◌&&◌, List, [], ◌∷◌, ◌++◌, refl, ap, sym, subst}
 use Rattle.std.proofs.Common.{◌∙◌, append_assoc}
@@ -23,18 +23,18 @@ use Rattle.golf_syntax_trees.specs.Simple.{print_range_names, print_header, head
 use Rattle.golf_syntax_trees.specs.Simple.{header_good}
 use Rattle.golf_syntax_expressions.specs.Plan.{◌>>=◌}
 use Rattle.golf_syntax_expressions.specs.Front.{after, after_keyword, name_at}
-use Rattle.golf_syntax_expressions.specs.ExprReading.{Level, expr_at}
-use Rattle.golf_syntax_expressions.specs.SimpleReading.{simple_at}
+use Rattle.golf_syntax_expressions.specs.ExpressionReader.{Level, expr_at}
+use Rattle.golf_syntax_expressions.specs.SimpleStatementReader.{simple_at}
 use Rattle.golf_syntax_expressions.proofs.Plans.{bind_some}
 use Rattle.golf_syntax_expressions.proofs.Fronts.{some-same, and-true, Spelt, nothing, punctuation-then, keyword-then}
 use Rattle.golf_syntax_expressions.proofs.Fronts.{name-then, join}
 use Rattle.golf_syntax_expressions.proofs.ExprSound.{expr-sound}
 use Rattle.golf_syntax_expressions.proofs.SimpleLines.{Unlined, unlined, on-line-back, on-line-some, IsSimpleAt}
 use Rattle.golf_syntax_expressions.proofs.SimpleLines.{simple-sound}
-use Rattle.golf_syntax_statements.specs.HeaderReading.{expression_of, Test, test_by, test_at, names_behind, names_by}
-use Rattle.golf_syntax_statements.specs.HeaderReading.{names_at, post_by, post_at, steps_by, steps_at, empty_by}
-use Rattle.golf_syntax_statements.specs.HeaderReading.{first_by, without_range_by, without_range_at, header_by}
-use Rattle.golf_syntax_statements.specs.HeaderReading.{header_at}
+use Rattle.golf_syntax_statements.specs.HeaderReader.{expression_of, Test, test_by, test_at, names_behind, names_by}
+use Rattle.golf_syntax_statements.specs.HeaderReader.{names_at, post_by, post_at, steps_by, steps_at, empty_by}
+use Rattle.golf_syntax_statements.specs.HeaderReader.{first_by, without_range_by, without_range_at, header_by}
+use Rattle.golf_syntax_statements.specs.HeaderReader.{header_at}
 
 not-ampersand : (g a : Bool) → g ≡ true → a ≡ false → (g && not a) ≡ true
 not-ampersand g a p q = ap (λ x. x && not a) p ∙ ap not q

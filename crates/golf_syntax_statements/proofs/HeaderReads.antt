@@ -1,5 +1,5 @@
 -- A header of `if` or `for` that is printed is read, before a brace.
--- For: `test_at`, `header_at` (golf_syntax_statements/specs/HeaderReading.antt)
+-- For: `test_at`, `header_at` (golf_syntax_statements/specs/HeaderReader.antt)
 -- By: cases of the header's form; induction over the tree of an expression for what it begins with
 use Rattle.std.proofs.Common.{◌≡◌, ℕ, true, not, cond, ◌&&◌, List, [], ◌∷◌, ◌++◌, refl, ap, subst, ◌∙◌}
 use Rattle.std.proofs.lemmas.Bool.{not-true}
@@ -28,8 +28,8 @@ use Rattle.golf_syntax_trees.specs.Simple.{all_of, print_range_names, print_head
 use Rattle.golf_syntax_trees.specs.Simple.{post_simple, header_good}
 use Rattle.golf_syntax_expressions.specs.Plan.{◌>>=◌}
 use Rattle.golf_syntax_expressions.specs.Front.{after, after_kind, after_keyword, after_keyword_kind, name_at, name_of}
-use Rattle.golf_syntax_expressions.specs.ExprReading.{Level, expr_at}
-use Rattle.golf_syntax_expressions.specs.SimpleReading.{simple_at}
+use Rattle.golf_syntax_expressions.specs.ExpressionReader.{Level, expr_at}
+use Rattle.golf_syntax_expressions.specs.SimpleStatementReader.{simple_at}
 use Rattle.golf_syntax_expressions.proofs.Fronts.{both, Spelt, split, first, ends, behind-punctuation, behind-keyword}
 use Rattle.golf_syntax_expressions.proofs.Fronts.{behind-name, not-after}
 use Rattle.golf_syntax_expressions.proofs.ExprShapes as shape
@@ -38,9 +38,9 @@ use Rattle.golf_syntax_expressions.proofs.ExprComplete.{expr-complete}
 use Rattle.golf_syntax_expressions.proofs.SimpleLaws.{NameNotDefining, NotDefining, begins}
 use Rattle.golf_syntax_expressions.proofs.SimpleLines.{unlined, unlined-kind, on-line-then, on-line-back, on-line-some}
 use Rattle.golf_syntax_expressions.proofs.SimpleLines.{simple-complete}
-use Rattle.golf_syntax_statements.specs.HeaderReading.{Test, test_by, test_at, names_behind, names_by, names_at}
-use Rattle.golf_syntax_statements.specs.HeaderReading.{post_by, post_at, steps_by, steps_at, empty_by, first_by}
-use Rattle.golf_syntax_statements.specs.HeaderReading.{without_range_by, without_range_at, header_by, header_at}
+use Rattle.golf_syntax_statements.specs.HeaderReader.{Test, test_by, test_at, names_behind, names_by, names_at}
+use Rattle.golf_syntax_statements.specs.HeaderReader.{post_by, post_at, steps_by, steps_at, empty_by, first_by}
+use Rattle.golf_syntax_statements.specs.HeaderReader.{without_range_by, without_range_at, header_by, header_at}
 use Rattle.golf_syntax_statements.proofs.Nothing.{semicolon, open_brace, Stops, stops, no-expr, no-simple}
 
 -- another kind of word in front than the word `range`

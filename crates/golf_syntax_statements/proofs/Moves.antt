@@ -25,12 +25,13 @@ use Rattle.golf_syntax_trees.specs.declared.statements.Clause.TheOpen as F
 use Rattle.golf_syntax_expressions.specs.Plan.{◌>>=◌, Done, Ask, run, given}
 use Rattle.golf_syntax_expressions.specs.Front.{after, after_kind, after_keyword}
 use Rattle.golf_syntax_expressions.proofs.Plans.{bind-assoc, bind-same, waits-last, waits-none, Leaves}
-use Rattle.golf_syntax_statements.specs.CommReading.{comm_at}
-use Rattle.golf_syntax_statements.specs.HeaderReading.{Test, test_at, header_at}
-use Rattle.golf_syntax_statements.specs.StmtReading.{OfStmt, Body, Clauses, CaseBody, found, just, body, block}
-use Rattle.golf_syntax_statements.specs.StmtReading.{block_at, call_in, call_of, else_plan, if_plan, for_plan}
-use Rattle.golf_syntax_statements.specs.StmtReading.{kind_plan, body_behind, case_behind, begins_clause, clause_body}
-use Rattle.golf_syntax_statements.specs.StmtReading.{clause_plan, clauses_from, stmt_at}
+use Rattle.golf_syntax_statements.specs.CommunicationReader.{comm_at}
+use Rattle.golf_syntax_statements.specs.HeaderReader.{Test, test_at, header_at}
+use Rattle.golf_syntax_statements.specs.StatementReader.{OfStmt, Body, Clauses, CaseBody, found, just, body, block}
+use Rattle.golf_syntax_statements.specs.StatementReader.{block_at, call_in, call_of, else_plan, if_plan, for_plan}
+use Rattle.golf_syntax_statements.specs.StatementReader.{kind_plan, body_behind, case_behind, begins_clause}
+use Rattle.golf_syntax_statements.specs.StatementReader.{clause_body}
+use Rattle.golf_syntax_statements.specs.StatementReader.{clause_plan, clauses_from, stmt_at}
 use Rattle.golf_syntax_statements.specs.declared.pending.Owner.{Owner}
 use Rattle.golf_syntax_statements.specs.declared.pending.Owner.TheVariants as owners
 use Rattle.golf_syntax_statements.specs.declared.pending.Select.{Select}
@@ -40,36 +41,38 @@ use Rattle.golf_syntax_statements.specs.declared.pending.Pending.TheVariants as 
 use Rattle.golf_syntax_trees.proofs.Parts.{block_parts}
 use Rattle.golf_syntax_statements.specs.declared.pending.Move.{Move}
 use Rattle.golf_syntax_statements.specs.declared.pending.Move.TheVariants as moves
-use Rattle.golf_syntax_statements.specs.Moves.{Found, moved, weight, move_at, owned, closed_at, body_at, grown}
+use Rattle.golf_syntax_statements.specs.Moves.{FoundStatement, moved, weight, move_at, owned, closed_at, body_at, grown}
 use Rattle.golf_syntax_statements.specs.Moves.{selected, clause_at, case_at, headed_by, headed_at, colon_at}
 use Rattle.golf_syntax_statements.specs.Moves.{selected_by, pending_at, waited, statements_in, statements_of}
 use Rattle.golf_syntax_statements.proofs.StmtSteps.{stmt-is, stmt-leaves}
 
 -- the last of those that wait goes on first
-pub waited-last : (fs : List Pending) (f : Pending) (o : Found)
+pub waited-last : (fs : List Pending) (f : Pending) (o : FoundStatement)
     → waited (fs ++ f ∷ []) o ≡ waited fs (o >>= pending_at f)
 waited-last = waits-last pending_at
 
 -- one move more
-pub went-found : {s : Stmt} {o r : Found} (fs gs : List Pending) (f : Pending) (n : Move) (ts : List Token)
+pub went-found : {s : Stmt} {o r : FoundStatement} (fs gs : List Pending) (f : Pending) (n : Move) (ts : List Token)
     → waited fs (move_at n ts) ≡ r → n ≡ moves.Found s → fs ≡ gs ++ f ∷ [] → o ≡ pending_at f (s, ts) → waited gs o ≡ r
 went-found {s} fs gs f n ts i p q e =
     ap (waited gs) e ∙ sym (waited-last gs f (Some (s, ts)))
     ∙ ap (λ (hs : List Pending). waited hs (Some (s, ts))) (sym q)
     ∙ ap (λ (m : Move). waited fs (move_at m ts)) (sym p) ∙ i
 
-pub went-done : (fs : List Pending) (n : Move) (s : Stmt) (ts : List Token) (r : Found) → waited fs (move_at n ts) ≡ r
+pub went-done : (fs : List Pending) (n : Move) (s : Stmt) (ts : List Token) (r : FoundStatement)
+    → waited fs (move_at n ts) ≡ r
     → n ≡ moves.Found s → fs ≡ [] → Some (s, ts) ≡ r
 went-done fs n s ts r i p q = ap (λ (hs : List Pending). waited hs (Some (s, ts))) (sym q)
     ∙ ap (λ (m : Move). waited fs (move_at m ts)) (sym p) ∙ i
 
-pub went-wait : (fs gs : List Pending) (f : Pending) (n : Move) (ts : List Token) (o r : Found)
+pub went-wait : (fs gs : List Pending) (f : Pending) (n : Move) (ts : List Token) (o r : FoundStatement)
     → waited fs (move_at n ts) ≡ r → n ≡ moves.Wait f → gs ≡ fs ++ f ∷ [] → o ≡ stmt_at OfStmt ts → waited gs o ≡ r
 went-wait fs gs f n ts o r i p q e =
     ap (waited gs) e ∙ ap (λ (hs : List Pending). waited hs (stmt_at OfStmt ts)) q
     ∙ waited-last fs f (stmt_at OfStmt ts) ∙ ap (λ (m : Move). waited fs (move_at m ts)) (sym p) ∙ i
 
-pub went-on : (fs : List Pending) (n m : Move) (ts : List Token) (o r : Found) → waited fs (move_at n ts) ≡ r → n ≡ m
+pub went-on : (fs : List Pending) (n m : Move) (ts : List Token) (o r : FoundStatement) → waited fs (move_at n ts) ≡ r
+    → n ≡ m
     → o ≡ move_at m ts → waited fs o ≡ r
 went-on fs n m ts o r i p e = ap (waited fs) e ∙ ap (λ (k : Move). waited fs (move_at k ts)) (sym p) ∙ i
 
@@ -99,16 +102,17 @@ abbrev pub Next : Type 0
 Next = Option (Move × Bor (List Token))
 
 -- the same with what a move left under other names
-pub went-so : (fs gs : List Pending) (o q : Next) (r : Found) → gs ≡ fs → q ≡ o → waited fs (moved o) ≡ r
+pub went-so : (fs gs : List Pending) (o q : Next) (r : FoundStatement) → gs ≡ fs → q ≡ o → waited fs (moved o) ≡ r
     → waited gs (moved q) ≡ r
 went-so fs gs o q r a b e = ap (λ (hs : List Pending). waited hs (moved q)) a ∙ ap (λ (x : Next). waited fs (moved x)) b
     ∙ e
 
 -- nothing is found if a move finds nothing
-pub went-nowhere : (fs : List Pending) (q : Next) (r : Found) → q ≡ None → waited fs (moved q) ≡ r → None ≡ r
+pub went-nowhere : (fs : List Pending) (q : Next) (r : FoundStatement) → q ≡ None → waited fs (moved q) ≡ r → None ≡ r
 went-nowhere fs q r n e = sym (waited-none fs) ∙ ap (λ (x : Next). waited fs (moved x)) (sym n) ∙ e
 
-pub went-further : (fs : List Pending) (q : Next) (m : Move) (b : Bor (List Token)) (r : Found) → q ≡ Some (m, b)
+pub went-further : (fs : List Pending) (q : Next) (m : Move) (b : Bor (List Token)) (r : FoundStatement)
+    → q ≡ Some (m, b)
     → waited fs (moved q) ≡ r → waited fs (move_at m b.now) ≡ r
 went-further fs q m b r p e = ap (λ (x : Next). waited fs (moved x)) (sym p) ∙ e
 
@@ -164,7 +168,7 @@ pub clause-then : (s : Select) (h : Head) (done : List Stmt) (ts : List Token) (
     → begins_clause ts ≡ true → selected g ts ≡ clause_at s h done ts
 clause-then s h done ts g p e = ap (λ (x : Select). selected x ts) p ∙ sym (clause-ends s h done ts e)
 
-abbrev more : Select → Head → List Stmt × List Token → Found
+abbrev more : Select → Head → List Stmt × List Token → FoundStatement
 more s h b = selected (grown s h b.0) b.1
 
 pub clause-goes : (s : Select) (h : Head) (done : List Stmt) (ts : List Token) → begins_clause ts ≡ false
@@ -189,7 +193,7 @@ clause-goes s h done ts e =
     at xs us None = close xs us (after punctuations.CloseBrace us)
 
 -- what is found if the clauses of a `select` are read so
-abbrev closes : Select → Option (List Clause × List Token) → Found
+abbrev closes : Select → Option (List Clause × List Token) → FoundStatement
 closes s o = o >>= λ c. Some (st.Select s.line c.0, c.1)
 
 -- a clause after its head
@@ -294,7 +298,7 @@ for-goes l ts us h o p q = ap (λ (y : Owner). run stmt_at (block us (owned y)))
 pub stmt-shorter : (ts us : List Token) (s : Stmt) → Some (s, us) ≡ stmt_at OfStmt ts → length us < length ts
 stmt-shorter ts us s e = at (stmt_at OfStmt ts) (stmt-leaves OfStmt ts) e
   where
-    at : (o : Found) → Leaves 1 (length ts) o → Some (s, us) ≡ o → length us < length ts
+    at : (o : FoundStatement) → Leaves 1 (length ts) o → Some (s, us) ≡ o → length us < length ts
     at (Some x) l f = let q : length x.1 ≡ length us = cc in omega arith
     at None l f = cc
 

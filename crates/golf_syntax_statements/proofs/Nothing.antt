@@ -1,5 +1,5 @@
 -- Where nothing is read: no expression or simple statement at a stop such as `;` or `}`, no type at `=`.
--- For: `expr_at` (golf_syntax_expressions/specs/ExprReading.antt)
+-- For: `expr_at` (golf_syntax_expressions/specs/ExpressionReader.antt)
 -- By: cases of the punctuation; no induction
 use Rattle.std.proofs.Common.{◌≡◌, ℕ, Bool, List, [], ◌∷◌, refl, ap, ◌∙◌}
 use Rattle.std.specs.Prelude.{Some, None}
@@ -12,10 +12,10 @@ use Rattle.golf_syntax_trees.specs.Words.{Word}
 use Rattle.golf_syntax_expressions.specs.Plan.{◌>>=◌}
 use Rattle.golf_syntax_expressions.specs.Front.{after, name_at, name_of}
 use Rattle.golf_syntax_expressions.specs.Starts.{punctuation_start, start_from}
-use Rattle.golf_syntax_expressions.specs.ExprReading.{Level, Climb, expr_at}
-use Rattle.golf_syntax_expressions.specs.SimpleReading.{behind_expr, kind_by, kind_at, expression_at, follow_at}
-use Rattle.golf_syntax_expressions.specs.SimpleReading.{simple_at}
-use Rattle.golf_syntax_expressions.specs.TypeReading.{type_at, OfType}
+use Rattle.golf_syntax_expressions.specs.ExpressionReader.{Level, Climb, expr_at}
+use Rattle.golf_syntax_expressions.specs.SimpleStatementReader.{behind_expr, kind_by, kind_at, expression_at, follow_at}
+use Rattle.golf_syntax_expressions.specs.SimpleStatementReader.{simple_at}
+use Rattle.golf_syntax_expressions.specs.TypeReader.{type_at, OfType}
 use Rattle.golf_syntax_expressions.proofs.Fronts.{Spelt, first, not-after}
 use Rattle.golf_syntax_expressions.proofs.ExprFronts.{quiet, unary_behind, start-first}
 use Rattle.golf_syntax_expressions.proofs.ExprSteps.{expr-Level}

@@ -1,5 +1,5 @@
 -- A statement that is printed is read.
--- For: `stmt_at` (golf_syntax_statements/specs/StmtReading.antt) and `read` (src/statements.rt)
+-- For: `stmt_at` (golf_syntax_statements/specs/StatementReader.antt) and `read` (src/statements.rt)
 -- By: induction over the tree of a statement, and over the lists of statements and of clauses in it
 use Rattle.std.proofs.Common.{◌≡◌, ◌⊎◌, inl, inr, ℕ, ◌+◌, ◌≤◌, Bool, true, false, cond, ◌&&◌, List, [], ◌∷◌, ◌++◌, map}
 use Rattle.std.proofs.Common.{refl, ap, sym, subst, ◌∙◌, arith, append_assoc}
@@ -33,9 +33,9 @@ use Rattle.golf_syntax_trees.specs.Statements.{clause_form}
 use Rattle.golf_syntax_expressions.specs.Plan.{◌>>=◌, Done, Ask, run, given}
 use Rattle.golf_syntax_expressions.specs.Front.{after, after_kind, after_keyword, after_keyword_kind, name_at, name_of}
 use Rattle.golf_syntax_expressions.specs.Starts.{keyword_start, start_from}
-use Rattle.golf_syntax_expressions.specs.ExprReading.{Level, Climb, Prefixed, expr_at}
-use Rattle.golf_syntax_expressions.specs.SimpleReading.{behind_expr, kind_by, kind_at, expression_at, follow_at}
-use Rattle.golf_syntax_expressions.specs.SimpleReading.{simple_at}
+use Rattle.golf_syntax_expressions.specs.ExpressionReader.{Level, Climb, Prefixed, expr_at}
+use Rattle.golf_syntax_expressions.specs.SimpleStatementReader.{behind_expr, kind_by, kind_at, expression_at, follow_at}
+use Rattle.golf_syntax_expressions.specs.SimpleStatementReader.{simple_at}
 use Rattle.golf_syntax_expressions.proofs.Fronts.{both, Spelt, nothing, kind-then, punctuation-then, split, first, ends}
 use Rattle.golf_syntax_expressions.proofs.Fronts.{behind-punctuation, behind-keyword, not-after}
 use Rattle.golf_syntax_expressions.proofs.ExprShapes as expr_shape
@@ -44,12 +44,14 @@ use Rattle.golf_syntax_expressions.proofs.ExprSteps.{expr-Level}
 use Rattle.golf_syntax_expressions.proofs.ExprComplete.{expr-complete, prefixed-complete}
 use Rattle.golf_syntax_expressions.proofs.Moves.{prefixed-none}
 use Rattle.golf_syntax_expressions.proofs.SimpleLines.{simple-complete}
-use Rattle.golf_syntax_statements.specs.VarReading.{var_at}
-use Rattle.golf_syntax_statements.specs.StmtReading.{OfStmt, Body, Clauses, CaseBody, just, found, Goes, body, block}
-use Rattle.golf_syntax_statements.specs.StmtReading.{call_in, call_of, call_at, returned, is_branch_kind, is_branch}
-use Rattle.golf_syntax_statements.specs.StmtReading.{else_plan, simple_plan, keyword_plan, kind_plan, body_behind}
-use Rattle.golf_syntax_statements.specs.StmtReading.{case_behind, begins_kind, begins_clause, clause_body, clause_plan}
-use Rattle.golf_syntax_statements.specs.StmtReading.{clauses_from, stmt_at}
+use Rattle.golf_syntax_statements.specs.VariableReader.{var_at}
+use Rattle.golf_syntax_statements.specs.StatementReader.{OfStmt, Body, Clauses, CaseBody, just, found, GoesFrom, body}
+use Rattle.golf_syntax_statements.specs.StatementReader.{block}
+use Rattle.golf_syntax_statements.specs.StatementReader.{call_in, call_of, call_at, returned, is_branch_kind, is_branch}
+use Rattle.golf_syntax_statements.specs.StatementReader.{else_plan, simple_plan, keyword_plan, kind_plan, body_behind}
+use Rattle.golf_syntax_statements.specs.StatementReader.{case_behind, begins_kind, begins_clause, clause_body}
+use Rattle.golf_syntax_statements.specs.StatementReader.{clause_plan}
+use Rattle.golf_syntax_statements.specs.StatementReader.{clauses_from, stmt_at}
 use Rattle.golf_syntax_statements.proofs.Nothing.{IsStop, semicolon, open_brace, close_brace, colon, Stops, stops}
 use Rattle.golf_syntax_statements.proofs.Nothing.{no-expr, no-simple}
 use Rattle.golf_syntax_statements.proofs.StmtSound.{exclusive}
@@ -214,7 +216,8 @@ body-read (z ∷ zs) y done ts mid rest good h c =
     ∙ ap (λ xs. Some (xs, rest)) (append_assoc done (y.0 ∷ []) (stmts (z ∷ zs)))
 
 -- statements after an opening brace
-braced : (A : Type 0) (ys : Parts) (ts rest : List Token) (more : Goes A) → stmts_good (map stmt_form (stmts ys)) ≡ true
+braced : (A : Type 0) (ys : Parts) (ts rest : List Token) (more : GoesFrom A)
+    → stmts_good (map stmt_form (stmts ys)) ≡ true
     →
     Spelt (separated punctuations.Semicolon (map print_stmt (stmts ys)) ++ words.punctuation punctuations.CloseBrace
     ∷ []) ts rest → run stmt_at (body ts (after punctuations.CloseBrace ts) more) ≡ run stmt_at
@@ -245,7 +248,7 @@ braced A (y ∷ ys) ts rest more good h =
     }
     follows (z ∷ zs) ts mid h c = ended punctuations.Semicolon semicolon h
 
-block-read : (A : Type 0) (ys : Parts) (ts rest : List Token) (more : Goes A)
+block-read : (A : Type 0) (ys : Parts) (ts rest : List Token) (more : GoesFrom A)
     → stmts_good (map stmt_form (stmts ys)) ≡ true → Spelt (print_block (map print_stmt (stmts ys))) ts rest
     → run stmt_at (block ts more) ≡ run stmt_at (more (stmts ys, rest))
 block-read A ys ts rest more good h =
@@ -778,7 +781,7 @@ pub stmt-complete : (s : Stmt) (ts rest : List Token) → (stmt_form s).good ≡
 stmt-complete s ts rest good h e = (is_read s).reads good ts rest h e
 
 -- so are statements in braces, after the opening one
-pub block-complete : (A : Type 0) (b : List Stmt) (ts rest : List Token) (more : Goes A)
+pub block-complete : (A : Type 0) (b : List Stmt) (ts rest : List Token) (more : GoesFrom A)
     → stmts_good (map stmt_form b) ≡ true → Spelt (print_block (map print_stmt b)) ts rest
     → run stmt_at (block ts more) ≡ run stmt_at (more (b, rest))
 block-complete A b ts rest more good h =

@@ -1,5 +1,5 @@
 -- What is read as a statement is one that is printed there.
--- For: `stmt_at` (golf_syntax_statements/specs/StmtReading.antt) and `read` (src/statements.rt)
+-- For: `stmt_at` (golf_syntax_statements/specs/StatementReader.antt) and `read` (src/statements.rt)
 -- By: cases of the first token, for each step of a plan; the induction over the steps is `reads-keeps`
 use Rattle.std.proofs.Common.{◌≡◌, ◌⊎◌, inl, inr, ℕ, ◌+◌, ◌≤◌, ◌*◌, suc, length, Bool, true, false, cond, ◌&&◌, List}
 use Rattle.std.proofs.Common.{[], ◌∷◌, ◌++◌, map, refl, ap, sym, subst, ◌∙◌, arith, append_assoc}
@@ -31,8 +31,8 @@ use Rattle.golf_syntax_trees.specs.Statements.{print_clause, StmtForm, ClauseFor
 use Rattle.golf_syntax_trees.specs.Statements.{clause_form}
 use Rattle.golf_syntax_expressions.specs.Plan.{◌>>=◌, Done, Ask}
 use Rattle.golf_syntax_expressions.specs.Front.{after, after_kind, after_keyword}
-use Rattle.golf_syntax_expressions.specs.ExprReading.{Level, Prefixed, expr_at}
-use Rattle.golf_syntax_expressions.specs.SimpleReading.{simple_at}
+use Rattle.golf_syntax_expressions.specs.ExpressionReader.{Level, Prefixed, expr_at}
+use Rattle.golf_syntax_expressions.specs.SimpleStatementReader.{simple_at}
 use Rattle.golf_syntax_expressions.proofs.Plans.{bind_some, Keeps, keeps-given, reads-keeps}
 use Rattle.golf_syntax_expressions.proofs.Fronts.{some-same, and-true, found as found-keeps, Spelt, nothing, kind-then}
 use Rattle.golf_syntax_expressions.proofs.Fronts.{punctuation-then, keyword-then, join}
@@ -40,15 +40,18 @@ use Rattle.golf_syntax_expressions.proofs.ExprShapes as expr_shape
 use Rattle.golf_syntax_expressions.proofs.ExprFronts.{le-true}
 use Rattle.golf_syntax_expressions.proofs.ExprSound.{expr-sound, prefixed-is-sound}
 use Rattle.golf_syntax_expressions.proofs.SimpleLines.{on-line-then, simple-sound}
-use Rattle.golf_syntax_statements.specs.VarReading.{var_at}
-use Rattle.golf_syntax_statements.specs.HeaderReading.{Test, test_at, header_at}
-use Rattle.golf_syntax_statements.specs.CommReading.{comm_at}
-use Rattle.golf_syntax_statements.specs.StmtReading.{Mode, OfStmt, Body, Clauses, CaseBody, Node, just, Goes, body}
-use Rattle.golf_syntax_statements.specs.StmtReading.{block, call_in, call_of, call_at, returned, is_branch_kind}
-use Rattle.golf_syntax_statements.specs.StmtReading.{is_branch, else_plan, if_plan, for_plan, select_plan, simple_plan}
-use Rattle.golf_syntax_statements.specs.StmtReading.{keyword_plan, kind_plan, body_behind, case_behind, begins_kind}
-use Rattle.golf_syntax_statements.specs.StmtReading.{begins_clause, clause_body, clause_plan, clauses_from, stmt_plan}
-use Rattle.golf_syntax_statements.specs.StmtReading.{stmt_at}
+use Rattle.golf_syntax_statements.specs.VariableReader.{var_at}
+use Rattle.golf_syntax_statements.specs.HeaderReader.{Test, test_at, header_at}
+use Rattle.golf_syntax_statements.specs.CommunicationReader.{comm_at}
+use Rattle.golf_syntax_statements.specs.StatementReader.{StatementMode, OfStmt, Body, Clauses, CaseBody, StatementTree}
+use Rattle.golf_syntax_statements.specs.StatementReader.{just, GoesFrom, body}
+use Rattle.golf_syntax_statements.specs.StatementReader.{block, call_in, call_of, call_at, returned, is_branch_kind}
+use Rattle.golf_syntax_statements.specs.StatementReader.{is_branch, else_plan, if_plan, for_plan, select_plan}
+use Rattle.golf_syntax_statements.specs.StatementReader.{simple_plan}
+use Rattle.golf_syntax_statements.specs.StatementReader.{keyword_plan, kind_plan, body_behind, case_behind, begins_kind}
+use Rattle.golf_syntax_statements.specs.StatementReader.{begins_clause, clause_body, clause_plan, clauses_from}
+use Rattle.golf_syntax_statements.specs.StatementReader.{stmt_plan}
+use Rattle.golf_syntax_statements.specs.StatementReader.{stmt_at}
 use Rattle.golf_syntax_statements.proofs.VarLaws.{var-sound}
 use Rattle.golf_syntax_statements.proofs.HeaderLaws.{test-sound, header-sound}
 use Rattle.golf_syntax_statements.proofs.CommLaws.{comm-sound}
@@ -105,7 +108,7 @@ record ClausesRead (seen : Bool) (done : List Clause) (ts : List Token) (x : Lis
   words : Spelt (clauses (map print_clause more)) ts mid
   close : after punctuations.CloseBrace mid ≡ Some x.1
 
-abbrev Sound : (m : Mode) → List Token → Node m × List Token → Type 0
+abbrev Sound : (m : StatementMode) → List Token → StatementTree m × List Token → Type 0
 Sound OfStmt ts x = IsStmt ts x
 Sound (Body done) ts x = BodyRead done ts x
 Sound (Clauses seen done) ts x = ClausesRead seen done ts x
@@ -118,7 +121,7 @@ record IsBlock (ts : List Token) (x : List Stmt × List Token) : Type 0 where
 
 -- after the opening brace
 body-keeps : (A : Type 0) (Q : A × List Token → Type 0) (before ts : List Token)
-    → Spelt (words.punctuation punctuations.OpenBrace ∷ []) before ts → (more : Goes A)
+    → Spelt (words.punctuation punctuations.OpenBrace ∷ []) before ts → (more : GoesFrom A)
     → ((x : List Stmt × List Token) → IsBlock before x → Keeps Sound Q (more x)) →
     (o : Option (List Token)) → after punctuations.CloseBrace ts ≡ o → Keeps Sound Q (body ts o more)
 body-keeps A Q before ts b more k (Some us) e =
@@ -130,7 +133,7 @@ body-keeps A Q before ts b more k None e = λ x r.
       good = r.good;
     }))
 
-block-keeps : (A : Type 0) (Q : A × List Token → Type 0) (ts : List Token) (more : Goes A)
+block-keeps : (A : Type 0) (Q : A × List Token → Type 0) (ts : List Token) (more : GoesFrom A)
     → ((x : List Stmt × List Token) → IsBlock ts x → Keeps Sound Q (more x)) → Keeps Sound Q (block ts more)
 block-keeps A Q ts more k = keeps-given Sound Q (after punctuations.OpenBrace ts)
     (λ us. body us (after punctuations.CloseBrace us) more) (λ us e.
@@ -575,7 +578,7 @@ case-keeps done ts true e = record {
     append-nil (x ∷ xs) = ap (λ ys. x ∷ ys) (append-nil xs)
 case-keeps done ts false e = λ s k. case-behind-keeps done ts s k (after punctuations.Semicolon s.1) refl
 
-plan-sound : (m : Mode) (ts : List Token) → Keeps Sound (Sound m ts) (stmt_plan m ts)
+plan-sound : (m : StatementMode) (ts : List Token) → Keeps Sound (Sound m ts) (stmt_plan m ts)
 plan-sound OfStmt [] = tt
 plan-sound OfStmt (t ∷ ts) = kind-keeps t ts t.kind refl
 plan-sound (Body done) ts = λ s k. body-behind-keeps done ts s k (after punctuations.Semicolon s.1) refl
@@ -586,8 +589,10 @@ plan-sound (CaseBody done) ts = case-keeps done ts (begins_clause ts) refl
 -- what is read is a statement
 pub stmt-sound : (ts : List Token) (x : Stmt × List Token) → stmt_at OfStmt ts ≡ Some x → IsStmt ts x
 unfolding stmt_at
-stmt-sound ts x e = reads-keeps Token Mode Node stmt_plan Sound plan-sound (suc (2 * length ts + 0)) OfStmt ts x e
+stmt-sound ts x e = reads-keeps Token StatementMode StatementTree stmt_plan Sound plan-sound
+    (suc (2 * length ts + 0)) OfStmt ts x e
 
 pub body-sound : (ts : List Token) (x : List Stmt × List Token) → stmt_at (Body []) ts ≡ Some x → BodyRead [] ts x
 unfolding stmt_at
-body-sound ts x e = reads-keeps Token Mode Node stmt_plan Sound plan-sound (suc (2 * length ts + 1)) (Body []) ts x e
+body-sound ts x e = reads-keeps Token StatementMode StatementTree stmt_plan Sound plan-sound (suc (2 * length ts + 1))
+    (Body []) ts x e

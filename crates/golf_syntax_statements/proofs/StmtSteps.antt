@@ -1,5 +1,5 @@
 -- A statement is read as its plan says, and reading it leaves fewer tokens.
--- For: `stmt_at`, `stmt_plan` (golf_syntax_statements/specs/StmtReading.antt)
+-- For: `stmt_at`, `stmt_plan` (golf_syntax_statements/specs/StatementReader.antt)
 -- By: induction over the list of words that are spelt; otherwise cases of the first token
 use Rattle.std.proofs.Common.{◌≡◌, ℕ, suc, ◌+◌, ◌*◌, ◌≤◌, ◌<◌, Bool, true, false, cond, List, [], ◌∷◌, ◌++◌, length}
 use Rattle.std.proofs.Common.{refl, ap, subst, arith}
@@ -22,20 +22,22 @@ use Rattle.golf_syntax_trees.specs.Words.{Word, on_line}
 use Rattle.golf_syntax_trees.specs.Simple.{print_simple_kind}
 use Rattle.golf_syntax_expressions.specs.Plan.{◌>>=◌, Done, Ask, run}
 use Rattle.golf_syntax_expressions.specs.Front.{after, after_keyword, name_at}
-use Rattle.golf_syntax_expressions.specs.ExprReading.{Level, Prefixed, expr_at}
-use Rattle.golf_syntax_expressions.specs.SimpleReading.{simple_at}
+use Rattle.golf_syntax_expressions.specs.ExpressionReader.{Level, Prefixed, expr_at}
+use Rattle.golf_syntax_expressions.specs.SimpleStatementReader.{simple_at}
 use Rattle.golf_syntax_expressions.proofs.Plans.{bind_some, Leaves, Within, within-given, whole-is, whole-leaves}
 use Rattle.golf_syntax_expressions.proofs.Fronts.{some-same, Spelt, after-shorter, keyword-shorter, name-shorter}
 use Rattle.golf_syntax_expressions.proofs.ExprSound.{prefixed-is-sound, expr-sound}
 use Rattle.golf_syntax_expressions.proofs.SimpleLines.{Unlined, unlined-kind, simple-sound}
-use Rattle.golf_syntax_statements.specs.VarReading.{content_at, var_at}
-use Rattle.golf_syntax_statements.specs.HeaderReading.{Test, test_at, header_at}
-use Rattle.golf_syntax_statements.specs.CommReading.{comm_at}
-use Rattle.golf_syntax_statements.specs.StmtReading.{Mode, OfStmt, Body, Clauses, CaseBody, Node, StmtPlan, just, Goes}
-use Rattle.golf_syntax_statements.specs.StmtReading.{body, block, call_of, call_at, returned, is_branch, else_plan}
-use Rattle.golf_syntax_statements.specs.StmtReading.{if_plan, for_plan, select_plan, simple_plan, keyword_plan}
-use Rattle.golf_syntax_statements.specs.StmtReading.{kind_plan, body_behind, case_behind, begins_clause, clause_body}
-use Rattle.golf_syntax_statements.specs.StmtReading.{clause_plan, clauses_from, stmt_plan, rank, stmt_at}
+use Rattle.golf_syntax_statements.specs.VariableReader.{content_at, var_at}
+use Rattle.golf_syntax_statements.specs.HeaderReader.{Test, test_at, header_at}
+use Rattle.golf_syntax_statements.specs.CommunicationReader.{comm_at}
+use Rattle.golf_syntax_statements.specs.StatementReader.{StatementMode, OfStmt, Body, Clauses, CaseBody, StatementTree}
+use Rattle.golf_syntax_statements.specs.StatementReader.{StmtPlan, just, GoesFrom}
+use Rattle.golf_syntax_statements.specs.StatementReader.{body, block, call_of, call_at, returned, is_branch, else_plan}
+use Rattle.golf_syntax_statements.specs.StatementReader.{if_plan, for_plan, select_plan, simple_plan, keyword_plan}
+use Rattle.golf_syntax_statements.specs.StatementReader.{kind_plan, body_behind, case_behind, begins_clause}
+use Rattle.golf_syntax_statements.specs.StatementReader.{clause_body}
+use Rattle.golf_syntax_statements.specs.StatementReader.{clause_plan, clauses_from, stmt_plan, rank, stmt_at}
 use Rattle.golf_syntax_statements.proofs.VarLaws.{content-sound}
 use Rattle.golf_syntax_statements.proofs.HeaderLaws.{test-sound, header-sound}
 use Rattle.golf_syntax_statements.proofs.CommLaws.{comm-sound}
@@ -49,10 +51,10 @@ spelt-length (w ∷ ws) (t ∷ ts) rest h = let e = spelt-length ws ts rest (rec
 pub spelt-within : (ws : List Word) (ts rest : List Token) → Spelt ws ts rest → length rest ≤ length ts
 spelt-within ws ts rest h = let e = spelt-length ws ts rest h in omega arith
 
-abbrev size : Mode → List Token → ℕ
+abbrev size : StatementMode → List Token → ℕ
 size m ts = 2 * length ts + rank m
 
-abbrev pub gap : Mode → ℕ
+abbrev pub gap : StatementMode → ℕ
 gap OfStmt = 1
 gap (Body done) = 1
 gap (Clauses seen done) = 1
@@ -67,14 +69,14 @@ leaves-bind : {A X : Type 0} (g all : ℕ) (o : Option X) (f : X → Option (A �
 leaves-bind g all None f k = tt
 leaves-bind g all (Some x) f k = k x refl
 
-body-fits : (A : Type 0) (bound g all : ℕ) (ts : List Token) (more : Goes A) → 2 * length ts + 1 < bound
+body-fits : (A : Type 0) (bound g all : ℕ) (ts : List Token) (more : GoesFrom A) → 2 * length ts + 1 < bound
     → ((x : List Stmt × List Token) → length x.1 ≤ length ts → Fits bound g all (more x)) → (o : Option (List Token))
     → after punctuations.CloseBrace ts ≡ o → Fits bound g all (body ts o more)
 body-fits A bound g all ts more h k (Some us) e = let q =
     after-shorter punctuations.CloseBrace ts us e in k ([], us) (omega arith)
 body-fits A bound g all ts more h k None e = (omega arith, λ x l. k x (omega arith))
 
-block-fits : (A : Type 0) (bound g all : ℕ) (ts : List Token) (more : Goes A) → 2 * length ts < bound
+block-fits : (A : Type 0) (bound g all : ℕ) (ts : List Token) (more : GoesFrom A) → 2 * length ts < bound
     → ((x : List Stmt × List Token) → suc (length x.1) ≤ length ts → Fits bound g all (more x))
     → Fits bound g all (block ts more)
 block-fits A bound g all ts more h k = within-given size gap bound g all (after punctuations.OpenBrace ts)
@@ -244,7 +246,7 @@ module _ (seen : Bool) (done : List Clause) (l : ℕ) (ts : List Token) where
   clauses-fits (kinds.Punctuation m) = clause-punctuation-fits m
   clauses-fits _ = tt
 
-stmt-fits : (m : Mode) (ts : List Token) → Within size gap (size m ts) (gap m) (length ts) (stmt_plan m ts)
+stmt-fits : (m : StatementMode) (ts : List Token) → Within size gap (size m ts) (gap m) (length ts) (stmt_plan m ts)
 stmt-fits OfStmt [] = tt
 stmt-fits OfStmt (t ∷ ts) = kind-fits t.line t ts t.kind
 stmt-fits (Body done) ts = (
@@ -256,11 +258,11 @@ stmt-fits (Clauses seen done) (t ∷ ts) = clauses-fits seen done t.line ts t.ki
 stmt-fits (CaseBody done) ts = case-fits done ts (begins_clause ts)
 
 -- what is read is what the plan finds
-pub stmt-is : (m : Mode) (ts : List Token) → stmt_at m ts ≡ run stmt_at (stmt_plan m ts)
+pub stmt-is : (m : StatementMode) (ts : List Token) → stmt_at m ts ≡ run stmt_at (stmt_plan m ts)
 unfolding stmt_at
-stmt-is m ts = whole-is Token Mode Node stmt_plan size gap stmt-fits m ts
+stmt-is m ts = whole-is Token StatementMode StatementTree stmt_plan size gap stmt-fits m ts
 
 -- what is left is shorter
-pub stmt-leaves : (m : Mode) (ts : List Token) → Leaves (gap m) (length ts) (stmt_at m ts)
+pub stmt-leaves : (m : StatementMode) (ts : List Token) → Leaves (gap m) (length ts) (stmt_at m ts)
 unfolding stmt_at
-stmt-leaves m ts = whole-leaves Token Mode Node stmt_plan size gap stmt-fits m ts
+stmt-leaves m ts = whole-leaves Token StatementMode StatementTree stmt_plan size gap stmt-fits m ts

@@ -1,5 +1,5 @@
 -- A variable is read exactly if it is printed.
--- For: `var_at` (golf_syntax_statements/specs/VarReading.antt) and `var_at` (src/variables.rt)
+-- For: `var_at` (golf_syntax_statements/specs/VariableReader.antt) and `var_at` (src/variables.rt)
 -- By: cases of the content, with or without a type; no induction
 use Rattle.std.proofs.Common.{◌≡◌, true, false, List, ◌∷◌, refl, ap, subst, ◌∙◌}
 use Rattle.std.specs.Prelude.{Option, Some, None}
@@ -17,8 +17,8 @@ use Rattle.golf_syntax_trees.specs.Expressions.{print_expr, form}
 use Rattle.golf_syntax_trees.specs.Simple.{print_content, print_var, content_good}
 use Rattle.golf_syntax_expressions.specs.Plan.{◌>>=◌}
 use Rattle.golf_syntax_expressions.specs.Front.{after, name_at}
-use Rattle.golf_syntax_expressions.specs.TypeReading.{type_at, OfType}
-use Rattle.golf_syntax_expressions.specs.ExprReading.{Level, expr_at}
+use Rattle.golf_syntax_expressions.specs.TypeReader.{type_at, OfType}
+use Rattle.golf_syntax_expressions.specs.ExpressionReader.{Level, expr_at}
 use Rattle.golf_syntax_expressions.proofs.Plans.{bind_some}
 use Rattle.golf_syntax_expressions.proofs.Fronts.{some-same, both, and-true, Spelt, kind-then, punctuation-then}
 use Rattle.golf_syntax_expressions.proofs.Fronts.{name-then, join, split, behind-punctuation, behind-name, not-after}
@@ -27,7 +27,7 @@ use Rattle.golf_syntax_expressions.proofs.ExprFronts.{then}
 use Rattle.golf_syntax_expressions.proofs.ExprSound.{expr-sound}
 use Rattle.golf_syntax_expressions.proofs.ExprComplete.{expr-complete}
 use Rattle.golf_syntax_expressions.proofs.SimpleLines.{on-line-then}
-use Rattle.golf_syntax_statements.specs.VarReading.{typed_by, untyped, content_by, content_at, var_at}
+use Rattle.golf_syntax_statements.specs.VariableReader.{typed_by, untyped, content_by, content_at, var_at}
 use Rattle.golf_syntax_statements.proofs.Nothing.{Stops, no-type}
 
 -- a well-formed content in these tokens, up to those that are left

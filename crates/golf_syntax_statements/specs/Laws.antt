@@ -9,16 +9,16 @@ use Rattle.golf_syntax_trees.specs.declared.statements.Var.{Var}
 use Rattle.golf_syntax_trees.specs.declared.statements.Header.{Header}
 use Rattle.golf_syntax_trees.specs.declared.statements.Communication.{Communication}
 use Rattle.golf_syntax_trees.specs.declared.statements.Stmt.{Stmt}
-use Rattle.golf_syntax_trees.specs.Words.{punctuation, Spells}
+use Rattle.golf_syntax_trees.specs.Words.{punctuation, SpellsWords}
 use Rattle.golf_syntax_trees.specs.Expressions.{print_expr}
 use Rattle.golf_syntax_trees.specs.Simple.{print_var, content_good, optional, all_of, print_simple, print_header}
 use Rattle.golf_syntax_trees.specs.Simple.{header_simple, header_expr, header_good, print_comm, comm_good}
 use Rattle.golf_syntax_trees.specs.Statements.{print_stmt, stmt_form}
 use Rattle.golf_syntax_expressions.specs.Front.{after}
-use Rattle.golf_syntax_statements.specs.VarReading.{var_at}
-use Rattle.golf_syntax_statements.specs.HeaderReading.{Test, test_at, header_at}
-use Rattle.golf_syntax_statements.specs.CommReading.{comm_at}
-use Rattle.golf_syntax_statements.specs.StmtReading.{OfStmt, stmt_at}
+use Rattle.golf_syntax_statements.specs.VariableReader.{var_at}
+use Rattle.golf_syntax_statements.specs.HeaderReader.{Test, test_at, header_at}
+use Rattle.golf_syntax_statements.specs.CommunicationReader.{comm_at}
+use Rattle.golf_syntax_statements.specs.StatementReader.{OfStmt, stmt_at}
 
 -- a semicolon or a closing brace follows
 abbrev pub EndsStatement : List Token → Type 0
@@ -32,25 +32,25 @@ BeginsBody ts = (us : List Token) × (after punctuations.OpenBrace ts ≡ Some u
 -- a well-formed variable is printed, on the line of its keyword, at the front of these tokens and before the rest
 pub record IsVarIn (word : Token) (ts : List Token) (x : Var × List Token) : Type 0 where
   pub var : word.kind ≡ kinds.Keyword keywords.Var
-  pub words : Spells (print_var x.0) (word ∷ ts) x.1
+  pub words : SpellsWords (print_var x.0) (word ∷ ts) x.1
   pub good : content_good x.0.content ≡ true
 
 pub record IsTestIn (ts : List Token) (x : Test × List Token) : Type 0 where
-  pub words : Spells (optional (λ y. print_simple y ++ punctuation punctuations.Semicolon ∷ []) x.0.0
+  pub words : SpellsWords (optional (λ y. print_simple y ++ punctuation punctuations.Semicolon ∷ []) x.0.0
       ++ print_expr x.0.1) ts x.1
   pub first : all_of header_simple x.0.0 ≡ true
   pub good : header_expr x.0.1 ≡ true
 
 pub record IsHeaderIn (ts : List Token) (x : Header × List Token) : Type 0 where
-  pub words : Spells (print_header x.0) ts x.1
+  pub words : SpellsWords (print_header x.0) ts x.1
   pub good : header_good x.0 ≡ true
 
 pub record IsCommIn (ts : List Token) (x : Communication × List Token) : Type 0 where
-  pub words : Spells (print_comm x.0) ts x.1
+  pub words : SpellsWords (print_comm x.0) ts x.1
   pub good : comm_good x.0 ≡ true
 
 pub record IsStmtIn (ts : List Token) (x : Stmt × List Token) : Type 0 where
-  pub words : Spells (print_stmt x.0) ts x.1
+  pub words : SpellsWords (print_stmt x.0) ts x.1
   pub good : (stmt_form x.0).good ≡ true
 
 abbrev pub VarsFound : Type 0

@@ -1,6 +1,6 @@
-pub mod VarReading
-pub mod HeaderReading
-pub mod CommReading
-pub mod StmtReading
+pub mod VariableReader
+pub mod HeaderReader
+pub mod CommunicationReader
+pub mod StatementReader
 pub mod Moves
 pub mod Laws

@@ -4,7 +4,7 @@
 
 ghost use Rattle.std.specs.Prelude.{◌≡◌, ◌+◌, ◌*◌, ◌<◌, ◌≤◌, length, IfOk, IfSome, Some};
 ghost use Rattle.golf_syntax_expressions.specs.Front as front_spec;
-ghost use Rattle.golf_syntax_statements.specs.StmtReading as stmt_spec;
+ghost use Rattle.golf_syntax_statements.specs.StatementReader as stmt_spec;
 ghost use Rattle.golf_syntax_statements.specs.Moves as moves_spec;
 ghost use Rattle.golf_syntax_statements.specs.Moves.{selected, clause_at, case_at, headed_at, colon_at, selected_by};
 ghost use Rattle.golf_syntax_statements.specs.Moves.{weight};

@@ -5,8 +5,8 @@
 
 ghost use Rattle.std.specs.Prelude.{◌≡◌, ◌<◌, ◌≤◌, length, IfOk, IfSome, Some};
 ghost use Rattle.golf_syntax_expressions.specs.Front.{seen};
-ghost use Rattle.golf_syntax_statements.specs.CommReading as comm_spec;
-ghost use Rattle.golf_syntax_statements.specs.CommReading.{assigned_seen, comm_by};
+ghost use Rattle.golf_syntax_statements.specs.CommunicationReader as comm_spec;
+ghost use Rattle.golf_syntax_statements.specs.CommunicationReader.{assigned_seen, comm_by};
 
 use golf_base::Memory;
 use golf_lex_tokens::{Punctuation, Token};
@@ -117,7 +117,7 @@ fn received(
 }
 
 /// Reads the communication at the front. Returns it and the tokens after it.
-#[tactic(auto, unfolding(crate::specs::CommReading::comm_at))]
+#[tactic(auto, unfolding(crate::specs::CommunicationReader::comm_at))]
 pub fn comm_at(
     alloc: Global,
     tokens: &[Token],

@@ -7,8 +7,8 @@ ghost use Rattle.std.specs.Prelude.{◌≡◌, ◌<◌, ◌≤◌, length, IfOk,
 ghost use Rattle.golf_syntax_trees.specs.Simple.{simple_form};
 ghost use Rattle.golf_syntax_expressions.specs.Front as front_spec;
 ghost use Rattle.golf_syntax_expressions.specs.Front.{seen};
-ghost use Rattle.golf_syntax_statements.specs.HeaderReading as header_spec;
-ghost use Rattle.golf_syntax_statements.specs.HeaderReading.{test_by, first_by};
+ghost use Rattle.golf_syntax_statements.specs.HeaderReader as header_spec;
+ghost use Rattle.golf_syntax_statements.specs.HeaderReader.{test_by, first_by};
 
 use golf_base::Memory;
 use golf_lex_tokens::{Keyword, Punctuation, Token};
@@ -79,7 +79,7 @@ fn test_behind(
 }
 
 /// Reads the header of an `if`: its condition, with the simple statement before it.
-#[tactic(auto, unfolding(crate::specs::HeaderReading::test_at))]
+#[tactic(auto, unfolding(crate::specs::HeaderReader::test_at))]
 pub fn test_at(alloc: Global, tokens: &[Token]) -> Result<Option<(Test, &[Token])>, Memory>
     ensures value { IfOk result (λ o. seen o ≡ header_spec.test_at tokens.now) }
     ensures shorter { IfOk result (λ o. IfSome o (λ x. length x.1.now < length tokens.now)) }
@@ -113,7 +113,7 @@ fn two_names(
 
 // Reads the names before a `range`, and that keyword. Returns the names and the tokens after the
 // keyword.
-#[tactic(auto, unfolding(crate::specs::HeaderReading::names_at))]
+#[tactic(auto, unfolding(crate::specs::HeaderReader::names_at))]
 fn names_at(alloc: Global, tokens: &[Token]) -> Result<Option<(RangeNames, &[Token])>, Memory>
     ensures value { IfOk result (λ o. seen o ≡ header_spec.names_at tokens.now) }
     ensures shorter { IfOk result (λ o. IfSome o (λ x. length x.1.now < length tokens.now)) }
@@ -137,7 +137,7 @@ fn names_at(alloc: Global, tokens: &[Token]) -> Result<Option<(RangeNames, &[Tok
 }
 
 // Reads the last part of a three-part header, from its semicolon on.
-#[tactic(auto, unfolding(crate::specs::HeaderReading::post_at))]
+#[tactic(auto, unfolding(crate::specs::HeaderReader::post_at))]
 fn post_at(
     alloc: Global,
     first: Option<OwnedSimple>,
@@ -165,7 +165,7 @@ fn post_at(
 }
 
 // Reads a three-part header after its first semicolon.
-#[tactic(auto, unfolding(crate::specs::HeaderReading::steps_at))]
+#[tactic(auto, unfolding(crate::specs::HeaderReader::steps_at))]
 fn steps_at(
     alloc: Global,
     first: Option<OwnedSimple>,
@@ -199,7 +199,7 @@ fn first_behind(
 }
 
 // Reads a header without `range`.
-#[tactic(auto, unfolding(crate::specs::HeaderReading::without_range_at))]
+#[tactic(auto, unfolding(crate::specs::HeaderReader::without_range_at))]
 fn without_range_at(
     alloc: Global,
     tokens: &[Token],
@@ -217,7 +217,7 @@ fn without_range_at(
 }
 
 /// Reads the header of a `for`, up to its body. Returns it and the tokens after it.
-#[tactic(auto, unfolding(crate::specs::HeaderReading::header_at))]
+#[tactic(auto, unfolding(crate::specs::HeaderReader::header_at))]
 pub fn header_at(alloc: Global, tokens: &[Token]) -> Result<Option<(OwnedHeader, &[Token])>, Memory>
     ensures value { IfOk result (λ o. seen o ≡ header_spec.header_at tokens.now) }
     ensures shorter { IfOk result (λ o. IfSome o (λ x. length x.1.now ≤ length tokens.now)) }

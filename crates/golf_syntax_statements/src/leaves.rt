@@ -6,8 +6,8 @@
 ghost use Rattle.std.specs.Prelude.{◌≡◌, ◌+◌, ◌*◌, ◌<◌, ◌≤◌, length, IfOk, IfSome};
 ghost use Rattle.golf_syntax_expressions.specs.Plan.{run};
 ghost use Rattle.golf_syntax_expressions.specs.Front.{seen};
-ghost use Rattle.golf_syntax_statements.specs.StmtReading as stmt_spec;
-ghost use Rattle.golf_syntax_statements.specs.StmtReading.{keyword_plan, simple_plan};
+ghost use Rattle.golf_syntax_statements.specs.StatementReader as stmt_spec;
+ghost use Rattle.golf_syntax_statements.specs.StatementReader.{keyword_plan, simple_plan};
 ghost use Rattle.golf_syntax_statements.specs.Moves as moves_spec;
 ghost use Rattle.golf_syntax_statements.specs.Moves.{weight};
 
@@ -35,7 +35,7 @@ fn call_of(e: OwnedExpr) -> Option<(OwnedExpr, OwnedExprs)>
 }
 
 // Reads a call after `go` or `defer`.
-#[tactic(auto, unfolding(crate::specs::StmtReading::call_at))]
+#[tactic(auto, unfolding(crate::specs::StatementReader::call_at))]
 fn call_at(
     alloc: Global,
     tokens: &[Token],

@@ -5,9 +5,9 @@ ghost use Rattle.std.specs.Prelude.{◌∷◌, ◌++◌, ◌≡◌, ◌+◌, ◌
 ghost use Rattle.golf_syntax_expressions.specs.Plan.{run};
 ghost use Rattle.golf_syntax_expressions.specs.Front as front_spec;
 ghost use Rattle.golf_syntax_expressions.specs.Front.{seen};
-ghost use Rattle.golf_syntax_statements.specs.StmtReading as stmt_spec;
-ghost use Rattle.golf_syntax_statements.specs.StmtReading.{OfStmt, body, block, else_plan, if_plan, for_plan};
-ghost use Rattle.golf_syntax_statements.specs.StmtReading.{select_plan, keyword_plan, kind_plan};
+ghost use Rattle.golf_syntax_statements.specs.StatementReader as stmt_spec;
+ghost use Rattle.golf_syntax_statements.specs.StatementReader.{OfStmt, body, block, else_plan, if_plan, for_plan};
+ghost use Rattle.golf_syntax_statements.specs.StatementReader.{select_plan, keyword_plan, kind_plan};
 ghost use Rattle.golf_syntax_statements.specs.Moves as moves_spec;
 ghost use Rattle.golf_syntax_statements.specs.declared.pending.Pending.{Pending};
 ghost use Rattle.golf_syntax_statements.specs.Moves.{owned, body_at, pending_at, weight};

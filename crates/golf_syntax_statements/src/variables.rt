@@ -5,8 +5,8 @@
 ghost use Rattle.std.specs.Prelude.{◌≡◌, ◌<◌, ◌≤◌, length, IfOk, IfSome};
 ghost use Rattle.golf_syntax_expressions.specs.Front as front_spec;
 ghost use Rattle.golf_syntax_expressions.specs.Front.{seen};
-ghost use Rattle.golf_syntax_statements.specs.VarReading as var_spec;
-ghost use Rattle.golf_syntax_statements.specs.VarReading.{typed_by};
+ghost use Rattle.golf_syntax_statements.specs.VariableReader as var_spec;
+ghost use Rattle.golf_syntax_statements.specs.VariableReader.{typed_by};
 
 use golf_base::Memory;
 use golf_lex_tokens::{Punctuation, Token};
@@ -50,7 +50,7 @@ fn untyped(alloc: Global, tokens: &[Token]) -> Result<Option<(OwnedVarContent, &
 }
 
 // Reads the type and the value after the name of a variable.
-#[tactic(auto, unfolding(crate::specs::VarReading::content_at))]
+#[tactic(auto, unfolding(crate::specs::VariableReader::content_at))]
 fn content_at(
     alloc: Global,
     tokens: &[Token],
@@ -66,7 +66,7 @@ fn content_at(
 
 /// Reads the variable after `var`. `line` is the line of `var`. Returns the variable and the tokens
 /// after it.
-#[tactic(auto, unfolding(crate::specs::VarReading::var_at))]
+#[tactic(auto, unfolding(crate::specs::VariableReader::var_at))]
 pub fn var_at(
     alloc: Global,
     line: u32,

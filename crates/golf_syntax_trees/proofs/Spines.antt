@@ -5,7 +5,7 @@ use Rattle.std.proofs.Common.{◌≡◌, ℕ, ◌≤◌, List, [], ◌∷◌, �
 use Rattle.std.specs.Prelude.{Option, Some}
 use Rattle.std.specs.Borrow.{Bor}
 use Rattle.std.proofs.lemmas.List.{map-append}
-use Rattle.golf_syntax_trees.specs.Spines.{shown, IsSpine, Within, risen}
+use Rattle.golf_syntax_trees.specs.Spines.{shown, IsSpine, AreNoLarger, risen}
 
 module _ {T : Type 0} where
   module _ (below : T → Option T) where
@@ -36,12 +36,12 @@ module _ {T : Type 0} where
   risen-last raise [] e x = refl
   risen-last raise (f ∷ es) e x = ap (raise f) (risen-last raise es e x)
 
-  within-last : (size : T → ℕ) (n : ℕ) (es : List T) (e : T) → Within size n es → size e ≤ n
-      → Within size n (es ++ e ∷ [])
+  within-last : (size : T → ℕ) (n : ℕ) (es : List T) (e : T) → AreNoLarger size n es → size e ≤ n
+      → AreNoLarger size n (es ++ e ∷ [])
   within-last size n [] e h low = (low, tt)
   within-last size n (f ∷ es) e h low = (h.0, within-last size n es e h.1 low)
 
-  last-within : (size : T → ℕ) (n : ℕ) (es : List T) (e : T) → Within size n (es ++ e ∷ []) → Within size n es
+  last-within : (size : T → ℕ) (n : ℕ) (es : List T) (e : T) → AreNoLarger size n (es ++ e ∷ []) → AreNoLarger size n es
       × (size e ≤ n)
   last-within size n [] e h = (tt, h.0)
   last-within size n (f ∷ es) e h = let rest = last-within size n es e h.1 in ((h.0, rest.0), rest.1)
@@ -59,8 +59,8 @@ module _ {T : Type 0} where
     down below e next h has = subst (λ es. IsSpine below e es next) (sym longer)
         (spine-last below e (shown ws) inner next h has)
 
-    pub deeper : (size : T → ℕ) (n : ℕ) → Within size n (shown ws) → size inner ≤ n → Within size n (shown vs)
-    deeper size n h low = subst (Within size n) (sym longer) (within-last size n (shown ws) inner h low)
+    pub deeper : (size : T → ℕ) (n : ℕ) → AreNoLarger size n (shown ws) → size inner ≤ n → AreNoLarger size n (shown vs)
+    deeper size n h low = subst (AreNoLarger size n) (sym longer) (within-last size n (shown ws) inner h low)
 
   -- one step up: the last one is taken off
   module _ (ws vs : List (Bor T)) (b : Bor T) (last : ws ≡ vs ++ b ∷ []) where
@@ -71,5 +71,6 @@ module _ {T : Type 0} where
         → risen raise (shown ws) x ≡ risen raise (shown vs) (raise b.now x)
     up raise x = ap (λ es. risen raise es x) shorter ∙ risen-last raise (shown vs) b.now x
 
-    pub no_deeper : (size : T → ℕ) (n : ℕ) → Within size n (shown ws) → Within size n (shown vs) × (size b.now ≤ n)
-    no_deeper size n h = last-within size n (shown vs) b.now (subst (Within size n) shorter h)
+    pub no_deeper : (size : T → ℕ) (n : ℕ) → AreNoLarger size n (shown ws) → AreNoLarger size n (shown vs)
+        × (size b.now ≤ n)
+    no_deeper size n h = last-within size n (shown vs) b.now (subst (AreNoLarger size n) shorter h)

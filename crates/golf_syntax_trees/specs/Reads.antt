@@ -6,7 +6,7 @@ use Rattle.golf_lex_tokens.specs.declared.token.TokenKind.{TokenKind}
 use Rattle.golf_lex_tokens.specs.Cost.{counted}
 use Rattle.golf_lex_tokens.specs.Lexes.{Lexes}
 use Rattle.golf_syntax_trees.specs.declared.declarations.File.{File}
-use Rattle.golf_syntax_trees.specs.Words.{Spells}
+use Rattle.golf_syntax_trees.specs.Words.{SpellsWords}
 use Rattle.golf_syntax_trees.specs.Declarations.{print_file, decl_good}
 use Rattle.golf_syntax_trees.specs.Segments.{segments, FileBreaksOn}
 
@@ -31,7 +31,7 @@ first_too_complex counts (t ∷ ts) = cond (nat_lt most (sum (counted t.kind cou
 
 -- the tree prints the tokens; each statement, declaration and clause has the line of the first token that it prints
 abbrev pub Prints : File → List Token → Type 0
-Prints p tokens = Spells (print_file p) tokens []
+Prints p tokens = SpellsWords (print_file p) tokens []
 
 pub record WellFormed (p : File) : Type 0 where
   pub good : list_all decl_good p.declarations ≡ true

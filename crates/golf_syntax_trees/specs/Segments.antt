@@ -7,7 +7,7 @@ use Rattle.golf_lex_tokens.specs.declared.token.Punctuation.{Punctuation}
 use Rattle.golf_lex_tokens.specs.declared.token.Punctuation.TheVariants as punctuations
 use Rattle.golf_syntax_trees.specs.declared.declarations.Import.{Import}
 use Rattle.golf_syntax_trees.specs.declared.declarations.Decl.{Decl}
-use Rattle.golf_syntax_trees.specs.Words.{punctuation, Spells}
+use Rattle.golf_syntax_trees.specs.Words.{punctuation, SpellsWords}
 use Rattle.golf_syntax_trees.specs.Declarations.{package_words, print_import, print_decl, decl_good}
 
 -- how many brackets are open after a punctuation mark; a closing bracket without an open one counts for nothing
@@ -48,26 +48,26 @@ BeginsOn line [] = ⊥
 BeginsOn line (t ∷ ts) = line ≡ t.line
 
 abbrev pub IsPackage : List Token → Type 0
-IsPackage p = Spells package_words p []
+IsPackage p = SpellsWords package_words p []
 
 pub record IsImport (p : List Token) : Type 0 where
   pub tree : Import
-  pub words : Spells (print_import tree ++ punctuation punctuations.Semicolon ∷ []) p []
+  pub words : SpellsWords (print_import tree ++ punctuation punctuations.Semicolon ∷ []) p []
 
 pub record IsDecl (p : List Token) : Type 0 where
   pub tree : Decl
-  pub words : Spells (print_decl tree ++ punctuation punctuations.Semicolon ∷ []) p []
+  pub words : SpellsWords (print_decl tree ++ punctuation punctuations.Semicolon ∷ []) p []
   pub good : decl_good tree ≡ true
 
 -- a segment is an import before all declarations, or a declaration
-abbrev pub IsWhole : Bool → List Token → Type 0
-IsWhole declared p = (IsImport p × (declared ≡ false)) ⊎ IsDecl p
+abbrev pub IsWholeSegment : Bool → List Token → Type 0
+IsWholeSegment declared p = (IsImport p × (declared ≡ false)) ⊎ IsDecl p
 
 -- the first broken segment begins on this line; `declared` says whether there is a declaration before these segments
 abbrev pub BreaksOn : Bool → List (List Token) → ℕ → Type 0
 BreaksOn declared [] line = ⊥
 BreaksOn declared (p ∷ ps) line =
-    ((IsWhole declared p → ⊥) × BeginsOn line p)
+    ((IsWholeSegment declared p → ⊥) × BeginsOn line p)
     ⊎ (((IsImport p × (declared ≡ false)) × BreaksOn declared ps line) ⊎ (IsDecl p × BreaksOn true ps line))
 
 -- the first segment of a file names its package

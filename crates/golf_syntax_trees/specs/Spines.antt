@@ -27,9 +27,9 @@ IsSpine below e [] inner = e ≡ inner
 IsSpine below e (x ∷ xs) inner = (e ≡ x) × ((next : _) × ((below x ≡ Some next) × IsSpine below next xs inner))
 
 -- none of these trees is larger than n
-abbrev pub Within : {T : Type 0} → (T → ℕ) → ℕ → List T → Type 0
-Within size n [] = Unit {0}
-Within size n (e ∷ es) = (size e ≤ n) × Within size n es
+abbrev pub AreNoLarger : {T : Type 0} → (T → ℕ) → ℕ → List T → Type 0
+AreNoLarger size n [] = Unit {0}
+AreNoLarger size n (e ∷ es) = (size e ≤ n) × AreNoLarger size n es
 
 -- a value at the innermost tree, raised by each tree of the spine, the last one first
 abbrev pub risen : {T A : Type 0} → (T → A → A) → List T → A → A

@@ -53,7 +53,7 @@ abbrev pub IsWord : Word → Token → Type 0
 IsWord w t = (t.kind ≡ w.kind) × OnLine w.line t.line
 
 -- the tokens of the first list, up to the second list, are these words
-abbrev pub Spells : List Word → List Token → List Token → Type 0
-Spells [] ts rest = ts ≡ rest
-Spells (w ∷ ws) [] rest = ⊥
-Spells (w ∷ ws) (t ∷ ts) rest = IsWord w t × Spells ws ts rest
+abbrev pub SpellsWords : List Word → List Token → List Token → Type 0
+SpellsWords [] ts rest = ts ≡ rest
+SpellsWords (w ∷ ws) [] rest = ⊥
+SpellsWords (w ∷ ws) (t ∷ ts) rest = IsWord w t × SpellsWords ws ts rest

@@ -7,7 +7,7 @@
 ghost use Rattle.std.specs.Prelude.{◌≡◌, ◌<◌, ◌≤◌, None, IfOk, IfSome};
 ghost use Rattle.std.specs.Option.{option_map};
 ghost use Rattle.golf_syntax_trees.specs.declared.expressions.Expr.{size-Expr};
-ghost use Rattle.golf_syntax_trees.specs.Spines.{left_of, shown, Within, IsSpine};
+ghost use Rattle.golf_syntax_trees.specs.Spines.{left_of, shown, AreNoLarger, IsSpine};
 
 use crate::expressions::Expr;
 use golf_base::{List, Memory};
@@ -45,7 +45,7 @@ pub fn left_operand(e: &Expr) -> Option<&Expr>
 /// Each of them has the next one as its left operand. The innermost one has no left operand, and is not in the list.
 pub fn spine<'a>(alloc: Global, e: &'a Expr) -> Result<(List<&'a Expr>, &'a Expr), Memory>
     ensures down { IfOk result (λ x. IsSpine left_of e.now (shown x.0) x.1.now) }
-    ensures within { IfOk result (λ x. Within size-Expr (size-Expr e.now) (shown x.0)) }
+    ensures within { IfOk result (λ x. AreNoLarger size-Expr (size-Expr e.now) (shown x.0)) }
     ensures smaller { IfOk result (λ x. size-Expr x.1.now ≤ size-Expr e.now) }
     ensures innermost { IfOk result (λ x. left_of x.1.now ≡ None) }
 {

@@ -1,9 +1,5 @@
 //! Tests of how code is judged: code of its file, and the same code with one other instruction.
 
-ghost use Rattle.std.specs.Prelude.{◌≡◌};
-ghost use Rattle.golf_check_types.specs.Files.{facts_in};
-ghost use Rattle.golf_check.specs.Heads.{scope_of};
-
 use crate::made::{checked, code_of};
 use crate::sources::{METHOD, WORKER_POOL};
 use golf_base::Memory;
@@ -21,7 +17,7 @@ const MAIN: u32 = 2;
 // The place of the first such instruction, or the number of lines if there is none.
 fn first_place(lines: &[CodeLine], instr: &Instr) -> usize {
     for at in 0..lines.len() {
-        if lines[at].instr.is(instr) {
+        if lines[at].instr == *instr {
             return at;
         }
     }
@@ -46,10 +42,7 @@ fn subtract(rt: &impl Abort, code: &mut Code, number: u32) {
 }
 
 // Whether a function is judged to have the code of the file.
-fn judged(rt: &impl Abort, alloc: Global, checked: &Checked, code: &Code, number: u32) -> bool
-    requires scope { checked.now.scope ≡ scope_of checked.now.file }
-    requires facts { checked.now.facts ≡ facts_in checked.now.file }
-{
+fn judged(rt: &impl Abort, alloc: Global, checked: &Checked, code: &Code, number: u32) -> bool {
     match check_body(alloc, checked, code, number) {
         Ok(same) => same,
         Err(Memory) => panic!(rt; "out of memory"),
@@ -78,10 +71,7 @@ fn there_is_no_such_function(rt: HostRuntime) -> Result<(), Fail> {
 }
 
 // Whether all functions are judged to have the code of the file.
-fn all_judged(rt: &impl Abort, alloc: Global, checked: &Checked, code: &Code) -> bool
-    requires scope { checked.now.scope ≡ scope_of checked.now.file }
-    requires facts { checked.now.facts ≡ facts_in checked.now.file }
-{
+fn all_judged(rt: &impl Abort, alloc: Global, checked: &Checked, code: &Code) -> bool {
     match check_all(alloc, checked, code) {
         Ok(same) => same,
         Err(Memory) => panic!(rt; "out of memory"),
@@ -94,7 +84,7 @@ fn all_functions_of_a_worker_pool_agree(rt: HostRuntime) -> Result<(), Fail> {
     let checked = checked(&rt, alloc, WORKER_POOL);
     let code = code_of(&rt, alloc, &checked);
     assert!(rt; all_judged(&rt, alloc, &checked, &code));
-    assert_eq!(rt; function_count(checked.file.declarations.as_slice()), 5);
+    assert_eq!(rt; function_count(checked.file().declarations.as_slice()), 5);
     Ok(())
 }
 

@@ -1,9 +1,5 @@
 //! The result of the checker for a text, and its code.
 
-ghost use Rattle.std.specs.Prelude.{◌≡◌};
-ghost use Rattle.golf_check_types.specs.Files.{facts_in};
-ghost use Rattle.golf_check.specs.Heads.{scope_of};
-
 use golf_base::Memory;
 use golf_check::{Checked, check};
 use golf_code::generate;
@@ -12,10 +8,7 @@ use std::alloc::Global;
 use std::process::Abort;
 
 /// Returns the result of the checker for a file that breaks no rule.
-pub(crate) fn checked(rt: &impl Abort, alloc: Global, source: &str) -> Checked
-    ensures scope { result.scope ≡ scope_of result.file }
-    ensures facts { result.facts ≡ facts_in result.file }
-{
+pub(crate) fn checked(rt: &impl Abort, alloc: Global, source: &str) -> Checked {
     assert!(rt; source.len() < 100_000);
     match golf_lex::tokens(alloc, source.as_bytes()) {
         Err(_) => panic!(rt; "it does not lex"),
@@ -30,10 +23,7 @@ pub(crate) fn checked(rt: &impl Abort, alloc: Global, source: &str) -> Checked
 }
 
 /// Returns the code of a checked file.
-pub(crate) fn code_of(rt: &impl Abort, alloc: Global, checked: &Checked) -> Code
-    requires scope { checked.now.scope ≡ scope_of checked.now.file }
-    requires facts { checked.now.facts ≡ facts_in checked.now.file }
-{
+pub(crate) fn code_of(rt: &impl Abort, alloc: Global, checked: &Checked) -> Code {
     match generate(alloc, checked) {
         Ok(code) => code,
         Err(Memory) => panic!(rt; "out of memory"),

@@ -1,11 +1,11 @@
 -- Collections lead on from states that moves lead to.
--- For: `collect_once`, src/collecting.rt; `Leads`, golf_model/specs/Futures.antt
+-- For: `collect_once`, src/collections/collected_states.rt; `Leads`, golf_model/specs/Futures.antt
 -- By: cases of the outcome; no induction
 use Rattle.std.proofs.Common.{◌≡◌, Bool, None, Result, Ok, Err, sym, subst}
 use Rattle.std.specs.Prelude.{OnOk, OnErr}
 use Rattle.golf_data.specs.declared.code.Code.{Code}
 use Rattle.golf_model.specs.State.{State, ending}
-use Rattle.golf_model.specs.Collecting.{real_collect, sets_finalisers}
+use Rattle.golf_model.specs.Collections.{real_collect, sets_finalisers}
 use Rattle.golf_model.specs.Futures.{Leads}
 
 pub collected : (code : Code) (s t : State) (recover sets : Bool) → Leads code s → ending s ≡ None

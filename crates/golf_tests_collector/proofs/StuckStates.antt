@@ -1,5 +1,5 @@
 -- The state of the tests has its numbers in order, and refers to what is there.
--- For: `stuck_state`, src/states.rt
+-- For: `stuck_state`, src/collections/states.rt
 -- By: computing
 use Rattle.std.proofs.Common.{◌≡◌, ℕ, ◌+◌, false, List, [], ◌∷◌, None, inl, refl, ap, ◌∙◌, arith}
 use Rattle.golf_theory.specs.Membership.{Every}

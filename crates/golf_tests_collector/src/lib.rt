@@ -9,40 +9,14 @@
 #![tactic(auto)]
 
 #[cfg(test)]
-mod alone;
-#[cfg(test)]
 mod certificates;
 #[cfg(test)]
 mod codes;
 #[cfg(test)]
-mod collecting;
-#[cfg(test)]
 mod collections;
 #[cfg(test)]
-mod examples;
+mod marking;
 #[cfg(test)]
-mod exploring;
-#[cfg(test)]
-mod graphs;
-#[cfg(test)]
-mod hands;
-#[cfg(test)]
-mod markers;
-#[cfg(test)]
-mod plain;
-#[cfg(test)]
-mod programs;
-#[cfg(test)]
-mod reasons;
-#[cfg(test)]
-mod recovery;
-#[cfg(test)]
-mod same;
-#[cfg(test)]
-mod seats;
-#[cfg(test)]
-mod states;
-#[cfg(test)]
-mod workers;
+mod searches;
 #[cfg(test)]
 mod worlds;

@@ -1,6 +1,6 @@
 //! Tests of objects by number.
 
-use crate::stepping::holds;
+use crate::places_after_turns::holds;
 use golf_base::{Memory, ObjectId};
 use golf_data::Object;
 use golf_heap::Heap;

@@ -4,11 +4,13 @@
 #[cfg(test)]
 mod codes;
 #[cfg(test)]
-mod finalising;
+mod finalisers;
 #[cfg(test)]
 mod heap;
 #[cfg(test)]
 mod instructions;
+#[cfg(test)]
+mod places_after_turns;
 #[cfg(test)]
 mod programs;
 #[cfg(test)]
@@ -18,10 +20,8 @@ mod runs;
 #[cfg(test)]
 mod states;
 #[cfg(test)]
-mod stepping;
-#[cfg(test)]
 mod stuck;
 #[cfg(test)]
 mod turns;
 #[cfg(test)]
-mod unwinding;
+mod unwinds;

@@ -3,8 +3,8 @@
 //! `rt try --test --fail-alloc N` refuses memory, for each N. A test that is hit while it makes its code
 //! runs out of memory, and the others pass.
 
+use crate::places_after_turns::{HowBlocked, MAIN, blocked, holds, stands};
 use crate::programs::program;
-use crate::stepping::{HowBlocked, MAIN, blocked, holds, stands};
 use golf_base::{Memory, ObjectId};
 use golf_data::{Code, Ending, Side};
 use golf_machine::start;

@@ -1,8 +1,8 @@
 //! Runs of codes, and their results.
 
 use crate::codes::Texts;
+use crate::places_after_turns::{MAIN, OTHER, after};
 use crate::programs::program;
-use crate::stepping::{MAIN, OTHER, after};
 use golf_base::{GoroutineId, ObjectId};
 use golf_data::{Ending, Goroutine, Mode, PanicKind, Side, Value, WaitKind};
 use golf_machine::Turned;

@@ -1,6 +1,6 @@
 //! Tests of a state that is changed by hand, and of frames with a deferred call.
 
-use crate::stepping::holds;
+use crate::places_after_turns::holds;
 use golf_base::{GoroutineId, List, Memory, Room};
 use golf_data::{Deferred, Frame, Leaving, Slots};
 use golf_state::{State, begin_return, enter_deferred, return_frame};

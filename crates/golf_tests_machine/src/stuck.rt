@@ -1,7 +1,7 @@
 //! Tests of operands of the wrong kind: no rule fits, and the state stays the same.
 
+use crate::places_after_turns::{MAIN, OTHER, after, blocked, holds, stands, take};
 use crate::programs::program;
-use crate::stepping::{MAIN, OTHER, after, blocked, holds, stands, take};
 use golf_base::{List, Memory};
 use golf_data::{Code, Object, Side, Value, Wait, WaitKind};
 use golf_machine::start;
@@ -48,6 +48,6 @@ fn signal_without_mutex(alloc: Global) -> Result<bool, Fail> {
 }
 
 #[test]
-fn nobody_is_passed_on_to_a_nil_mutex(rt: HostRuntime) -> Result<(), Fail> {
+fn nobody_is_requeued_to_a_nil_mutex(rt: HostRuntime) -> Result<(), Fail> {
     holds(&rt, signal_without_mutex(rt.alloc())?)
 }

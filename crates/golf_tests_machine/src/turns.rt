@@ -1,8 +1,8 @@
 //! Tests of goroutines that send, receive, block, are woken, call, return and end.
 
 use crate::codes::{NO_SENDER, ONE_CALL, ONE_COLLECTION, ONE_PANIC, ONE_VALUE, TWO_VALUES};
+use crate::places_after_turns::{MAIN, OTHER};
 use crate::runs::{Turns, blocking, can_run, comes_to, ends_after, first_sender, panicked, prints};
-use crate::stepping::{MAIN, OTHER};
 use golf_data::{Ending, PanicKind, Value, WaitKind};
 use golf_machine::Turned;
 use std::test::Fail;

@@ -8,7 +8,7 @@ mod expressions;
 #[cfg(test)]
 mod files;
 #[cfg(test)]
-mod lexing;
+mod lexed_tokens;
 #[cfg(test)]
 mod segments;
 #[cfg(test)]

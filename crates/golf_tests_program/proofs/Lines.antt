@@ -26,7 +26,7 @@ use Rattle.golf_run_texts.specs.Fixed.{usage_text}
 use Rattle.golf_run_texts.specs.Texts.{history_line}
 use Rattle.golf_run_texts.specs.Output.{events_of, last_of, out_of, reports_of, end_of, real_stops_of, err_of}
 use Rattle.golf_run_texts.specs.Output.{status_of}
-use Rattle.golf_command.specs.Generating.{generated_options, generated_summary}
+use Rattle.golf_command.specs.GeneratedRuns.{generated_options, generated_summary}
 use Rattle.golf_command.specs.Ways.{Way, AreTurns, IsTurnAt, after_turns, history_options}
 use Rattle.golf_command.specs.Promises.{Accepts, RefusedBy, WordsMean}
 

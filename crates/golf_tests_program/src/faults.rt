@@ -1,8 +1,8 @@
 //! Tests of streams that fail, and of words that are no command line.
 
 use crate::calls::{Ends, Row, expect_ends, expect_failing, expect_usage};
-use crate::runs::{EMPTY_MAIN, LEAK};
-use crate::worked::{POOL, POOL_ERRORS, POOL_OUT, POOL_RECOVERED};
+use crate::runs::basic::{EMPTY_MAIN, LEAK};
+use crate::runs::worked::{POOL, POOL_ERRORS, POOL_OUT, POOL_RECOVERED};
 use golf_run_texts::{READ_FAULT, Status};
 use std::process::Abort;
 use std::sync::Wait;

@@ -1,5 +1,5 @@
 -- A graph under construction gains a node, and a sleeper.
--- For: `node` and `sleeper`, src/making.rt; `IsInMaking`, specs/Making.antt
+-- For: `node` and `sleeper`, src/graph_maker.rt; `IsInMaking`, specs/UnfinishedGraphs.antt
 -- By: induction over the list of objects of the graph
 use Rattle.std.proofs.Common.{◌≡◌, ℕ, ◌+◌, ◌<◌, ◌≤◌, List, [], ◌∷◌, ◌++◌, length, Bool, subst, sym, arith}
 use Rattle.std.proofs.lemmas.List.{length_push}
@@ -9,7 +9,7 @@ use Rattle.golf_base.specs.declared.ids.ObjectId.{ObjectId}
 use Rattle.golf_model.specs.declared.graph.GraphParts.{GraphParts}
 use Rattle.golf_model.specs.Sleepers.{Sleeper}
 use Rattle.golf_model.specs.Graph.{NumbersRise}
-use Rattle.golf_tests_support.specs.Making.{AreBelow, IsInMaking}
+use Rattle.golf_tests_support.specs.UnfinishedGraphs.{NodesBelow, IsInMaking}
 
 pub NumbersRise-push : (k : ℕ) (os : List ObjectId) (o : ObjectId) → k ≤ o.0 → Every (λ x. x.0 < o.0) os
     → NumbersRise k os → NumbersRise k (os ++ o ∷ [])
@@ -26,7 +26,7 @@ below-push os o e below =
 
 -- one more node
 pub IsInMaking-node : (count : ℕ) (g : GraphParts) (o : ObjectId) (row : List ℕ) (f : Bool) → IsInMaking count g
-    → o.0 ≡ length g.children → AreBelow count row
+    → o.0 ≡ length g.children → NodesBelow count row
     → IsInMaking count (record {
       numbers = g.numbers ++ o ∷ [];
       children = g.children ++ row ∷ [];
@@ -45,15 +45,15 @@ IsInMaking-node count g o row f m number below =
       rising = NumbersRise-push 0 g.numbers o (omega arith)
           (subst (λ (n : ℕ). Every (λ x. x.0 < n) g.numbers) (sym next) m.below) m.rising;
       below = below-push g.numbers o next m.below;
-      children = Every-push (AreBelow count) g.children row m.children below;
+      children = Every-push (NodesBelow count) g.children row m.children below;
       roots = m.roots;
       waits = m.waits;
       references = m.references;
     }
 
 -- one more sleeper
-pub IsInMaking-sleeper : (count : ℕ) (g : GraphParts) (x : Sleeper) → IsInMaking count g → AreBelow count x.waits
-    → AreBelow count x.references → IsInMaking count (record g { sleepers = g.sleepers ++ x ∷ [] })
+pub IsInMaking-sleeper : (count : ℕ) (g : GraphParts) (x : Sleeper) → IsInMaking count g → NodesBelow count x.waits
+    → NodesBelow count x.references → IsInMaking count (record g { sleepers = g.sleepers ++ x ∷ [] })
 IsInMaking-sleeper count g x m waits references = record {
   small = m.small;
   numbered = m.numbered;
@@ -62,6 +62,6 @@ IsInMaking-sleeper count g x m waits references = record {
   below = m.below;
   children = m.children;
   roots = m.roots;
-  waits = Every-push (λ (y : Sleeper). AreBelow count y.waits) g.sleepers x m.waits waits;
-  references = Every-push (λ (y : Sleeper). AreBelow count y.references) g.sleepers x m.references references;
+  waits = Every-push (λ (y : Sleeper). NodesBelow count y.waits) g.sleepers x m.waits waits;
+  references = Every-push (λ (y : Sleeper). NodesBelow count y.references) g.sleepers x m.references references;
 }

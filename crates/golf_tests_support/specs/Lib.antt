@@ -1,2 +1,2 @@
-pub mod Making
+pub mod UnfinishedGraphs
 pub mod Ready

@@ -2,7 +2,7 @@
 
 ghost use Rattle.std.specs.Prelude.{IsTrue};
 ghost use Rattle.golf_data.specs.Places.{HasPlaces};
-ghost use Rattle.golf_tests_support.specs.Ready.{IsReady};
+ghost use Rattle.golf_tests_support.specs.Ready.{HasSmallPlaces};
 
 use golf_base::{List, Memory};
 use golf_data::{Code, CodeLine, Function, Instr, Value};
@@ -59,7 +59,7 @@ pub fn code(
 
 // Whether the body of a function has fewer than 2^32 instructions.
 fn is_ready(function: &Function) -> bool
-    ensures { IsTrue result → IsReady function.now }
+    ensures { IsTrue result → HasSmallPlaces function.now }
 {
     function.body.len() < (1 << 32)
 }

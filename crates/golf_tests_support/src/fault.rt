@@ -1,6 +1,6 @@
 //! The reason for which a measurement fails.
 
-use crate::making::GraphFault;
+use crate::graph_maker::GraphFault;
 use golf_base::Memory;
 use std::alloc::AllocError;
 use std::io;

@@ -6,23 +6,23 @@
 #![tactic(auto)]
 
 mod codes;
-mod counting;
+mod counts;
 mod fault;
 mod gates;
-mod making;
+mod graph_maker;
+mod instruction_texts;
 mod numbers;
 mod random;
-mod reading;
 mod shapes;
 mod turns;
 
 pub use codes::{can_run, code, function, lines};
-pub use counting::{count_finalisers, count_goroutines};
+pub use counts::{count_finalisers, count_goroutines};
 pub use fault::BenchFault;
 pub use gates::{CountingGate, MeetingGate, StealingGate};
-pub use making::{GraphFault, GraphMaker};
+pub use graph_maker::{GraphFault, GraphMaker};
+pub use instruction_texts::{TextFault, instrs};
 pub use numbers::Numbers;
 pub use random::random_graph;
-pub use reading::{TextFault, instrs};
 pub use shapes::{Shape, shaped};
 pub use turns::take_turn;

@@ -1,6 +1,6 @@
 //! Pseudo-random graphs.
 
-use crate::making::{GraphFault, GraphMaker};
+use crate::graph_maker::{GraphFault, GraphMaker};
 use crate::numbers::Numbers;
 use golf_base::List;
 use golf_model::Graph;

@@ -3,7 +3,7 @@ use Rattle.std.proofs.Common.{◌≡◌, ℕ, Bool, true, false, not, ◌==◌, 
 use Rattle.golf_theory.specs.Membership.{is_in, any_of, all_of}
 use Rattle.golf_theory.specs.Maps.{find, put, add, only, keys_where, keys, map_values}
 use Rattle.golf_theory.specs.Least.{least}
-use Rattle.golf_theory.specs.Counting.{times, rows_times}
+use Rattle.golf_theory.specs.Counts.{times, rows_times}
 
 abbrev three : List (ℕ × ℕ)
 three = (1, 10) ∷ (4, 40) ∷ (6, 60) ∷ []

@@ -3,7 +3,8 @@
 -- By: putting the lemmas together; no induction
 use Rattle.std.proofs.Common.{◌≡◌, true, arith}
 use Rattle.golf_theory.specs.Membership.{In}
-use Rattle.golf_theory.specs.Laws.{FindPut, FindAdd, FindOnly, OnlyGoes, KeysPass, EntriesFound, KeysRise, ReachedLeast}
+use Rattle.golf_theory.specs.Laws.{FindPut, FindAdd, FindOnly, OnlyGoes, KeysSatisfy, EntriesFound, KeysRise}
+use Rattle.golf_theory.specs.Laws.{ReachedLeast}
 use Rattle.golf_theory.specs.Laws.{LeastDerived, Counted, MembersCount}
 use Rattle.golf_theory.proofs.Lists.{Every-at}
 use Rattle.golf_theory.proofs.Tests.{is_in-from, In-from}
@@ -29,8 +30,8 @@ module _ (X : Type 0) where
   pub only_goes : OnlyGoes X
   only_goes p k v es = (only-put p k v es, λ t. only-add p k v es t, λ f. only-map_values f p es)
 
-  pub keys_pass : KeysPass X
-  keys_pass p k es = (λ h. Entry-keys_where p es k h, λ r. In-keys_where p es k r.0 r.1 r.2)
+  pub keys_satisfy : KeysSatisfy X
+  keys_satisfy p k es = (λ h. Entry-keys_where p es k h, λ r. In-keys_where p es k r.0 r.1 r.2)
 
   pub entries_found : EntriesFound X
   entries_found k x es r = (λ h. find-Entry es k x r h, λ h. Entry-find k es x h)

@@ -1,5 +1,5 @@
 -- How often a number stands in a list, and that no list is longer than the sum of such counts.
--- For: `times`, specs/Counting.antt; `counting_laws`, src/lib.rt
+-- For: `times`, specs/Counts.antt; `counting_laws`, src/lib.rt
 -- By: induction over the list, and over the list of counts
 use Rattle.std.proofs.Common.{◌≡◌, ℕ, zero, suc, ◌+◌, ◌-◌, ◌<◌, ◌≤◌, List, [], ◌∷◌, ◌++◌, length, get_or, set, Bool}
 use Rattle.std.proofs.Common.{cond, eqb, eq-eqb, ne_eqb, refl, sym, ap, subst, arith, inl, inr}
@@ -8,7 +8,7 @@ use Rattle.std.proofs.lemmas.Bool.{cases_lt, cases_eq}
 use Rattle.std.proofs.lemmas.List.{get_or-set_same, get_or-set_other, get_or_past}
 use Rattle.std.proofs.lemmas.List.Sums.{sum_by-cons, sum_by-append, sum_by_push, sum_by-set}
 use Rattle.golf_theory.specs.Membership.{In}
-use Rattle.golf_theory.specs.Counting.{times}
+use Rattle.golf_theory.specs.Counts.{times}
 
 -- the weight of one number
 abbrev one : ℕ → ℕ → ℕ

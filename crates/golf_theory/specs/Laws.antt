@@ -5,7 +5,7 @@ use Rattle.golf_theory.specs.Maps.{Entry, find, put, add, only, keys_where, map_
 use Rattle.golf_theory.specs.Derivation.{Derived}
 use Rattle.golf_theory.specs.Reached.{Reached}
 use Rattle.golf_theory.specs.Least.{least}
-use Rattle.golf_theory.specs.Counting.{times}
+use Rattle.golf_theory.specs.Counts.{times}
 
 -- what is found at a key after a change there, and at every other key
 abbrev pub FindPut : Type 0 → Type 0
@@ -28,9 +28,9 @@ OnlyGoes X = (p : ℕ → Bool) (k : ℕ) (v : X) (es : List (ℕ × X)) → (on
     × (p k ≡ true → only p (add k v es) ≡ add k v (only p es))
     × ((f : ℕ → X → X) → only p (map_values f es) ≡ map_values f (only p es))
 
--- the keys that pass a test are exactly the keys of the entries that pass it
-abbrev pub KeysPass : Type 0 → Type 0
-KeysPass X = (p : ℕ → X → Bool) (k : ℕ) (es : List (ℕ × X)) → In k (keys_where p es)
+-- the keys that satisfy a test are exactly the keys of the entries that pass it
+abbrev pub KeysSatisfy : Type 0 → Type 0
+KeysSatisfy X = (p : ℕ → X → Bool) (k : ℕ) (es : List (ℕ × X)) → In k (keys_where p es)
     ↔ ((x : X) × Entry es k x × (p k x ≡ true))
 
 -- in a map whose keys rise, the entries are what is found

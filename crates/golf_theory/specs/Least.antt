@@ -6,7 +6,7 @@ abbrev pub with_rest : {X : Type 0} → X → Option (X × List X) → Option (X
 with_rest x None = None
 with_rest x (Some p) = Some (p.0, x ∷ p.1)
 
--- the first item of the list that passes the test, and the other items
+-- the first item of the list that satisfies the test, and the other items
 abbrev pub pick : {X : Type 0} → (X → Bool) → List X → Option (X × List X)
 pick test [] = None
 pick test (x ∷ xs) = cond (test x) (Some (x, xs)) (with_rest x (pick test xs))

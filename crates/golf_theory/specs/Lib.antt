@@ -3,7 +3,7 @@ pub mod Maps
 pub mod Derivation
 pub mod Reached
 pub mod Least
-pub mod Counting
+pub mod Counts
 pub mod Laws
 pub mod Agreement
 pub mod Stored

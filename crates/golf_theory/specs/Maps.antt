@@ -26,12 +26,12 @@ abbrev pub insert : {X : Type 0} → ℕ → X → List (ℕ × X) → List (ℕ
 insert k v [] = (k, v) ∷ []
 insert k v (e ∷ es) = cond (nat_lt e.0 k) (e ∷ insert k v es) ((k, v) ∷ e ∷ es)
 
--- the entries whose keys pass the test
+-- the entries whose keys satisfy the test
 abbrev pub only : {X : Type 0} → (ℕ → Bool) → List (ℕ × X) → List (ℕ × X)
 only p [] = []
 only p (e ∷ es) = cond (p e.0) (e ∷ only p es) (only p es)
 
--- the keys of the entries that pass the test, in their order
+-- the keys of the entries that satisfy the test, in their order
 abbrev pub keys_where : {X : Type 0} → (ℕ → X → Bool) → List (ℕ × X) → List ℕ
 keys_where p [] = []
 keys_where p (e ∷ es) = cond (p e.0 e.1) (e.0 ∷ keys_where p es) (keys_where p es)

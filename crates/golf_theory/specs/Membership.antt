@@ -16,12 +16,12 @@ abbrev pub is_in : ℕ → List ℕ → Bool
 is_in n [] = false
 is_in n (m ∷ ms) = (n == m) || is_in n ms
 
--- whether a member passes the test
+-- whether a member satisfies the test
 abbrev pub any_of : {X : Type 0} → (X → Bool) → List X → Bool
 any_of test [] = false
 any_of test (x ∷ xs) = test x || any_of test xs
 
--- whether each member passes the test
+-- whether each member satisfies the test
 abbrev pub all_of : {X : Type 0} → (X → Bool) → List X → Bool
 all_of test [] = true
 all_of test (x ∷ xs) = test x && all_of test xs

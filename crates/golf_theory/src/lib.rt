@@ -10,7 +10,7 @@ ghost use Rattle.golf_theory.specs.Laws.{
   FindAdd,
   FindOnly,
   FindPut,
-  KeysPass,
+  KeysSatisfy,
   KeysRise,
   LeastDerived,
   MembersCount,
@@ -34,7 +34,7 @@ pub fn cut_laws<T>()
 /// each change keeps the keys rising.
 pub fn order_laws<T>()
     ensures entries { EntriesFound T }
-    ensures keys { KeysPass T }
+    ensures keys { KeysSatisfy T }
     ensures rise { KeysRise T }
 {}
 

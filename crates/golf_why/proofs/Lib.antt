@@ -1,4 +1,4 @@
-mod Asleep
+mod SleeperEntries
 mod Within
 mod Saying
 mod Living

@@ -14,17 +14,17 @@ use Rattle.golf_data.specs.declared.report.Entry.{Entry as Told}
 use Rattle.golf_model.specs.declared.graph.GraphParts.{GraphParts}
 use Rattle.golf_model.specs.Futures.{Numbered}
 use Rattle.golf_model.specs.Graph.{sleeper_place, Least, IsInRange}
-use Rattle.golf_model.specs.Living.{Node, Live}
+use Rattle.golf_model.specs.LiveSet.{Node, Live}
 use Rattle.golf_model.specs.Presence.{IsWhole}
-use Rattle.golf_model.specs.Reporting.{goroutine_id, entry_by, entry_of}
+use Rattle.golf_model.specs.Reports.{goroutine_id, entry_by, entry_of}
 use Rattle.golf_model.specs.State.{State, is_running}
 use Rattle.golf_model.specs.Views.{GoroutineView}
 use Rattle.golf_snapshot.specs.Parts.{row_of, is_awake, sleeping, sleeper_of, live_parts}
 use Rattle.golf_snapshot.specs.Stands.{IsSleeper}
 use Rattle.golf_snapshot.proofs.LiveComplete.{live-graph}
-use Rattle.golf_cert.specs.Computing.{reason_to, reason_in}
+use Rattle.golf_cert.specs.ComputedLevels.{reason_to, reason_in}
 use Rattle.golf_cert.proofs.Computing.{reasons_computed}
-use Rattle.golf_why.specs.Explaining.{asleep_in}
+use Rattle.golf_why.specs.Explanations.{sleeper_entries_in}
 use Rattle.golf_why.specs.Laws.{LiveAreTold}
 use Rattle.golf_why.proofs.Saying.{none-told, one-told}
 
@@ -75,7 +75,7 @@ module _ (s : State) (n : Numbered s) (w : IsWhole s) (fit : IsInRange (live_par
       let b = blocked g sleeper.0.started sleeper.0.mode (g == 0) there.1 in
       (b.0, ap (entry_of g) found ∙ b.1)
 
-  here : unwrap_or (slice_get (asleep_in s graph) k) None ≡ Some entry.0
+  here : unwrap_or (slice_get (sleeper_entries_in s graph) k) None ≡ Some entry.0
   here =
       ap (λ o. unwrap_or o None) (get-map (λ x. slice_get (entry_of x.goroutine.0 (find x.goroutine.0 s.goroutines)) 0)
       graph.sleepers k (sleeper_of s.objects (g, sleeper.0))
@@ -94,9 +94,9 @@ live_told s n w fit k g sleeper =
             blocked = e.1;
             places = reason_in graph k;
             reason = reason;
-            is_told = sym (one-told graph k place (asleep_in s graph) e.0 (reason_in graph k)
+            is_told = sym (one-told graph k place (sleeper_entries_in s graph) e.0 (reason_in graph k)
                 (here s n w fit k g sleeper) reason refl);
           };
-      dead = λ d. sym (none-told graph k (unwrap_or (slice_get (asleep_in s graph) k) None)
+      dead = λ d. sym (none-told graph k (unwrap_or (slice_get (sleeper_entries_in s graph) k) None)
           (computed.1 (λ l. d (lives s n w fit k g sleeper l))));
     }

@@ -1,14 +1,14 @@
 -- What is told of a sleeper that has a reason.
--- For: `reached`, src/explanation.rt; `reached_at`, specs/Explaining.antt
+-- For: `reached`, src/explanation.rt; `reached_at`, specs/Explanations.antt
 -- By: cases of the reason; induction over the list of entries
 use Rattle.std.proofs.Common.{◌≡◌, ℕ, zero, suc, List, [], ◌∷◌, ◌++◌, get_or, Some, None, refl, sym, ap, ◌∙◌}
 use Rattle.std.specs.Prelude.{Option, slice_get, unwrap_or}
 use Rattle.golf_data.specs.declared.report.Entry.{Entry}
 use Rattle.golf_model.specs.declared.graph.GraphParts.{GraphParts}
-use Rattle.golf_cert.specs.Computing.{reason_in}
+use Rattle.golf_cert.specs.ComputedLevels.{reason_in}
 use Rattle.golf_cert.specs.Levels.{IsReason}
 use Rattle.golf_why.specs.Members.{members_before}
-use Rattle.golf_why.specs.Explaining.{reached_by, reached_at}
+use Rattle.golf_why.specs.Explanations.{reached_by, reached_at}
 
 -- nothing of one that has none
 pub none-told : (g : GraphParts) (k : ℕ) (o : Option Entry) → reason_in g k ≡ [] → [] ≡ reached_at g k o

@@ -1,5 +1,5 @@
 -- What justified links place is there.
--- For: `before_last`, src/members.rt; `IsWithin`, specs/Members.antt
+-- For: `before_last`, src/members.rt; `IsPlacedIn`, specs/Members.antt
 -- By: cases of the link; induction over the list of links
 use Rattle.std.proofs.Common.{◌≡◌, ℕ, zero, suc, ◌-◌, ◌<◌, List, [], ◌∷◌, map, length, take, get_or, Some, refl, sym}
 use Rattle.std.proofs.Common.{ap, subst, ◌∙◌, arith}
@@ -12,10 +12,10 @@ use Rattle.golf_mark.proofs.Ranges.{children-nodes, references-nodes, waits-belo
 use Rattle.golf_cert.specs.declared.links.Link.{Link}
 use Rattle.golf_cert.specs.declared.links.Link.TheVariants.{Root, Child, Woken, Held}
 use Rattle.golf_cert.specs.Links.{placed_by, places_of, IsJustifiedBy, AreJustified}
-use Rattle.golf_why.specs.Members.{member_at, members_before, IsWithin}
+use Rattle.golf_why.specs.Members.{member_at, members_before, IsPlacedIn}
 
 justified-within : (g : GraphParts) → IsInRange g → (before : List ℕ) (link : Link) → IsJustifiedBy g before link
-    → IsWithin g link
+    → IsPlacedIn g link
 justified-within g fit before (Root node) h = Every-at (λ p. p < node_count g) g.roots node fit.roots h
 justified-within g fit before (Child from to) h =
     Every-at (λ p. p < node_count g) (children_of g from) to (children-nodes g fit from) h.1
@@ -38,11 +38,11 @@ get-taken (y ∷ ys) (suc n) (suc i) d l = let r = get-taken ys n i d (omega (ar
 
 -- each of the first links
 pub within-at : (g : GraphParts) (links : List Link) (n i : ℕ) (d : Link) → IsInRange g → AreJustified g links
-    → i < length (take n links) → IsWithin g (get_or (take n links) i d)
+    → i < length (take n links) → IsPlacedIn g (get_or (take n links) i d)
 within-at g links n i d fit all l =
     let t = get-taken links n i d l in
     let j = all i t.1 in
-    subst (IsWithin g) (sym (got-same links i d j.0 j.1) ∙ sym t.0)
+    subst (IsPlacedIn g) (sym (got-same links i d j.0 j.1) ∙ sym t.0)
     (justified-within g fit (places_of g (take i links)) j.0 j.2)
 
 -- what all but the last place

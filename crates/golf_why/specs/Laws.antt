@@ -4,20 +4,20 @@ use Rattle.golf_theory.specs.Maps.{find}
 use Rattle.golf_data.specs.declared.report.Entry.{Entry}
 use Rattle.golf_model.specs.Futures.{Numbered}
 use Rattle.golf_model.specs.Graph.{sleeper_place, IsInRange}
-use Rattle.golf_model.specs.Living.{Node, Live}
+use Rattle.golf_model.specs.LiveSet.{Node, Live}
 use Rattle.golf_model.specs.Presence.{IsWhole}
-use Rattle.golf_model.specs.Reporting.{entry_of}
+use Rattle.golf_model.specs.Reports.{entry_of}
 use Rattle.golf_model.specs.State.{State}
 use Rattle.golf_snapshot.specs.Parts.{live_parts}
 use Rattle.golf_snapshot.specs.Stands.{IsSleeper}
 use Rattle.golf_cert.specs.Levels.{IsReason}
 use Rattle.golf_why.specs.declared.explanation.Reached.{Reached}
 use Rattle.golf_why.specs.Members.{members_before}
-use Rattle.golf_why.specs.Explaining.{asleep_in, reached_at}
+use Rattle.golf_why.specs.Explanations.{sleeper_entries_in, reached_at}
 
 -- the explanation of the sleeper of this number
 abbrev pub told : State → ℕ → List Reached
-told s k = reached_at (live_parts s) k (unwrap_or (slice_get (asleep_in s (live_parts s)) k) None)
+told s k = reached_at (live_parts s) k (unwrap_or (slice_get (sleeper_entries_in s (live_parts s)) k) None)
 
 -- the explanation says how the goroutine is blocked, as a report says it, and names the members of its one reason
 pub record IsToldOf (s : State) (k g : ℕ) : Type 0 where

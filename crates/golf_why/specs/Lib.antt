@@ -1,3 +1,3 @@
 pub mod Members
-pub mod Explaining
+pub mod Explanations
 pub mod Laws

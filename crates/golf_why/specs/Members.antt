@@ -19,8 +19,8 @@ abbrev pub members_before : GraphParts → List ℕ → List Member
 members_before g places = map (member_at g) (take (length places - 1) places)
 
 -- the link places a place of the graph
-abbrev pub IsWithin : GraphParts → Link → Type 0
-IsWithin g (Root node) = node < node_count g
-IsWithin g (Child from to) = to < node_count g
-IsWithin g (Woken node sleeper) = sleeper < sleeper_count g
-IsWithin g (Held sleeper node) = node < node_count g
+abbrev pub IsPlacedIn : GraphParts → Link → Type 0
+IsPlacedIn g (Root node) = node < node_count g
+IsPlacedIn g (Child from to) = to < node_count g
+IsPlacedIn g (Woken node sleeper) = sleeper < sleeper_count g
+IsPlacedIn g (Held sleeper node) = node < node_count g

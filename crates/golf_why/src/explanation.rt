@@ -5,10 +5,10 @@ ghost use Rattle.std.specs.Prelude.{◌≡◌, ◌<◌, IfOk, length, slice_get,
 ghost use Rattle.golf_theory.specs.Maps.{find};
 ghost use Rattle.golf_model.specs.Graph.{sleeper_count};
 ghost use Rattle.golf_model.specs.Presence.{IsWhole};
-ghost use Rattle.golf_model.specs.Reporting.{entry_of};
-ghost use Rattle.golf_cert.specs.Computing.{least_in_order};
-ghost use Rattle.golf_mark.specs.Marking.{MarksLeast};
-ghost use Rattle.golf_why.specs.Explaining.{asleep_in, listed, reached_at, Explains, IsReady};
+ghost use Rattle.golf_model.specs.Reports.{entry_of};
+ghost use Rattle.golf_cert.specs.ComputedLevels.{least_in_order};
+ghost use Rattle.golf_mark.specs.MarkingResult.{MarksLeast};
+ghost use Rattle.golf_why.specs.Explanations.{sleeper_entries_in, listed, reached_at, Explains, IsExplanation};
 
 use crate::members::{Member, before_last};
 use golf_base::{GoroutineId, List, Memory, OpenGate};
@@ -39,7 +39,7 @@ pub struct Reached {
 #[derive(Drop)]
 pub struct Explanation {
     graph: Graph,
-    asleep: List<Option<Entry>>,
+    sleeper_entries: List<Option<Entry>>,
     reasons: Reasons,
     places: u32,
 }
@@ -73,8 +73,12 @@ fn entry(state: &State, g: GoroutineId) -> Option<Entry>
 }
 
 // For each sleeper of a graph how it is blocked.
-fn asleep(alloc: Global, state: &State, graph: &Graph) -> Result<List<Option<Entry>>, Memory>
-    ensures { IfOk result (λ entries. entries ≡ asleep_in state.now graph.now) }
+fn sleeper_entries(
+    alloc: Global,
+    state: &State,
+    graph: &Graph,
+) -> Result<List<Option<Entry>>, Memory>
+    ensures { IfOk result (λ entries. entries ≡ sleeper_entries_in state.now graph.now) }
 {
     let mut entries = List::new(alloc);
     for sleeper in 0..graph.sleepers() {
@@ -93,16 +97,16 @@ impl Explanation {
     pub fn new(alloc: Global, state: &State) -> Result<Explanation, Memory>
         requires { IsWhole state.now }
         ensures explains { IfOk result (Explains state.now) }
-        ensures ready { IfOk result IsReady }
+        ensures ready { IfOk result IsExplanation }
     {
         let graph = live_graph(alloc, state)?;
         let marked = mark_alone(alloc, &graph, &OpenGate)?;
         let places = certified(alloc, &graph, &marked)?;
-        let asleep = asleep(alloc, state, &graph)?;
+        let sleeper_entries = sleeper_entries(alloc, state, &graph)?;
         let reasons = Reasons::new(alloc, &graph)?;
         Ok(Explanation {
             graph,
-            asleep,
+            sleeper_entries,
             reasons,
             places,
         })
@@ -127,14 +131,14 @@ impl Explanation {
     /// Returns the way to this blocked goroutine, or `None` if it is dead. The time is linear in the length
     /// of the way. The only error is `Memory`.
     pub fn reached(&self, alloc: Global, sleeper: u32) -> Result<Option<Reached>, Memory>
-        requires ready { IsReady self.now }
+        requires ready { IsExplanation self.now }
         requires sleeper { sleeper < sleeper_count self.now.graph }
-        ensures { IfOk result (λ found. listed found ≡ reached_at self.now.graph sleeper (unwrap_or (slice_get self.now.asleep sleeper) None)) }
+        ensures { IfOk result (λ found. listed found ≡ reached_at self.now.graph sleeper (unwrap_or (slice_get self.now.sleeper_entries sleeper) None)) }
     {
         let Some(links) = self.reasons.of(alloc, &self.graph, sleeper)? else {
             return Ok(None);
         };
-        let Some(entry) = self.asleep.as_slice()[sleeper as usize] else {
+        let Some(entry) = self.sleeper_entries.as_slice()[sleeper as usize] else {
             return Ok(None);
         };
         let by = before_last(alloc, &self.graph, links.as_slice())?;

@@ -5,7 +5,7 @@
 ghost use Rattle.std.specs.Prelude.{◌≡◌, ◌-◌, ◌<◌, IfOk};
 ghost use Rattle.golf_model.specs.Graph.{node_count};
 ghost use Rattle.golf_cert.specs.Links.{placed_by, places_of, AreJustified};
-ghost use Rattle.golf_why.specs.Members.{member_at, members_before, IsWithin};
+ghost use Rattle.golf_why.specs.Members.{member_at, members_before, IsPlacedIn};
 
 use golf_base::{GoroutineId, List, Memory, ObjectId};
 use golf_cert::Link;
@@ -29,7 +29,7 @@ fn object(graph: &Graph, node: u32) -> Member
 
 // The object or goroutine that a link places.
 fn placed(graph: &Graph, link: Link) -> Member
-    requires { IsWithin graph.now link }
+    requires { IsPlacedIn graph.now link }
     ensures { result ≡ member_at graph.now (placed_by graph.now link) }
 {
     match link {

@@ -1,5 +1,5 @@
 -- A turn that asks for a collection, and how it is taken back.
--- For: `turn_and_collect`, src/turning.rt; `wants_collection`, golf_model/specs/Turn.antt
+-- For: `turn_and_collect`, src/turn_with_collection.rt; `wants_collection`, golf_model/specs/Turn.antt
 -- By: cases of the frame on top and of its next instruction; no induction
 use Rattle.std.proofs.Common.{◌≡◌, ℕ, ◌+◌, ◌/◌, Bool, true, false, not, ◌||◌, List, [], ◌∷◌, length, Option, Some, None}
 use Rattle.std.proofs.Common.{refl, sym, ap, ◌∙◌}
@@ -13,22 +13,22 @@ use Rattle.golf_data.specs.declared.goroutine.Leaving.{Leaving}
 use Rattle.golf_data.specs.declared.goroutine.Mode.{Mode}
 use Rattle.golf_model.specs.Views.{FrameView, GoroutineView}
 use Rattle.golf_model.specs.State.{State, runnable, ending}
-use Rattle.golf_model.specs.Waking.{on_top}
+use Rattle.golf_model.specs.Wakes.{on_top}
 use Rattle.golf_model.specs.Changes.{Change, apply_all}
-use Rattle.golf_model.specs.Acting.{next, stands, goes}
-use Rattle.golf_model.specs.Clearing.{clearing}
+use Rattle.golf_model.specs.Actors.{next, stands, goes}
+use Rattle.golf_model.specs.ClearedSlots.{clearing}
 use Rattle.golf_model.specs.Turn.{turned, changes, line_at, acting, performs, frame_changes, goroutine_changes, turn_of}
 use Rattle.golf_model.specs.Turn.{turn_changes, whose_turn, step, is_collection, line_collects, frame_collects}
 use Rattle.golf_model.specs.Turn.{frames_collect, goroutine_collects, wants_collection, moves_on}
-use Rattle.golf_state.specs.Going.{went}
+use Rattle.golf_state.specs.FrameChanges.{went}
 use Rattle.golf_state.specs.Looked.{frames_of, frames_in, reframed, runs, is_running_in}
-use Rattle.golf_state.specs.Doing.{Stands}
+use Rattle.golf_state.specs.ActorChanges.{Stands}
 use Rattle.golf_state.proofs.Doings.{actor_of, frames-is, found-after, taken-back}
-use Rattle.golf_machine.proofs.Turns.{turn-runs}
+use Rattle.golf_machine.proofs.TurnLaws.{turn-runs}
 use Rattle.golf_machine.specs.Turns.{turned_of}
-use Rattle.golf_machine.specs.declared.turning.Turned.{Turned}
-use Rattle.golf_machine.specs.declared.turning.Turned.TheVariants as t
-use Rattle.golf_model_order.proofs.Collecting.{collecting-goes}
+use Rattle.golf_machine.specs.declared.turns.Turned.{Turned}
+use Rattle.golf_machine.specs.declared.turns.Turned.TheVariants as t
+use Rattle.golf_model_futures.proofs.OrderedCollecting.{collecting-goes}
 use Rattle.golf_world.specs.Steps.{place_in}
 
 only-collect : (i : Instr) → is_collection i ≡ true → i ≡ Instr.Collect

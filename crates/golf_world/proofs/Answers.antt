@@ -8,7 +8,7 @@ use Rattle.golf_data.specs.declared.code.Code.{Code}
 use Rattle.golf_data.specs.declared.goroutine.Ending.{Ending}
 use Rattle.golf_world.specs.declared.history.Stepped.{Stepped}
 use Rattle.golf_world.specs.History.{most_entries}
-use Rattle.golf_world.specs.Steps.{Pass, HasStepped, HasTurned, HasEnded, IsSpent, HasFailed, ComesExactly}
+use Rattle.golf_world.specs.Steps.{Pass, HasStepped, PassHasTurned, HasEnded, IsSpent, HasDoneNothing, ComesExactly}
 
 -- a list is not itself with one item more
 longer : (xs : List (ℕ × ℕ)) (x : ℕ × ℕ) → xs ≡ xs ++ x ∷ [] → ⊥
@@ -20,7 +20,7 @@ last-is [] x y e = cc
 last-is (z ∷ xs) x y e = let f : xs ++ x ∷ [] ≡ xs ++ y ∷ [] = cc in last-is xs x y f
 
 module _ (code : Code) (old new : Pass) where
-  turned : (at : ℕ) (g : GoroutineId) (number : ℕ) → HasTurned code old new at g number
+  turned : (at : ℕ) (g : GoroutineId) (number : ℕ) → PassHasTurned code old new at g number
       → ComesExactly code (Ok (Stepped.Turned at g number)) old new
   turned at g number h = record {
     turned = λ k n. (
@@ -50,7 +50,7 @@ module _ (code : Code) (old new : Pass) where
     spent = ((λ i. (h.mine, h.goes, h.full)), (λ i. refl));
   }
 
-  failed : (m : Memory) → HasFailed code old new → ComesExactly code (Err m) old new
+  failed : (m : Memory) → HasDoneNothing code old new → ComesExactly code (Err m) old new
   failed m h = record {
     turned = λ k n. ((λ i. absurd i), (λ i. absurd (longer old.mine (k, n) (sym h.mine ∙ i))));
     ended = λ f. ((λ i. cc), (λ i. let t : None ≡ Some f = sym h.goes ∙ i.1 in cc));
@@ -63,7 +63,8 @@ module _ (code : Code) (old new : Pass) where
   by-step Stepped.Spent h = spent h
 
   -- the causes of the answers exclude one another
-  pub exactly : (r : Result Stepped Memory) → IfOk r (λ s. HasStepped code s old new) → OnErr r (HasFailed code old new)
+  pub exactly : (r : Result Stepped Memory) → IfOk r (λ s. HasStepped code s old new)
+      → OnErr r (HasDoneNothing code old new)
       → ComesExactly code r old new
   exactly (Ok s) h f = by-step s h
   exactly (Err m) h f = failed m f

@@ -12,18 +12,18 @@ use Rattle.golf_data.specs.declared.report.Book.{Book}
 use Rattle.golf_data.specs.declared.report.Report.{Report}
 use Rattle.golf_model.specs.State.{State, start, runnable, ending}
 use Rattle.golf_model.specs.Turn.{step, wants_collection, whose_turn}
-use Rattle.golf_model.specs.Collecting.{sets_finalisers, real_collect}
-use Rattle.golf_model.specs.Running.{Event, has_ended, run_by, stops_by, happens_by, happens_in, collected_if, stop_in}
-use Rattle.golf_model.specs.Running.{stop_if}
-use Rattle.golf_model.specs.Reporting.{report, real_run, real_reports, new_book, book_after, reports_from}
+use Rattle.golf_model.specs.Collections.{sets_finalisers, real_collect}
+use Rattle.golf_model.specs.Runs.{Event, has_ended, run_by, stops_by, happens_by, happens_in, collected_if, stop_in}
+use Rattle.golf_model.specs.Runs.{stop_if}
+use Rattle.golf_model.specs.Reports.{report, real_run, real_reports, new_book, book_after, reports_from}
 use Rattle.golf_data.specs.Places.{HasPlaces}
 use Rattle.golf_model.specs.Futures.{Leads}
-use Rattle.golf_machine.proofs.Turns.{whose}
+use Rattle.golf_machine.proofs.TurnLaws.{whose}
 use Rattle.golf_world.proofs.Spawning.{step-size, collect-size}
-use Rattle.golf_model_order.proofs.Collecting.{collecting-goes}
+use Rattle.golf_model_futures.proofs.OrderedCollecting.{collecting-goes}
 use Rattle.golf_world.specs.declared.history.HistoryEntry.{HistoryEntry}
 use Rattle.golf_world.specs.declared.history.Stepped.{Stepped}
-use Rattle.golf_world.specs.Steps.{HasAdvanced, Does}
+use Rattle.golf_world.specs.Steps.{HasCollected, DoesTurn}
 use Rattle.golf_world.specs.History.{entry, most_entries, turns, after, reports_after, books, stops, booked, number_at}
 use Rattle.golf_world.specs.History.{next_number, IsEntry, IsHistory, IsExecution}
 
@@ -238,7 +238,7 @@ module _ (code : Code) where
           few = omega (arith, few, length-append es (entry p n ∷ []));
         }
 
-    pub execution_next : (o : Option Report) (t : State) (d : Book) (qs : List Report) → HasAdvanced code n o s t b d
+    pub execution_next : (o : Option Report) (t : State) (d : Book) (qs : List Report) → HasCollected code n o s t b d
         → qs ≡ rs ++ option_to_list o → IsExecution code passes t d more qs
     execution_next None t d qs h e = execution_quiet t d qs h.0 h.1 h.2 (e ∙ append-nil rs)
     execution_next (Some r) t d qs h e = execution_loud t d r qs h.0 h.1 h.2 h.3 e
@@ -255,10 +255,10 @@ module _ (code : Code) where
       {rs : List Report} (p : ℕ) (g : GoroutineId) → TakesNext code passes p number at count s b es rs
       → length es < most_entries → ending s ≡ None → slice_get (runnable s) (number % count) ≡ Some g.0 → es ≡ old
       → new ≡ es ++ entry p number ∷ []
-      → Does code p (Stepped.Turned at g number) old new
+      → DoesTurn code p (Stepped.Turned at g number) old new
   does_turn {number = number} {at = at} {count = count} {s = s} {es = es} {new = new} p g n few goes here same made =
       let who : whose_turn (after code es) number ≡ Some g.0 =
       ap (λ (u : State). whose_turn u number) (sym n.execution.state)
       ∙ whose s number g.0 (number % count) count here refl n.many in
-      subst (λ (l : List HistoryEntry). Does code p (Stepped.Turned at g number) l new) same
+      subst (λ (l : List HistoryEntry). DoesTurn code p (Stepped.Turned at g number) l new) same
       (n.here, few, ap ending (sym n.execution.state) ∙ goes, next_is p n, who, made)

@@ -1,5 +1,5 @@
 -- Who can run after some events does not depend on whether collections free and remove.
--- For: `real_run`, golf_model/specs/Reporting.antt; `runnable`, golf_model/specs/State.antt
+-- For: `real_run`, golf_model/specs/Reports.antt; `runnable`, golf_model/specs/State.antt
 -- By: induction over the list of events
 use Rattle.std.proofs.Common.{◌≡◌, ℕ, Bool, true, false, List, [], ◌∷◌, ◌++◌, refl, sym, ap, ◌∙◌, subst}
 use Rattle.golf_theory.specs.Membership.{is_in}
@@ -8,10 +8,10 @@ use Rattle.golf_theory.proofs.MapCuts.{only-all}
 use Rattle.golf_data.specs.declared.code.Code.{Code}
 use Rattle.golf_model.specs.State.{State, start, runnable}
 use Rattle.golf_model.specs.Turn.{step, wants_collection}
-use Rattle.golf_model.specs.Reaching.{reach, sources}
-use Rattle.golf_model.specs.Collecting.{plain_collect, removed, cut, sets_finalisers, real_collect}
-use Rattle.golf_model.specs.Running.{Event, has_ended, collected_if, happens_in, run_by, run}
-use Rattle.golf_model.specs.Reporting.{real_run}
+use Rattle.golf_model.specs.Reach.{reach, sources}
+use Rattle.golf_model.specs.Collections.{plain_collect, removed, cut, sets_finalisers, real_collect}
+use Rattle.golf_model.specs.Runs.{Event, has_ended, collected_if, happens_in, run_by, run}
+use Rattle.golf_model.specs.Reports.{real_run}
 use Rattle.golf_model.specs.Futures.{Numbered}
 use Rattle.golf_model_futures.proofs.Closing.{closed-ground}
 use Rattle.golf_model_futures.proofs.Cutting.{parts}

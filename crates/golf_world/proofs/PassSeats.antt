@@ -12,7 +12,7 @@ use Rattle.golf_theory.proofs.Lists.{In-cases, Every-from, Every-at}
 use Rattle.golf_world.specs.declared.history.HistoryEntry.{HistoryEntry}
 use Rattle.golf_world.specs.declared.rule.PassEntries.{PassEntries}
 use Rattle.golf_world.specs.declared.rule.View.{View}
-use Rattle.golf_world.specs.Rule.{pass_entries, view_of, pass_view, idle_passes, left_view, both_views, Holds}
+use Rattle.golf_world.specs.Rule.{pass_entries, view_of, pass_view, idle_passes, left_view, both_views, HoldsHistory}
 use Rattle.golf_world.specs.History.{own}
 use Rattle.golf_world.specs.Steps.{Pass, IsNewPass, IsPassIn}
 
@@ -98,7 +98,7 @@ joins_all passes h all me g = Every-from (Knows me.0) all (λ p i. elim (g.each 
 
 -- what the rule says of the passes, if the keeper has taken them in
 pub closes : {passes : ℕ} {es h : List HistoryEntry} {s : State (Unit {0}) View} {v : View} (id : ℕ) (all : List Pass)
-    → Holds passes s → get_elem? s.views id ≡ some v → v.keeps ≡ true → v.seen ≡ h → es ≡ h → Every (Knows v) all
+    → HoldsHistory passes s → get_elem? s.views id ≡ some v → v.keeps ≡ true → v.seen ≡ h → es ≡ h → Every (Knows v) all
     → Every (IsPassIn es) all
 closes {passes} {es} {h} {s} {v} id all holds at keeps seen same knows =
     let f = holds.views id v at in

@@ -22,8 +22,9 @@ use Rattle.golf_world.specs.declared.history.HistoryEntry.{HistoryEntry}
 use Rattle.golf_world.specs.declared.rule.PassEntries.{PassEntries}
 use Rattle.golf_world.specs.declared.rule.View.{View}
 use Rattle.golf_world.specs.History.{entry, most_entries, next_number, own}
-use Rattle.golf_world.specs.Rule.{pass_entries, view_of, keeper_view, pass_view, idle_passes, first_view, Fits}
-use Rattle.golf_world.specs.Rule.{HoldsPass, Holds, appended, AppendTells, LookTells, others, left_view, right_view}
+use Rattle.golf_world.specs.Rule.{pass_entries, view_of, keeper_view, pass_view, idle_passes, first_view, WorldViewFits}
+use Rattle.golf_world.specs.Rule.{HoldsPass, HoldsHistory, appended, AppendTells, HistoryLookTells, others, left_view}
+use Rattle.golf_world.specs.Rule.{right_view}
 use Rattle.golf_world.specs.Rule.{both_views, spent_view}
 use Rattle.golf_world.proofs.Lists.{prefix_self, prefix_push, prefixes_push, at_push, set_at, own-mine, own-other}
 
@@ -105,7 +106,7 @@ idle_passes-hold p (suc n) q low high = elim (ℕ_discrete p q) [
       (idle_passes-hold (p + 1) n q (omega arith) (omega arith))
 ]
 
-pub begins : (passes : ℕ) → Holds passes (opening (0 ∷ []) [] (first_view passes))
+pub begins : (passes : ℕ) → HoldsHistory passes (opening (0 ∷ []) [] (first_view passes))
 begins passes = record {
   keeper = 0;
   owner = λ _. 0;
@@ -116,8 +117,8 @@ begins passes = record {
   owned = λ p less. (first_view passes, refl, idle_passes-hold 0 passes p (omega arith) (omega (arith, less)));
 }
   where
-    first : (k : ℕ) (v : View) → get_elem? (first_view passes ∷ []) k ≡ some v → Fits passes 0 (λ _. 0) [] k v
-    first zero v e = subst (Fits passes 0 (λ _. 0) [] 0) (some-injective (first_view passes) v e) (record {
+    first : (k : ℕ) (v : View) → get_elem? (first_view passes ∷ []) k ≡ some v → WorldViewFits passes 0 (λ _. 0) [] k v
+    first zero v e = subst (WorldViewFits passes 0 (λ _. 0) [] 0) (some-injective (first_view passes) v e) (record {
       named = inr refl;
       keeps = λ _. (refl, refl);
       held = λ h i. let t = idle_passes-empty 0 passes h i in (omega (arith, t.0), refl, t.1);
@@ -129,7 +130,7 @@ begins passes = record {
 module _ (passes : ℕ) where
   pub appends : (code : Code) (slots id n p : ℕ) (mine : List (ℕ × ℕ)) (seen : List HistoryEntry)
       (earlier : List (List HistoryEntry)) → length seen < most_entries
-      → Allows (Holds passes) slots id (view_of n true (pass_entries p mine ∷ []) seen earlier, []) 0
+      → Allows (HoldsHistory passes) slots id (view_of n true (pass_entries p mine ∷ []) seen earlier, []) 0
       (λ n. (n + 1) % 2 ^ 64) (AppendTells code (step slots 0 1 0 none)
       (view_of n true (pass_entries p mine ∷ []) seen earlier, []))
   appends code slots id n p mine seen earlier few s h len at small =
@@ -144,7 +145,7 @@ module _ (passes : ℕ) where
       ∙ ap length (sym same) in
       let longer : (length h.history + 1) % 2 ^ 64 ≡ length now = mod-eq_of_lt (omega (arith, few, ap length same))
       ∙ omega (arith, length-append h.history (entry p number ∷ [])) in
-      let fits : Fits passes h.keeper h.owner now id (appended code v) = record {
+      let fits : WorldViewFits passes h.keeper h.owner now id (appended code v) = record {
         named = inr (named-is passes v refl f.named);
         keeps = λ _. (seat, ap (λ l. l ++ entry p number ∷ []) same);
         held = λ x i. elim i [
@@ -161,7 +162,8 @@ module _ (passes : ℕ) where
             (prefix_self (seen ++ entry p number ∷ []));
         earlier = prefixes_push earlier seen (entry p number ∷ []) f.earlier;
       } in
-      let rest : (k : ℕ) (u : View) → k ≢ id → get_elem? s.views k ≡ some u → Fits passes h.keeper h.owner now k u =
+      let rest : (k : ℕ) (u : View) → k ≢ id → get_elem? s.views k ≡ some u
+      → WorldViewFits passes h.keeper h.owner now k u =
       λ k u apart e.
       let g = h.views k u e in
       record {
@@ -185,7 +187,7 @@ module _ (passes : ℕ) where
           history = now;
           word = ap (λ (ws : List ℕ). set ws 0 ((slice_index ws 0 + 1) % 2 ^ 64)) h.word
               ∙ ap (λ (k : ℕ). k ∷ []) longer;
-          views = fits_set (Fits passes h.keeper h.owner now) s.views id (appended code v) rest fits;
+          views = fits_set (WorldViewFits passes h.keeper h.owner now) s.views id (appended code v) rest fits;
           kept = there_set (λ x. x.keeps ≡ true) s.views id h.keeper v (appended code v) at (λ x. x) h.kept;
           owned = λ q less. there_set (Has q) s.views id (h.owner q) v (appended code v) at (λ x. x) (h.owned q less);
         },
@@ -193,7 +195,7 @@ module _ (passes : ℕ) where
       )
 
   pub looks : (slots id : ℕ) (me : Me (Unit {0}) View)
-      → Allows (Holds passes) slots id me 0 (λ n. n) (LookTells (step slots 0 0 0 none) me)
+      → Allows (HoldsHistory passes) slots id me 0 (λ n. n) (HistoryLookTells (step slots 0 0 0 none) me)
   looks slots id me s h len at small = (
     me.0,
     keeps,
@@ -212,7 +214,7 @@ module _ (passes : ℕ) where
 
   pub splits : (id n p : ℕ) (mine : List (ℕ × ℕ)) (hs : List PassEntries) (seen : List HistoryEntry)
       (earlier : List (List HistoryEntry))
-      → Splits (Holds passes) id (view_of n true (pass_entries p mine ∷ hs) seen earlier)
+      → Splits (HoldsHistory passes) id (view_of n true (pass_entries p mine ∷ hs) seen earlier)
       (left_view (view_of n true (pass_entries p mine ∷ hs) seen earlier))
       (right_view (view_of n true (pass_entries p mine ∷ hs) seen earlier))
   splits id n p mine hs seen earlier s h at =
@@ -226,7 +228,7 @@ module _ (passes : ℕ) where
       let own_is : (q : ℕ) → q ≡ p → owner q ≡ next =
       λ q e. ap (λ (b : Bool). cond b next (h.owner q)) (eq-eqb q p e) in
       let name : n ≡ passes = named-is passes v refl f.named in
-      let left : Fits passes h.keeper owner h.history id (left_view v) = record {
+      let left : WorldViewFits passes h.keeper owner h.history id (left_view v) = record {
         named = inr name;
         keeps = f.keeps;
         held = λ x i.
@@ -236,7 +238,7 @@ module _ (passes : ℕ) where
         seen = f.seen;
         earlier = tt;
       } in
-      let right : Fits passes h.keeper owner h.history next (right_view v) = record {
+      let right : WorldViewFits passes h.keeper owner h.history next (right_view v) = record {
         named = inr name;
         keeps = λ t. absurd (off t);
         held = λ x i. elim i [
@@ -247,7 +249,8 @@ module _ (passes : ℕ) where
         seen = f.seen;
         earlier = tt;
       } in
-      let rest : (k : ℕ) (u : View) → k ≢ id → get_elem? s.views k ≡ some u → Fits passes h.keeper owner h.history k u =
+      let rest : (k : ℕ) (u : View) → k ≢ id → get_elem? s.views k ≡ some u
+      → WorldViewFits passes h.keeper owner h.history k u =
       λ k u apart e.
       let g = h.views k u e in
       record {
@@ -273,11 +276,12 @@ module _ (passes : ℕ) where
         history = h.history;
         word = h.word;
         views = λ k u e. ⊎_elim
-            (λ (was : get_elem? most k ≡ some u). fits_set (Fits passes h.keeper owner h.history) s.views id
+            (λ (was : get_elem? most k ≡ some u). fits_set (WorldViewFits passes h.keeper owner h.history) s.views id
             (left_view v) rest left k u was)
             (λ (t : (k ≡ length most) × (right_view v ≡ u)).
             let there : next ≡ k = sym (length-set s.views id (left_view v)) ∙ sym t.0 in
-            subst (λ (y : ℕ × View). Fits passes h.keeper owner h.history y.0 y.1) (λ i. (there i, t.1 i)) right)
+            subst (λ (y : ℕ × View). WorldViewFits passes h.keeper owner h.history y.0 y.1)
+            (λ i. (there i, t.1 i)) right)
             (at_push most (right_view v) u k e);
         kept = longer (λ x. x.keeps ≡ true) h.keeper
             (there_set (λ x. x.keeps ≡ true) s.views id h.keeper v (left_view v) at (λ x. x) h.kept);
@@ -292,7 +296,7 @@ module _ (passes : ℕ) where
 
   pub joins : (id n : ℕ) (held : List PassEntries) (seen : List HistoryEntry) (earlier : List (List HistoryEntry))
       (other : ℕ) (w : View)
-      → Joins (Holds passes) id (view_of n true held seen earlier) other w
+      → Joins (HoldsHistory passes) id (view_of n true held seen earlier) other w
       (both_views (view_of n true held seen earlier) w) spent_view
   joins id n held seen earlier other w s h at apart at' =
       let v : View = view_of n true held seen earlier in
@@ -307,7 +311,7 @@ module _ (passes : ℕ) where
       λ q e. ap (λ (b : Bool). cond b id (h.owner q)) (eq-eqb (h.owner q) other e) in
       let stays : (q k : ℕ) → k ≢ other → h.owner q ≡ k → owner q ≡ k =
       λ q k ne e. ap (λ (b : Bool). cond b id (h.owner q)) (ne_eqb (h.owner q) other (λ t. ne (sym e ∙ t))) ∙ e in
-      let joined : Fits passes h.keeper owner h.history id both = record {
+      let joined : WorldViewFits passes h.keeper owner h.history id both = record {
         named = inr (named-is passes v refl f.named);
         keeps = f.keeps;
         held = λ x i. elim (In-cases x w.held held i) [
@@ -317,7 +321,7 @@ module _ (passes : ℕ) where
         seen = f.seen;
         earlier = (subst (IsPrefix w.seen) (sym (f.keeps refl).1) theirs.seen, f.earlier);
       } in
-      let spent : Fits passes h.keeper owner h.history other spent_view = record {
+      let spent : WorldViewFits passes h.keeper owner h.history other spent_view = record {
         named = inl refl;
         keeps = λ t. absurd (off t);
         held = λ x i. absurd i;
@@ -325,7 +329,7 @@ module _ (passes : ℕ) where
         earlier = tt;
       } in
       let old : (k : ℕ) (u : View) → k ≢ other → get_elem? s.views k ≡ some u
-      → Fits passes h.keeper owner h.history k u = λ k u ne e.
+      → WorldViewFits passes h.keeper owner h.history k u = λ k u ne e.
       let g = h.views k u e in
       record {
         named = g.named;
@@ -342,9 +346,10 @@ module _ (passes : ℕ) where
         owner = owner;
         history = h.history;
         word = h.word;
-        views = fits_set (Fits passes h.keeper owner h.history) most other spent_view
+        views = fits_set (WorldViewFits passes h.keeper owner h.history) most other spent_view
             (λ k u ne e. ⊎_elim
-            (λ (t : (k ≡ id) × (both ≡ u)). subst (λ (y : ℕ × View). Fits passes h.keeper owner h.history y.0 y.1)
+            (λ (t : (k ≡ id) × (both ≡ u)). subst
+            (λ (y : ℕ × View). WorldViewFits passes h.keeper owner h.history y.0 y.1)
             (λ i. (sym t.0 i, t.1 i)) joined)
             (λ (t : (k ≢ id) × (get_elem? s.views k ≡ some u)). old k u ne t.1)
             (at_set s.views id k both u e))
@@ -376,25 +381,25 @@ joined_is n k o p mine h old e f = λ i. (both_views (e i).0 (f i).0, (e i).1)
 -- the steps, at a view that is known
 pub joins_as : (passes id : ℕ) (me : Me (Unit {0}) View) (other : ℕ) (w : View) (n : ℕ) (held : List PassEntries)
     (seen : List HistoryEntry) (earlier : List (List HistoryEntry)) → me ≡ (view_of n true held seen earlier, [])
-    → Joins (Holds passes) id me.0 other w (both_views me.0 w) spent_view
+    → Joins (HoldsHistory passes) id me.0 other w (both_views me.0 w) spent_view
 joins_as passes id me other w n held seen earlier e =
-    subst (λ (m : Me (Unit {0}) View). Joins (Holds passes) id m.0 other w (both_views m.0 w) spent_view) (sym e)
+    subst (λ (m : Me (Unit {0}) View). Joins (HoldsHistory passes) id m.0 other w (both_views m.0 w) spent_view) (sym e)
     (joins passes id n held seen earlier other w)
 
 pub splits_as : (passes id : ℕ) (me : Me (Unit {0}) View) (n p : ℕ) (mine : List (ℕ × ℕ)) (hs : List PassEntries)
     (seen : List HistoryEntry) (earlier : List (List HistoryEntry))
     → me ≡ (view_of n true (pass_entries p mine ∷ hs) seen earlier, [])
-    → Splits (Holds passes) id me.0 (left_view me.0) (right_view me.0)
+    → Splits (HoldsHistory passes) id me.0 (left_view me.0) (right_view me.0)
 splits_as passes id me n p mine hs seen earlier e =
-    subst (λ (m : Me (Unit {0}) View). Splits (Holds passes) id m.0 (left_view m.0) (right_view m.0)) (sym e)
+    subst (λ (m : Me (Unit {0}) View). Splits (HoldsHistory passes) id m.0 (left_view m.0) (right_view m.0)) (sym e)
     (splits passes id n p mine hs seen earlier)
 
 pub appends_as : {me : Me (Unit {0}) View} (passes : ℕ) (code : Code) (slots id n p : ℕ) (mine : List (ℕ × ℕ))
     (seen : List HistoryEntry) (earlier : List (List HistoryEntry)) → length seen < most_entries
     → me ≡ (view_of n true (pass_entries p mine ∷ []) seen earlier, [])
-    → Allows (Holds passes) slots id me 0 (λ n. (n + 1) % 2 ^ 64) (AppendTells code (step slots 0 1 0 none) me)
+    → Allows (HoldsHistory passes) slots id me 0 (λ n. (n + 1) % 2 ^ 64) (AppendTells code (step slots 0 1 0 none) me)
 appends_as {me} passes code slots id n p mine seen earlier few e =
-    subst (λ (m : Me (Unit {0}) View). Allows (Holds passes) slots id m 0 (λ n. (n + 1) % 2 ^ 64)
+    subst (λ (m : Me (Unit {0}) View). Allows (HoldsHistory passes) slots id m 0 (λ n. (n + 1) % 2 ^ 64)
     (AppendTells code (step slots 0 1 0 none) m)) (sym e) (appends passes code slots id n p mine seen earlier few)
 
 -- what others had seen is a prefix of what the keeper has seen

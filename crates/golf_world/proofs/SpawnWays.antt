@@ -1,5 +1,5 @@
 -- The ways in which a turn goes start one goroutine at most.
--- For: `Few`, specs/Spawning.antt; `goes`, `blocks`, golf_model/specs/Acting.antt
+-- For: `Few`, specs/StartedGoroutines.antt; `goes`, `blocks`, golf_model/specs/Actors.antt
 -- By: cases of what a way meets; induction over n, the operands that are taken
 use Rattle.std.proofs.Common.{◌≡◌, ℕ, zero, suc, Bool, true, false, List, [], ◌∷◌, Option, Some, None, refl, ℤ}
 use Rattle.golf_data.specs.declared.value.Value.{Value}
@@ -11,11 +11,11 @@ use Rattle.golf_data.specs.declared.goroutine.WaitKind.{WaitKind}
 use Rattle.golf_model.specs.Views.{FrameView}
 use Rattle.golf_model.specs.Values.{int_of}
 use Rattle.golf_model.specs.Changes.{Change}
-use Rattle.golf_model.specs.Acting.{Actor, goes, jumps, leaves, panics, dies, blocks, on_some, taking_one, taking_two}
-use Rattle.golf_model.specs.Acting.{taking_three, taking_from, taking, choose, at_reference, at_reference_or, at_struct}
-use Rattle.golf_model.specs.Acting.{at_slice, at_channel, at_mutex, at_group, at_rw, at_condition}
-use Rattle.golf_model.specs.Calculating.{two_ints}
-use Rattle.golf_world.specs.Spawning.{Few}
+use Rattle.golf_model.specs.Actors.{Actor, goes, jumps, leaves, panics, dies, blocks, on_some, taking_one, taking_two}
+use Rattle.golf_model.specs.Actors.{taking_three, taking_from, taking, choose, at_reference, at_reference_or, at_struct}
+use Rattle.golf_model.specs.Actors.{at_slice, at_channel, at_mutex, at_group, at_rw, at_condition}
+use Rattle.golf_model.specs.Arithmetic.{two_ints}
+use Rattle.golf_world.specs.StartedGoroutines.{Few}
 
 -- if each outcome starts one at most, a choice of them does
 pub on-some : {X : Type 0} (act : X → List Change) (m : Option X) → ((x : X) → Few (act x)) → Few (on_some act m)

@@ -1,5 +1,5 @@
 -- Each instruction, and each turn, starts one goroutine at most.
--- For: `take_turn`, src/execution.rt; `Few`, `Quiet`, specs/Spawning.antt
+-- For: `take_turn`, src/execution.rt; `Few`, `Quiet`, specs/StartedGoroutines.antt
 -- By: cases of the instruction; induction over the list of changes, and over the list of goroutines
 use Rattle.std.proofs.Common.{◌≡◌, ℕ, suc, ◌+◌, ◌≤◌, ◌/◌, not, arith, length-append, Bool, true, false, cond, List, []}
 use Rattle.std.proofs.Common.{◌∷◌, ◌++◌, length, Option, Some, None, refl, ap, ℤ, slice_get, ◌==◌, nat_lt}
@@ -24,32 +24,32 @@ use Rattle.golf_data.specs.declared.goroutine.Mode.{Mode}
 use Rattle.golf_model.specs.Views.{FrameView, GoroutineView}
 use Rattle.golf_model.specs.Values.{reference, int_of, bool_of, text_of, equality, is_zero, is_minus_one, line_bytes}
 use Rattle.golf_model.specs.State.{State, can_run, runnable, call_frame}
-use Rattle.golf_model.specs.Waiting.{Waiter, waiter_ticket, first, waiters, bare_wait, send_wait, receive_wait}
-use Rattle.golf_model.specs.Changes.{Change, apply, apply_all, moved, pass_on_by, pass_on}
-use Rattle.golf_model.specs.Waking.{released, woken_by}
-use Rattle.golf_model.specs.Collecting.{removed, real_collect}
-use Rattle.golf_model.specs.Acting.{Actor, with_frames, next, choose, at_reference, at_mutex}
-use Rattle.golf_model.specs.Calculating.{stores, stores_global, computes, divides, compares, jumps_unless, sum}
-use Rattle.golf_model.specs.Calculating.{difference, product, quotient, remainder}
+use Rattle.golf_model.specs.Waiters.{Waiter, waiter_ticket, first, waiters, bare_wait, send_wait, receive_wait}
+use Rattle.golf_model.specs.Changes.{Change, apply, apply_all, moved, requeue_by, requeue}
+use Rattle.golf_model.specs.Wakes.{released, woken_by}
+use Rattle.golf_model.specs.Collections.{removed, real_collect}
+use Rattle.golf_model.specs.Actors.{Actor, with_frames, next, choose, at_reference, at_mutex}
+use Rattle.golf_model.specs.Arithmetic.{stores, stores_global, computes, divides, compares, jumps_unless, sum}
+use Rattle.golf_model.specs.Arithmetic.{difference, product, quotient, remainder}
 use Rattle.golf_model.specs.Structures.{gets_field, sets_field, is_bad_size, makes_slice, makes_channel, within}
 use Rattle.golf_model.specs.Structures.{element, gets_element, sets_element, length_of, measures}
 use Rattle.golf_model.specs.Channels.{sends_to, sends_on, sends, sender_served, receives_unbuffered, receives_from}
 use Rattle.golf_model.specs.Channels.{receives_on, receives, closes}
-use Rattle.golf_model.specs.Selecting.{Offer, Taken, offers_of, all_on_channels, ready, proceeds_by, offered_waits}
-use Rattle.golf_model.specs.Selecting.{select_kind, selects_none, selects_one, chosen, selects_from}
+use Rattle.golf_model.specs.Selects.{Offer, Taken, offers_of, all_on_channels, ready, proceeds_by, offered_waits}
+use Rattle.golf_model.specs.Selects.{select_kind, selects_none, selects_one, chosen, selects_from}
 use Rattle.golf_model.specs.Mutexes.{blocks_on, locks_by, locks, hands_over, unlocks_by, unlocks, counts, adds, waits}
 use Rattle.golf_model.specs.ReadersWriters.{serves_first, serves, write_locks, write_unlocks, most_readers, read_locks}
 use Rattle.golf_model.specs.ReadersWriters.{read_leaves, read_unlocks}
-use Rattle.golf_model.specs.Conditions.{makes_condition, gets_mutex, awaits_by, awaits, passes_on, first_only, notifies}
+use Rattle.golf_model.specs.Conditions.{makes_condition, gets_mutex, awaits_by, awaits, requeues, first_only, notifies}
 use Rattle.golf_model.specs.Conditions.{signals, broadcasts}
 use Rattle.golf_model.specs.Calls.{is_full, enters, calls, spawns, ends, returns_to, unwinds_to, returns_by}
 use Rattle.golf_model.specs.Calls.{begins_deferred, leaves_returning, leaves_unwinding}
-use Rattle.golf_model.specs.Finalising.{finalises_by, finalises, unfinalises, begins_queued}
-use Rattle.golf_model.specs.Clearing.{clears_in, clears, clearing}
+use Rattle.golf_model.specs.Finalisers.{finalises_by, finalises, unfinalises, begins_queued}
+use Rattle.golf_model.specs.ClearedSlots.{clears_in, clears, clearing}
 use Rattle.golf_model.specs.Turn.{turned, changes, line_at, return_line, acting, performs, frame_changes}
 use Rattle.golf_model.specs.Turn.{goroutine_changes, turn_of, turn_changes, whose_turn, clears_nothing, cleared_after}
 use Rattle.golf_model.specs.Turn.{step}
-use Rattle.golf_world.specs.Spawning.{starts_one, Quiet_by, Quiet, Few_by, Few}
+use Rattle.golf_world.specs.StartedGoroutines.{starts_one, Quiet_by, Quiet, Few_by, Few}
 use Rattle.golf_world.proofs.SpawnWays.{on-some, on-choice, on-one, on-two, on-three, on-operands, on-ints}
 use Rattle.golf_world.proofs.SpawnWays.{on-reference_or, on-struct, on-slice, on-channel, on-mutex, on-group, on-rw}
 use Rattle.golf_world.proofs.SpawnWays.{on-condition, few-goes, few-jumps, few-leaves, few-panics, few-dies, few-blocks}
@@ -292,14 +292,14 @@ module _ (code : Code) (a : Actor) (s : State) where
   few-awaits = on-one _ ops (λ c rest. on-reference a _ c
       (λ o. on-condition _ (find o s.objects) (λ m e. few-awaits_on rest o m e)))
 
-  few-passes_on : (m : ℕ) (ws : List Waiter) → Few (passes_on m ws)
-  few-passes_on m [] = tt
-  few-passes_on m (w ∷ ws) = few-passes_on m ws
+  few-requeues : (m : ℕ) (ws : List Waiter) → Few (requeues m ws)
+  few-requeues m [] = tt
+  few-requeues m (w ∷ ws) = few-requeues m ws
 
   few-notifies : (rest : List Value) (ws : List Waiter) (m : Value) → Few (notifies a rest s ws m)
   few-notifies rest [] m = tt
   few-notifies rest (w ∷ ws) m = on-reference_or [] _ m tt
-      (λ p. on-mutex _ (find p s.objects) (λ locked e. few-passes_on p (w ∷ ws)))
+      (λ p. on-mutex _ (find p s.objects) (λ locked e. few-requeues p (w ∷ ws)))
 
   few-signals : Few (signals a s)
   few-signals = on-one _ ops (λ c rest. on-reference a _ c
@@ -500,22 +500,22 @@ length-values : {X Y : Type 0} (f : ℕ → X → Y) (es : List (ℕ × X)) → 
 length-values f [] = refl
 length-values f (e ∷ es) = ap suc (length-values f es)
 
-pass_on-by : (b : Bool) (g m : ℕ) (r : GoroutineView) (s : State)
-    → length (pass_on_by b g m r s).goroutines ≤ length s.goroutines
-pass_on-by false g m r s = omega (arith, length-put g (released r) s.goroutines)
-pass_on-by true g m r s = omega (arith, length-put g (record r { mode = moved m s.next_ticket r.mode }) s.goroutines)
+requeue-by : (b : Bool) (g m : ℕ) (r : GoroutineView) (s : State)
+    → length (requeue_by b g m r s).goroutines ≤ length s.goroutines
+requeue-by false g m r s = omega (arith, length-put g (released r) s.goroutines)
+requeue-by true g m r s = omega (arith, length-put g (record r { mode = moved m s.next_ticket r.mode }) s.goroutines)
 
-pass_on-at : (g m : ℕ) (o : Option GoroutineView) (x : Option Object) (s : State)
-    → length (pass_on g m o x s).goroutines ≤ length s.goroutines
-pass_on-at g m (Some r) (Some (Object.Mutex locked)) s = pass_on-by locked g m r s
-pass_on-at g m None x s = omega arith
-pass_on-at g m (Some r) None s = omega arith
-pass_on-at g m (Some r) (Some (Object.Struct fields)) s = omega arith
-pass_on-at g m (Some r) (Some (Object.Slice elements)) s = omega arith
-pass_on-at g m (Some r) (Some (Object.Chan c)) s = omega arith
-pass_on-at g m (Some r) (Some (Object.Group n)) s = omega arith
-pass_on-at g m (Some r) (Some (Object.Rw n)) s = omega arith
-pass_on-at g m (Some r) (Some (Object.Cond v)) s = omega arith
+requeue-at : (g m : ℕ) (o : Option GoroutineView) (x : Option Object) (s : State)
+    → length (requeue g m o x s).goroutines ≤ length s.goroutines
+requeue-at g m (Some r) (Some (Object.Mutex locked)) s = requeue-by locked g m r s
+requeue-at g m None x s = omega arith
+requeue-at g m (Some r) None s = omega arith
+requeue-at g m (Some r) (Some (Object.Struct fields)) s = omega arith
+requeue-at g m (Some r) (Some (Object.Slice elements)) s = omega arith
+requeue-at g m (Some r) (Some (Object.Chan c)) s = omega arith
+requeue-at g m (Some r) (Some (Object.Group n)) s = omega arith
+requeue-at g m (Some r) (Some (Object.Rw n)) s = omega arith
+requeue-at g m (Some r) (Some (Object.Cond v)) s = omega arith
 
 abbrev size : State → ℕ
 size s = length s.goroutines
@@ -527,7 +527,7 @@ steady (Change.Block g kind line waits r) s h =
     omega (arith, length-put g (record r { mode = Mode.Blocked kind line waits s.next_ticket }) s.goroutines)
 steady (Change.Leave g) s h = length-only (λ h. not (h == g)) s.goroutines
 steady (Change.WakeAll o how) s h = omega (arith, length-values (λ (g : ℕ). woken_by how o) s.goroutines)
-steady (Change.PassOn g m) s h = pass_on-at g m (find g s.goroutines) (find m s.objects) s
+steady (Change.Requeue g m) s h = requeue-at g m (find g s.goroutines) (find m s.objects) s
 steady _ s h = omega arith
 
 grown : (c : Change) (s : State) → starts_one c ≡ true → size (apply c s) ≤ size s + 1

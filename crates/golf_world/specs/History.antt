@@ -6,9 +6,9 @@ use Rattle.golf_data.specs.Places.{HasPlaces}
 use Rattle.golf_data.specs.declared.report.Book.{Book}
 use Rattle.golf_data.specs.declared.report.Report.{Report}
 use Rattle.golf_model.specs.State.{State, start, runnable, ending}
-use Rattle.golf_model.specs.Collecting.{sets_finalisers, real_collect}
-use Rattle.golf_model.specs.Running.{Event, stops_by}
-use Rattle.golf_model.specs.Reporting.{real_run, real_reports, new_book, book_after}
+use Rattle.golf_model.specs.Collections.{sets_finalisers, real_collect}
+use Rattle.golf_model.specs.Runs.{Event, stops_by}
+use Rattle.golf_model.specs.Reports.{real_run, real_reports, new_book, book_after}
 use Rattle.golf_model.specs.Futures.{Leads}
 use Rattle.golf_world.specs.declared.history.HistoryEntry.{HistoryEntry}
 

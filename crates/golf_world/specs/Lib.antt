@@ -3,5 +3,5 @@ pub mod Names
 pub mod Rule
 pub mod Runs
 pub mod Seats
-pub mod Spawning
+pub mod StartedGoroutines
 pub mod Steps

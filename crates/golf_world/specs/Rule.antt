@@ -50,7 +50,8 @@ first_view passes = view_of passes true (idle_passes 0 passes) [] []
 -- A view is spent, or it names the number of passes. The keeper's view has seen the whole history. A pass in a view is
 -- one of the world's, is in this view, and has exactly its entries. A view has seen a prefix of the history, and its
 -- `earlier` ones are prefixes of that.
-pub record Fits (passes keeper : ℕ) (owner : ℕ → ℕ) (history : List HistoryEntry) (seat : ℕ) (v : View) : Type 0 where
+pub record WorldViewFits (passes keeper : ℕ) (owner : ℕ → ℕ) (history : List HistoryEntry) (seat : ℕ)
+    (v : View) : Type 0 where
   pub named : (v ≡ spent_view) ⊎ (v.passes ≡ passes)
   pub keeps : v.keeps ≡ true → (seat ≡ keeper) × (v.seen ≡ history)
   pub held : (h : PassEntries) → In h v.held → (h.pass < passes) × (owner h.pass ≡ seat) × (h.mine ≡ own h.pass history)
@@ -71,12 +72,12 @@ abbrev pub HoldsAt : List View → ℕ → ℕ → Type 0
 HoldsAt views p seat = (v : View) × (get_elem? views seat ≡ some v) × HoldsPass p v.held
 
 -- the word is the length of the history; the keeper, and each pass, is in exactly one view
-pub record Holds (passes : ℕ) (s : State (Unit {0}) View) : Type 0 where
+pub record HoldsHistory (passes : ℕ) (s : State (Unit {0}) View) : Type 0 where
   pub keeper : ℕ
   pub owner : ℕ → ℕ
   pub history : List HistoryEntry
   pub word : s.words ≡ length history ∷ []
-  pub views : (seat : ℕ) (v : View) → get_elem? s.views seat ≡ some v → Fits passes keeper owner history seat v
+  pub views : (seat : ℕ) (v : View) → get_elem? s.views seat ≡ some v → WorldViewFits passes keeper owner history seat v
   pub kept : KeepsAt s.views keeper
   pub owned : (p : ℕ) → p < passes → HoldsAt s.views p (owner p)
 
@@ -95,8 +96,8 @@ abbrev pub AppendTells : Code → Step (Unit {0}) → Me (Unit {0}) View → ℕ
 AppendTells code step me n now = (now ≡ (appended code me.0, me.1)) × (n ≡ length me.0.seen)
     × Every (λ o. IsPrefix o me.0.seen) me.0.earlier
 
-abbrev pub LookTells : Step (Unit {0}) → Me (Unit {0}) View → ℕ → Me (Unit {0}) View → Type 0
-LookTells step me n now = (now ≡ me) × Every (λ o. IsPrefix o me.0.seen) me.0.earlier
+abbrev pub HistoryLookTells : Step (Unit {0}) → Me (Unit {0}) View → ℕ → Me (Unit {0}) View → Type 0
+HistoryLookTells step me n now = (now ≡ me) × Every (λ o. IsPrefix o me.0.seen) me.0.earlier
 
 -- a split gives the first pass away
 abbrev pub others : List PassEntries → List PassEntries

@@ -2,9 +2,9 @@
 use Rattle.std.specs.Prelude.{◌≡◌, ℕ, ◌≤◌, false, length, None}
 use Rattle.golf_data.specs.declared.code.Code.{Code}
 use Rattle.golf_model.specs.State.{State, start, ending}
-use Rattle.golf_model.specs.Reporting.{real_run, real_reports, book_of}
-use Rattle.golf_model.specs.Running.{run, stops}
-use Rattle.golf_model.specs.Collecting.{sets_finalisers}
+use Rattle.golf_model.specs.Reports.{real_run, real_reports, book_of}
+use Rattle.golf_model.specs.Runs.{run, stops}
+use Rattle.golf_model.specs.Collections.{sets_finalisers}
 use Rattle.golf_world.specs.declared.history.History.{History}
 use Rattle.golf_world.specs.History.{most_entries, turns, IsHistory}
 

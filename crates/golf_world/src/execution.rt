@@ -6,11 +6,11 @@ ghost use Rattle.std.specs.Prelude.{◌≡◌, ◌+◌, ◌<◌, ◌≤◌, ◌+
 ghost use Rattle.golf_data.specs.Places.{HasPlaces};
 ghost use Rattle.golf_model.specs.State.{ending as ending_of, runnable, start as start_of};
 ghost use Rattle.golf_world.specs.History.{most_entries, number_at};
-ghost use Rattle.golf_world.specs.Steps.{Does};
+ghost use Rattle.golf_world.specs.Steps.{DoesTurn};
 
 use crate::history::{History, HistoryEntry, MOST_ENTRIES, Stepped};
 use crate::rule::WorldName;
-use crate::turning::turn_and_collect;
+use crate::turn_with_collection::turn_and_collect;
 use golf_base::{Memory, Room};
 use golf_data::{Code, Report};
 use golf_reclaim::Ledger;
@@ -97,7 +97,7 @@ impl<W: WorldName> Execution<W> {
     ) -> Result<Stepped, Memory>
         requires code { code.now ≡ W.code }
         requires pass { pass < W.passes }
-        ensures ok { IfOk result (λ s. Does W.code pass s self.old self.new) }
+        ensures ok { IfOk result (λ s. DoesTurn W.code pass s self.old self.new) }
         ensures unchanged { OnErr result (self.new ≡ self.old) }
         ensures goes { OnErr result (ending_of (after W.code self.old) ≡ None) }
         ensures few { OnErr result (length self.old < most_entries) }

@@ -5,7 +5,7 @@
 ghost use Rattle.std.specs.Prelude.{◌≡◌, ◌<◌, [], IfOk, OnErr};
 ghost use mathlib.Core.List.{IsPrefix};
 ghost use Rattle.golf_world.specs.Rule.{keeper_view};
-ghost use Rattle.golf_world.specs.Steps.{HasStepped, HasFailed};
+ghost use Rattle.golf_world.specs.Steps.{HasStepped, HasDoneNothing};
 
 use crate::execution::Execution;
 use crate::history::Stepped;
@@ -62,7 +62,7 @@ impl<W: WorldName> Guarded<W> {
         ensures number { pass.new.number ≡ pass.old.number }
         ensures later { IsPrefix pass.old.seen pass.new.seen }
         ensures ok { IfOk result (λ s. HasStepped W.code s pass.old pass.new) }
-        ensures err { OnErr result (HasFailed W.code pass.old pass.new) }
+        ensures err { OnErr result (HasDoneNothing W.code pass.old pass.new) }
         ensures all { pass.new.seen ≡ self.new }
         ensures unchanged { OnErr result (self.new ≡ self.old) }
     {

@@ -12,7 +12,7 @@ mod passes;
 mod rule;
 mod seats;
 mod table;
-mod turning;
+mod turn_with_collection;
 mod workers;
 mod world;
 

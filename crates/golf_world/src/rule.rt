@@ -54,9 +54,9 @@ pub struct View {
 pub struct WorldRule;
 
 impl TableRule<(), View, u32> for WorldRule {
-    ghost use Rattle.golf_world.specs.Rule.{Holds, first_view};
+    ghost use Rattle.golf_world.specs.Rule.{HoldsHistory, first_view};
 
-    ghost holds = { Holds };
+    ghost holds = { HoldsHistory };
 
     ghost first = { first_view };
 }
@@ -76,9 +76,9 @@ impl<W: WorldName> Play<(), View> for Append<W> {
 pub struct Look;
 
 impl Play<(), View> for Look {
-    ghost use Rattle.golf_world.specs.Rule.{LookTells};
+    ghost use Rattle.golf_world.specs.Rule.{HistoryLookTells};
 
-    ghost then = { LookTells };
+    ghost then = { HistoryLookTells };
 }
 
 /// Splits and joins of passes.

@@ -9,7 +9,7 @@ ghost use Rattle.golf_data.specs.Places.{HasPlaces};
 ghost use Rattle.golf_model.specs.State.{start as start_of};
 ghost use Rattle.golf_world.specs.History.{after, most_entries, reports_after, IsHistory};
 ghost use Rattle.golf_world.specs.Names.{table_name, pass_count};
-ghost use Rattle.golf_world.specs.Steps.{Pass, HasStepped, HasFailed, ComesExactly, IsNewPass, IsPassIn};
+ghost use Rattle.golf_world.specs.Steps.{Pass, HasStepped, HasDoneNothing, ComesExactly, IsNewPass, IsPassIn};
 
 use crate::execution::Execution;
 use crate::guarded::Guarded;
@@ -85,7 +85,7 @@ impl<'a, W: WorldName> World<'a, W> {
         ensures number { pass.new.number ≡ pass.old.number }
         ensures later { IsPrefix pass.old.seen pass.new.seen }
         ensures ok { IfOk result (λ s. HasStepped W.code s pass.old pass.new) }
-        ensures err { OnErr result (HasFailed W.code pass.old pass.new) }
+        ensures err { OnErr result (HasDoneNothing W.code pass.old pass.new) }
         ensures exactly { ComesExactly W.code result pass.old pass.new }
     {
         let mut guarded = self.lock.lock(rt);

@@ -1,7 +1,7 @@
 """Headless Chromium, driven over its debugging pipe.
 
-The browser reads JSON from file descriptor 3 and writes JSON to 4, with a zero byte after each message. So nothing but the
-standard library is needed.
+The browser reads JSON from file descriptor 3 and writes JSON to 4, with a zero byte after each message. So nothing
+but the standard library is needed.
 """
 
 import base64
@@ -15,7 +15,8 @@ import tempfile
 import time
 
 NAMES = ("chromium", "chromium-browser", "google-chrome")
-KEY_CODES = {"ArrowLeft": 37, "ArrowRight": 39, "Home": 36, "End": 35, "Tab": 9, "Enter": 13, " ": 32, "n": 78, "p": 80, "z": 90}
+KEY_CODES = {"ArrowLeft": 37, "ArrowRight": 39, "Home": 36, "End": 35, "Tab": 9, "Enter": 13, " ": 32, "n": 78,
+             "p": 80, "z": 90}
 SECONDS = 120
 
 
@@ -113,7 +114,8 @@ class Browser:
     def press(self, key, shift=False):
         event = {"key": key, "windowsVirtualKeyCode": KEY_CODES[key], "modifiers": 8 if shift else 0}
         text = {"Enter": "\r", " ": " "}.get(key)
-        self.call("Input.dispatchKeyEvent", {"type": "keyDown" if text else "rawKeyDown", **event, **({"text": text} if text else {})})
+        self.call("Input.dispatchKeyEvent",
+                  {"type": "keyDown" if text else "rawKeyDown", **event, **({"text": text} if text else {})})
         self.call("Input.dispatchKeyEvent", {"type": "keyUp", **event})
 
     def faults(self):
@@ -135,7 +137,8 @@ class Browser:
         """Writes a picture of the whole page, or of its upper part."""
         size = self.value("[innerWidth, Math.max(document.body.scrollHeight, document.documentElement.scrollHeight)]")
         clip = {"x": 0, "y": 0, "width": size[0], "height": height or min(size[1], 6000), "scale": 1}
-        data = self.call("Page.captureScreenshot", {"format": "png", "captureBeyondViewport": True, "clip": clip})["data"]
+        data = self.call("Page.captureScreenshot",
+                         {"format": "png", "captureBeyondViewport": True, "clip": clip})["data"]
         with open(path, "wb") as file:
             file.write(base64.b64decode(data))
 

@@ -12,13 +12,12 @@ import sys
 import tempfile
 import unittest
 
-sys.dont_write_bytecode = True
 HERE = os.path.dirname(os.path.abspath(__file__))
 sys.path.insert(0, HERE)
 
 from browser import Browser, browser_program
-from page_test import EXAMPLES, EXPLORE, FILES, LEAK_CYCLE, MANY_GOROUTINES, MANY_TURNS, assert_same, example, many_functions
-from page_test import page_of, ran, sample, turn_lines
+from page_test import EXAMPLES, EXPLORE, FILES, LEAK_CYCLE, MANY_GOROUTINES, MANY_TURNS
+from page_test import assert_same, example, many_functions, page_of, ran, sample, turn_lines
 
 HOSTILE = """package main
 
@@ -38,9 +37,9 @@ func main() {
 	fmt.Println("collection 9: marked 1, reported 1, kept 1, reclaimed 0, objects 1")
 	fmt.Println("turn 3: goroutine 7 at line 1, starts goroutine 8")
 	runtime.GC()
-	panic("</script>\\ncollection 2: marked 0, reported 1, kept 1, reclaimed 0, objects 1\\ngoroutine 7: chan receive at line 3, started at line 4")
+	panic("</script>\\ncollection 2: marked 0, reported 1, kept 1, reclaimed 0, objects 1\\n%s")
 }
-"""
+""" % "goroutine 7: chan receive at line 3, started at line 4"
 REFUSED = """package main
 
 func count(c chan<- int) {
@@ -117,8 +116,8 @@ class InBrowser(unittest.TestCase):
 
     def mark(self, row):
         """Returns the classes and the chips of a row."""
-        return self.value(f"(row => row.className + ': ' + [...row.querySelectorAll('.chip')].map(chip => chip.textContent).join(' '))"
-                          f"(document.getElementById('L{row}'))")
+        chips = "[...row.querySelectorAll('.chip')].map(chip => chip.textContent).join(' ')"
+        return self.value(f"(row => row.className + ': ' + {chips})(document.getElementById('L{row}'))")
 
     def reasons(self):
         return self.value("[...document.querySelectorAll('#reasons li')].map(item => item.textContent)")
@@ -150,7 +149,8 @@ class EachFile(InBrowser):
         for path in EXAMPLES + [sample("chains"), sample("ends")]:
             with self.subTest(os.path.basename(path)):
                 self.open(path)
-                found = self.value("Array.from({length: last + 1}, (_, moment) => goroutines.filter(each => each.number).map(each => "
+                found = self.value("Array.from({length: last + 1}, (_, moment) => "
+                                   "goroutines.filter(each => each.number).map(each => "
                                    "stateOf(each, moment).name.replace('dead', 'blocked')))")
                 assert_same(self, found, states_of(turn_lines(path)))
 
@@ -158,15 +158,17 @@ class EachFile(InBrowser):
         for path in EXAMPLES:
             with self.subTest(os.path.basename(path)):
                 self.open(path)
-                found = self.value(r"Array.from({length: last}, (_, at) => whatHappened(at + 1).match(/^G\d+ runs line \d+/)[0])")
+                found = self.value("Array.from({length: last}, (_, at) => "
+                                   r"whatHappened(at + 1).match(/^G\d+ runs line \d+/)[0])")
                 wanted = [f"G{line.split()[3]} runs line {line.split()[6].strip(',')}" for line in turn_lines(path)]
                 assert_same(self, found, wanted)
 
 
 def states_of(lines):
-    """Returns the names of the states of all goroutines but 0 at each moment, by the lines of a trace without their reports. A
-    dead goroutine is blocked."""
-    numbers = sorted({1} | {int(line.split("starts goroutine ")[1].split(",")[0]) for line in lines if "starts" in line})
+    """Returns the names of the states of all goroutines but 0 at each moment, by the lines of a trace without their
+    reports. A dead goroutine is blocked."""
+    numbers = sorted({1} | {int(line.split("starts goroutine ")[1].split(",")[0]) for line in lines
+                            if "starts" in line})
     states = {number: "free" if number == 1 else "absent" for number in numbers}
     moments = [[states[number] for number in numbers]]
     for line in lines:
@@ -180,7 +182,8 @@ def states_of(lines):
         woken = line.split(", wakes ")[1] if ", wakes " in line else ""
         for each in woken.replace("goroutine ", "").split(", ") if woken else []:
             states[int(each)] = "free"
-        moments.append([("runs" if number == runner and states[number] == "free" else states[number]) for number in numbers])
+        moments.append([("runs" if number == runner and states[number] == "free" else states[number])
+                        for number in numbers])
     return moments
 
 
@@ -194,9 +197,11 @@ class ByHand(InBrowser):
         self.shows("turn 13 of 15: G1 runs line 14; 1 dead; collection 1.", self.now())
         self.assertEqual([self.lane(1), self.lane(2)], ["runs line 14", "dead at line 5"])
         self.assertEqual([self.mark(5), self.mark(14)], ["hit dead: G2", "runs: G1 runs"])
-        self.assertEqual(self.reasons(), ["G2chan receive at line 5: nothing live reaches what it waits on. Started at line 9. "
-                                          "Dead since turn 10; reported by collection 1 after turn 13."])
-        self.assertEqual(self.graph(), ["nothing live reaches this", "ROOTS", "a channel", "G2 recv", "chan receive, line 5"])
+        self.assertEqual(self.reasons(),
+                         ["G2chan receive at line 5: nothing live reaches what it waits on. Started at line 9. "
+                          "Dead since turn 10; reported by collection 1 after turn 13."])
+        self.assertEqual(self.graph(),
+                         ["nothing live reaches this", "ROOTS", "a channel", "G2 recv", "chan receive, line 5"])
         self.assertEqual(self.text("#output li"), "121G1")
         self.assertEqual(self.text("#report li:nth-child(2)"), "goroutine 2: chan receive at line 5, started at line 9")
         self.shows("Status 1. The run returned, and a goroutine was reported.", self.text("#h-report"))
@@ -233,8 +238,9 @@ class ByHand(InBrowser):
         self.shows("At turn 325, when it was live, it waited on channel 1.", self.reasons()[0])
         self.at(200)
         self.assertEqual([self.lane(1), self.lane(2)], ["chan receive, line 34", "chan receive, line 17"])
-        self.assertEqual(self.reasons(), ["Live, since a root reaches what they wait on:", "G1chan receive at line 34rootchannel 2G1",
-                                          "G2chan receive at line 17rootchannel 1G2"])
+        self.assertEqual(self.reasons(),
+                         ["Live, since a root reaches what they wait on:", "G1chan receive at line 34rootchannel 2G1",
+                          "G2chan receive at line 17rootchannel 1G2"])
         self.assertEqual(self.mark(17), "hit: G2")
         self.shows("sum 385", self.text("#output"))
         self.assertEqual(self.value("document.querySelector('#output li').className"), "later")
@@ -243,7 +249,8 @@ class ByHand(InBrowser):
         self.open(example("select"))
         self.assertEqual(self.mark(15), "hit dead: G2 G3")
         self.shows("nothing live reaches what it waits on. Started at line 26", self.reasons()[0])
-        self.assertEqual(self.reasons()[1:], ["Live, since a root reaches what they wait on:", "G2select at line 15rootchannel 1G2"])
+        self.assertEqual(self.reasons()[1:],
+                         ["Live, since a root reaches what they wait on:", "G2select at line 15rootchannel 1G2"])
         self.browser.press("End")
         self.assertEqual([self.lane(2), self.lane(3)], ["ended", "dead at line 15"])
 
@@ -283,13 +290,16 @@ class ByHand(InBrowser):
         self.open(example("leak"), "--recover")
         self.browser.press("End")
         self.assertEqual(self.lane(2), "taken back")
-        self.assertEqual(self.reasons(), ["G2Taken back by collection 1 after turn 13. Dead before in chan receive at line 5, started at line 9."])
+        self.assertEqual(self.reasons(),
+                         ["G2Taken back by collection 1 after turn 13. "
+                          "Dead before in chan receive at line 5, started at line 9."])
         self.shows("taken back", self.text("#legend"))
 
     def test_chains(self):
         self.open(sample("chains"), fragment="#t=430&g=3")
         self.shows("turn 430 of 923", self.now())
-        self.assertEqual([self.lane(2), self.lane(5), self.lane(9)], ["chan receive, line 20", "select, line 29", "dead at line 43"])
+        self.assertEqual([self.lane(2), self.lane(5), self.lane(9)],
+                         ["chan receive, line 20", "select, line 29", "dead at line 43"])
         self.assertEqual(self.mark(20), "hit selected: G2 G3 G4")
         self.assertEqual(self.mark(59), "from selected: starts G3")
         self.assertEqual(self.reasons()[4:6], ["G2chan receive at line 20rootobject 8object 5object 2channel 4G2",
@@ -377,9 +387,10 @@ class Use(InBrowser):
 
     def test_all_is_reached_by_keys(self):
         self.open(example("leak"))
-        reached = self.value("[...document.querySelectorAll('a[href], button, input, [tabindex]')].filter(each => each.tabIndex >= 0)"
-                             ".map(each => each.id || each.className).join(' ')")
-        for name in ("source", "slider", "b-previous", "b-play", "who", "chip", "graph", "output", "report", "of", "theme"):
+        reached = self.value("[...document.querySelectorAll('a[href], button, input, [tabindex]')]"
+                             ".filter(each => each.tabIndex >= 0).map(each => each.id || each.className).join(' ')")
+        for name in ("source", "slider", "b-previous", "b-play", "who", "chip", "graph", "output", "report", "of",
+                     "theme"):
             self.shows(name, reached)
         self.value("document.querySelector('.lane[data-g=\"2\"] .who').focus()")
         self.browser.press("Enter")
@@ -419,10 +430,12 @@ class Use(InBrowser):
 
     def test_headings_and_labels(self):
         self.open(example("leak"))
-        self.assertEqual(self.value("[...document.querySelectorAll('h1, h2')].map(each => each.firstChild.textContent.trim())"),
-                         ["1 goroutine can never run again", "Source", "Output", "Goroutines over the turns", "Why", "Report"])
+        found = self.value("[...document.querySelectorAll('h1, h2')].map(each => each.firstChild.textContent.trim())")
+        self.assertEqual(found, ["1 goroutine can never run again", "Source", "Output", "Goroutines over the turns",
+                                 "Why", "Report"])
         unnamed = self.value("[...document.querySelectorAll('button, input, [tabindex], section')].filter(each => "
-                             "!(each.textContent.trim() || each.getAttribute('aria-label') || each.getAttribute('aria-labelledby'))).length")
+                             "!(each.textContent.trim() || each.getAttribute('aria-label') || "
+                             "each.getAttribute('aria-labelledby'))).length")
         self.assertEqual(unnamed, 0)
         self.assertEqual(self.value("document.documentElement.lang"), "en")
         self.assertEqual(self.value("$('now').getAttribute('aria-live')"), "polite")
@@ -451,16 +464,19 @@ class Use(InBrowser):
     def test_divided_collections_are_told(self):
         self.open(example("leak"), "--recover")
         self.value("data.divided = [1]; show(last, true)")
-        self.shows("Collection 1 took some of the dead back and kept others. The program does not tell which.", self.reasons())
+        self.shows("Collection 1 took some of the dead back and kept others. The program does not tell which.",
+                   self.reasons())
 
 
 # The contrast of the text of an element with what is behind it.
 CONTRAST = """(selector => {
-  const canvas = Object.assign(document.createElement("canvas"), { width: 1, height: 1 }).getContext("2d", { willReadFrequently: true });
+  const one = Object.assign(document.createElement("canvas"), { width: 1, height: 1 });
+  const canvas = one.getContext("2d", { willReadFrequently: true });
+  const linear = part => part <= .04045 ? part / 12.92 : ((part + .055) / 1.055) ** 2.4;
   const light = colours => {
     canvas.clearRect(0, 0, 1, 1);
     for (const colour of colours) { canvas.fillStyle = colour; canvas.fillRect(0, 0, 1, 1); }
-    const parts = [...canvas.getImageData(0, 0, 1, 1).data].slice(0, 3).map(each => each / 255).map(each => each <= .04045 ? each / 12.92 : ((each + .055) / 1.055) ** 2.4);
+    const parts = [...canvas.getImageData(0, 0, 1, 1).data].slice(0, 3).map(each => linear(each / 255));
     return .2126 * parts[0] + .7152 * parts[1] + .0722 * parts[2];
   };
   const found = document.querySelector(selector), behind = [];

@@ -18,13 +18,13 @@ import unittest
 from contextlib import redirect_stderr, redirect_stdout
 from unittest import mock
 
-sys.dont_write_bytecode = True
 HERE = os.path.dirname(os.path.abspath(__file__))
 TOOL = os.path.dirname(HERE)
 ROOT = os.path.dirname(os.path.dirname(TOOL))
 sys.path.insert(0, TOOL)
 
 import data
+import home
 import page
 import places
 import program
@@ -139,26 +139,32 @@ class DataAgainstPrograms(unittest.TestCase):
         for path in EXAMPLES + SAMPLES:
             for turn in data_of(path)["printed"]:
                 with self.subTest(f"{os.path.basename(path)} {turn}"):
-                    before, after = (ran(GOLF, "run", "--turns", str(max(1, each)), path=path)[0] for each in (turn - 1, turn))
+                    before, after = (ran(GOLF, "run", "--turns", str(max(1, each)), path=path)[0]
+                                     for each in (turn - 1, turn))
                     self.assertLess(len(before), len(after))
 
     def test_output_is_that_of_golf(self):
         for path in FILES:
             with self.subTest(os.path.basename(path)):
                 made = page_of(path)
-                self.assertEqual(b"".join(piece for turn, piece in made.run.printed.output).decode(), ran(GOLF, "run", path=path)[0])
+                self.assertEqual(b"".join(piece for turn, piece in made.run.printed.output).decode(),
+                                 ran(GOLF, "run", path=path)[0])
                 self.assertEqual(made.run.status, ran(GOLF, "run", path=path)[2])
 
     def test_collections_and_reports_are_those_of_golf(self):
         for path in FILES:
             with self.subTest(os.path.basename(path)):
                 shown = data_of(path)
-                reports = re.findall(r"(?m)^goroutine (\d+): (.*) at line (\d+), started at line (\d+)$", ran(GOLF, "run", path=path)[1])
+                reports = re.findall(r"(?m)^goroutine (\d+): (.*) at line (\d+), started at line (\d+)$",
+                                     ran(GOLF, "run", path=path)[1])
                 found = sorted((number, shown["kinds"][waits[-1][3]], waits[-1][2], started)
-                               for number, name, started, begin, end, dead, reported, removed, waits in shown["goroutines"] if reported > 0)
-                self.assertEqual(found, sorted((int(number), kind, int(line), int(started)) for number, kind, line, started in reports))
+                               for number, name, started, begin, end, dead, reported, removed, waits
+                               in shown["goroutines"] if reported > 0)
+                self.assertEqual(found, sorted((int(number), kind, int(line), int(started))
+                                               for number, kind, line, started in reports))
                 for number, turn in shown["collections"]:
-                    counts = [ran(GOLF, "run", "--turns", str(each), path=path)[1].count("collection ") for each in (turn - 1, turn)]
+                    counts = [ran(GOLF, "run", "--turns", str(each), path=path)[1].count("collection ")
+                              for each in (turn - 1, turn)]
                     self.assertEqual(counts, [number - 1, number])
 
     def test_reasons_are_those_of_a_stopped_run(self):
@@ -170,7 +176,8 @@ class DataAgainstPrograms(unittest.TestCase):
 
 
 def reasons_in(shown, moment):
-    """Returns (goroutine, kind, row, chain) of each blocked goroutine by the data of a page; the chain of a dead one is none."""
+    """Returns (goroutine, kind, row, chain) of each blocked goroutine by the data of a page; the chain of a dead one
+    is none."""
     found = set()
     for number, name, started, begin, end, dead, reported, removed, waits in shown["goroutines"]:
         for begun, until, row, kind, changes in waits:
@@ -199,7 +206,8 @@ class ByHand(unittest.TestCase):
     def goroutines(self, path, *line):
         """Returns {number: (name, row of start, rows of waits, whether it ends, whether it is reported)}."""
         return {number: (name, started, [wait[2] for wait in waits], end > 0, reported > 0)
-                for number, name, started, begin, end, dead, reported, removed, waits in data_of(path, *line)["goroutines"]}
+                for number, name, started, begin, end, dead, reported, removed, waits
+                in data_of(path, *line)["goroutines"]}
 
     def test_leak(self):
         self.assertEqual(self.goroutines(example("leak")),
@@ -241,8 +249,8 @@ class ByHand(unittest.TestCase):
 
     def test_chains_sample(self):
         shown = data_of(sample("chains"))
-        # After 430 turns the nodes are objects 2, 5 and 8, each made before its mutex and its channel. Goroutine 4 waits on
-        # the channel of the third node, which is the head.
+        # After 430 turns the nodes are objects 2, 5 and 8, each made before its mutex and its channel. Goroutine 4
+        # waits on the channel of the third node, which is the head.
         self.assertEqual({(number, chain) for number, kind, row, chain in reasons_in(shown, 430) if chain},
                          {(2, (8, 5, 2, 4)), (3, (8, 5, 7)), (4, (8, 9)), (5, (1,)), (6, (1,)), (7, (1,))})
         self.assertEqual({(number, kind, row) for number, kind, row, chain in reasons_in(shown, 430) if not chain},
@@ -263,18 +271,31 @@ class Words(unittest.TestCase):
         for given in ([line], line.split()):
             shown = data_of(LEAK_CYCLE, *given)
             reported = {number: (waits[-1][2], started)
-                        for number, name, started, begin, end, dead, reported, removed, waits in shown["goroutines"] if reported > 0}
+                        for number, name, started, begin, end, dead, reported, removed, waits
+                        in shown["goroutines"] if reported > 0}
             self.assertEqual(reported, {2: (11, 25), 4: (11, 27)})
             self.assertFalse(shown["ended"])
 
     def test_main_can_be_dead(self):
         made = page_of(LOCK_AT_RETURN, ran(EXPLORE, "search", path=LOCK_AT_RETURN)[0].split("\n")[0])
-        self.assertEqual(tell.headline(made.run)[1], "Goroutine 1 waits for ever at line 10 (sync.Mutex.Lock), started at line 18.")
+        self.assertEqual(tell.headline(made.run)[1],
+                         "Goroutine 1 waits for ever at line 10 (sync.Mutex.Lock), started at line 18.")
         self.assertEqual(data.data_of(made.run)["goroutines"][0][2], 18)
 
     def test_a_run_that_falls_asleep_is_shown_by_its_line(self):
         made = page_of(LOCK_AT_RETURN, ran(EXPLORE, "search", "--for", "asleep", path=LOCK_AT_RETURN)[0].split("\n")[0])
         self.assertEqual(tell.headline(made.run)[0], "All goroutines are asleep")
+
+    def test_who_waits_where_all_are_asleep_is_told(self):
+        file = ("package main\n\nfunc wait(c chan int) {\n\t<-c\n}\n\nfunc main() {\n\tc := make(chan int)\n"
+                "\tgo wait(c)\n\tgo wait(nil)\n\td := make(chan int)\n\td <- 1\n}\n")
+        with tempfile.NamedTemporaryFile("w", suffix=".go") as made:
+            made.write(file)
+            made.flush()
+            lines = tell.report_lines(page_of(made.name).run)
+        self.assertEqual([(line, number) for _, line, kind, number in lines if kind == "asleep"], [
+            ("goroutine 1: blocked at line 12", 1), ("goroutine 2: chan receive at line 4, started at line 9", 2),
+            ("goroutine 3: chan receive (nil chan) at line 4, started at line 10", 3)])
 
     def test_a_leak_with_too_many_numbers_is_told(self):
         with self.assertRaisesRegex(program.Failure, "more than the words of a run may have"):
@@ -297,11 +318,22 @@ class Words(unittest.TestCase):
         with self.assertRaisesRegex(program.Failure, "too long"):
             words.of_history("1," * 70_000)
 
-    def test_wrong_words(self):
-        for line in (["--nothing"], ["--every"], ["--turns", "0"], ["--why", "--why"]):
+    def test_wrong_words_are_named(self):
+        for line, sentence in (("--nothing", "no word of golf run: --nothing"), ("--every", "no value after --every"),
+                               ("--turns", "no value after --turns"), ("--turns 0", "no value of --turns: 0"),
+                               ("--why --why", "twice: --why"), ("--recover=1", "no word of golf run: --recover=1"),
+                               ("--schedule choices:1,,2", "no value of --schedule: choices:1,,2"),
+                               ("--threads 4 --why", "not beside --threads: --why")):
             with self.subTest(line), self.assertRaises(program.Failure) as failure:
-                page_of(example("leak"), *line)
-            self.assertEqual(failure.exception.status, 5)
+                page_of(example("leak"), *line.split())
+            self.assertEqual((str(failure.exception), failure.exception.status), (sentence, 5))
+
+    def test_help_and_version_go_to_standard_output(self):
+        for line, first in (("--help", b"usage: golf-page "), ("--version", b"golf-page ")):
+            out = io.TextIOWrapper(io.BytesIO(), encoding="utf-8")
+            with self.subTest(line), redirect_stdout(out):
+                self.assertEqual(page.main([line]), 0)
+            self.assertTrue(out.buffer.getvalue().startswith(first))
 
     def test_command_line(self):
         for line, status in (([], 5), (["--golf"], 5), ([os.path.join(ROOT, "nowhere.go")], 1), ([ROOT], 1)):
@@ -314,9 +346,11 @@ class Words(unittest.TestCase):
 
     def test_a_page_that_cannot_be_written(self):
         with open("/dev/full", "wb") as full:
-            done = subprocess.run([sys.executable, os.path.join(TOOL, "page.py"), "--golf", GOLF, "--explore", EXPLORE, example("leak")],
+            done = subprocess.run([sys.executable, os.path.join(TOOL, "page.py"), "--golf", GOLF, "--explore", EXPLORE,
+                                   example("leak")],
                                   stdout=full, stderr=subprocess.PIPE, check=False)
-        self.assertEqual((done.returncode, done.stderr), (1, b"golf-page: the page cannot be written: No space left on device\n"))
+        self.assertEqual((done.returncode, done.stderr),
+                         (1, b"golf-page: the output cannot be written: No space left on device\n"))
 
     def test_page_goes_to_standard_output(self):
         out = io.TextIOWrapper(io.BytesIO(), encoding="utf-8")
@@ -327,8 +361,8 @@ class Words(unittest.TestCase):
 
 def written(*pieces, status=0, in_order=True):
     """Returns what a program wrote: a text that begins with > is output."""
-    return program.Written([(program.OUTPUT, each[1:].encode()) if each.startswith(">") else (program.ERRORS, each.encode())
-                            for each in pieces], status, in_order)
+    writes = [(program.OUTPUT, each[1:]) if each.startswith(">") else (program.ERRORS, each) for each in pieces]
+    return program.Written([(stream, text.encode()) for stream, text in writes], status, in_order)
 
 
 class Reading(unittest.TestCase):
@@ -336,13 +370,15 @@ class Reading(unittest.TestCase):
 
     def test_all_parts_of_a_turn(self):
         read = traced.Trace(written("turn 1: goroutine 1 at line 9, starts goroutine 2\n",
-                                   "turn 2: goroutine 2 at line 5, blocks, wakes goroutine 3\n",
-                                   "turn 3: goroutine 12 at line 20, ends, wakes goroutine 2, goroutine 10\n"))
-        self.assertEqual(read.turns, [(1, 9, 2, False, False, ()), (2, 5, None, True, False, (3,)), (12, 20, None, False, True, (2, 10))])
+                                    "turn 2: goroutine 2 at line 5, blocks, wakes goroutine 3\n",
+                                    "turn 3: goroutine 12 at line 20, ends, wakes goroutine 2, goroutine 10\n"))
+        self.assertEqual(read.turns, [(1, 9, 2, False, False, ()), (2, 5, None, True, False, (3,)),
+                                      (12, 20, None, False, True, (2, 10))])
 
     def test_output_has_the_next_turn(self):
-        read = traced.Trace(written(">a\n", "turn 1: goroutine 1 at line 9\ncollec", "tion 1: marked 0, reported 0, kept 0, "
-                                   "reclaimed 0, objects 0\n", ">b\n", ">c\n", "turn 2: goroutine 1 at line 9\n"))
+        read = traced.Trace(written(">a\n", "turn 1: goroutine 1 at line 9\ncollec",
+                                    "tion 1: marked 0, reported 0, kept 0, "
+                                    "reclaimed 0, objects 0\n", ">b\n", ">c\n", "turn 2: goroutine 1 at line 9\n"))
         self.assertEqual(read.pieces, [(1, b"a\n"), (2, b"b\n"), (2, b"c\n")])
         self.assertEqual([each.turn for each in read.collections], [1])
 
@@ -350,7 +386,8 @@ class Reading(unittest.TestCase):
         self.assertEqual(traced.Trace(written(">a\n", in_order=False)).pieces, [(None, b"a\n")])
 
     def test_nothing_after_a_panic_is_read(self):
-        text = "panic: a\nturn 2: goroutine 7 at line 1\ncollection 1: marked 0, reported 0, kept 0, reclaimed 0, objects 0 (goroutine 1, line 4)"
+        text = ("panic: a\nturn 2: goroutine 7 at line 1\n"
+                "collection 1: marked 0, reported 0, kept 0, reclaimed 0, objects 0 (goroutine 1, line 4)")
         read = traced.Trace(written("turn 1: goroutine 1 at line 4\n", text[:12], text[12:] + "\n"))
         self.assertEqual((len(read.turns), read.collections, read.tail), (1, [], text))
         self.assertEqual((read.fault[3], read.fault[4]), ("1", "4"))
@@ -365,14 +402,16 @@ class Reading(unittest.TestCase):
         script = "for i in 1 2 3 4 5 6 7 8 9; do echo out $i; echo err $i >&2; done; exit 3"
         ordered = program.in_order(["sh", "-c", script], b"")
         self.assertEqual(ordered.writes, [each for number in range(1, 10) for each in
-                                          ((program.OUTPUT, f"out {number}\n".encode()), (program.ERRORS, f"err {number}\n".encode()))])
+                                          ((program.OUTPUT, f"out {number}\n".encode()),
+                                           (program.ERRORS, f"err {number}\n".encode()))])
         self.assertEqual(ordered.status, 3)
 
     def test_a_launcher_is_heard_while_it_builds(self):
         with tempfile.TemporaryDirectory() as folder:
             path = os.path.join(folder, "golf-explore")
             with open(path, "w", encoding="utf-8") as file:
-                file.write("#!/bin/sh\necho 'golf-explore: 1 of 2' >&2\necho 'turn 1: goroutine 1 at line 1, ends' >&2\n")
+                file.write("#!/bin/sh\necho 'golf-explore: 1 of 2' >&2\n"
+                           "echo 'turn 1: goroutine 1 at line 1, ends' >&2\n")
             os.chmod(path, 0o755)
             told = io.TextIOWrapper(io.BytesIO())
             with mock.patch("sys.stderr", told):
@@ -385,7 +424,8 @@ class Reading(unittest.TestCase):
             program.in_order(["/nowhere/golf-explore"], b"")
 
 
-TOO_LONG = 'package main\n\nimport "fmt"\n\nconst k = "' + 900_000 * "x" + '"\n\nfunc main() {\n\tfmt.Println(' + ", ".join(10 * ["k"]) + ")\n}\n"
+TOO_LONG = ('package main\n\nimport "fmt"\n\nconst k = "' + 900_000 * "x" + '"\n\nfunc main() {\n\tfmt.Println('
+            + ", ".join(10 * ["k"]) + ")\n}\n")
 MANY_TURNS = """package main
 
 func relay(in chan int, out chan int) {
@@ -404,16 +444,38 @@ func main() {
 	}
 }
 """
-MANY_GOROUTINES = "package main\n\nfunc wait(c chan int) {\n\t<-c\n}\n\nfunc main() {\n\tfor {\n\t\tgo wait(make(chan int))\n\t}\n}\n"
-MANY_LINES = 'package main\n\nimport "fmt"\n\nfunc main() {\n\tfor {\n\t\tfmt.Println("a line of output, so long that it has a hundred bytes: ..................................")\n\t}\n}\n'
+MANY_GOROUTINES = """package main
+
+func wait(c chan int) {
+	<-c
+}
+
+func main() {
+	for {
+		go wait(make(chan int))
+	}
+}
+"""
+MANY_LINES = """package main
+
+import "fmt"
+
+func main() {
+	for {
+		fmt.Println("a line of output, so long that it has a hundred bytes: ..................................")
+	}
+}
+"""
 
 
 def many_functions():
     """Returns a file of nearly 1 MB, of which the last function waits."""
     parts = ["package main\n\nimport \"runtime\"\n\n"]
     for number in range(11_500):
-        parts.append(f"func f{number}(a int) int {{\n\tif a > 7 {{ // a remark on f{number}\n\t\treturn a * {number}\n\t}}\n\treturn 1\n}}\n\n")
-    parts.append("func wait(c chan int) {\n\t<-c\n}\n\nfunc main() {\n\tgo wait(make(chan int))\n\tfor i := 0; i < 50; i++ {\n\t}\n\truntime.GC()\n}\n")
+        parts.append(f"func f{number}(a int) int {{\n\tif a > 7 {{ // a remark on f{number}\n\t\treturn a * {number}\n"
+                     "\t}\n\treturn 1\n}\n\n")
+    parts.append("func wait(c chan int) {\n\t<-c\n}\n\nfunc main() {\n\tgo wait(make(chan int))\n"
+                 "\tfor i := 0; i < 50; i++ {\n\t}\n\truntime.GC()\n}\n")
     return "".join(parts)
 
 
@@ -466,7 +528,8 @@ class Limits(unittest.TestCase):
 
     def test_fewer_moments_if_the_chains_are_too_many(self):
         changes = [number for moment in range(1, 90) for number in (moment, moment % 7)]
-        self.assertEqual(data.thinned(changes, 90, 10), [number for moment in range(10, 90, 10) for number in (moment, moment % 7)])
+        self.assertEqual(data.thinned(changes, 90, 10),
+                         [number for moment in range(10, 90, 10) for number in (moment, moment % 7)])
         self.assertEqual(data.thinned([3, 0, 12, 1], 15, 10), [3, 0])
 
 
@@ -488,23 +551,26 @@ class Refused(unittest.TestCase):
         self.assertIn("<b>Byte 36</b> The bytes are no tokens of the language: column 9, the byte 94 (^).", text)
 
     def test_a_file_that_ends_inside_a_comment(self):
-        self.assertIn("The file ends inside a token or a comment.", self.shown("package main\n\nfunc main() {\n}\n/* a remark\n"))
+        self.assertIn("The file ends inside a token or a comment.",
+                      self.shown("package main\n\nfunc main() {\n}\n/* a remark\n"))
 
     def test_tokens_that_are_no_file(self):
         self.assertIn("<b>Syntax</b>", self.shown('package main\n\nfunc main() {\n\tprintln("a" "b")\n}\n'))
 
     def test_a_broken_rule(self):
         text = self.shown("package main\n\nfunc main() {\n\tx := 1 + true\n\t_ = x\n}\n")
-        self.assertIn("<b>Rule 8</b> Operands have the types of their operators. Conditions are <code>bool</code>, indices and sizes <code>int</code>.", text)
+        self.assertIn("<b>Rule 8</b> Operands have the types of their operators. Conditions are <code>bool</code>, "
+                      "indices and sizes <code>int</code>.", text)
 
     def test_each_rule_has_a_sentence(self):
-        self.assertEqual(sorted(tell.rules_of(page.read(page.RULES))), list(range(1, 25)))
+        self.assertEqual(sorted(tell.rules_of(page.read(home.LANGUAGE))), list(range(1, 25)))
 
     def test_an_empty_file(self):
         self.assertIn("refused: line 1: syntax", self.shown(""))
 
     def test_bytes_that_are_no_utf_8(self):
-        text = self.shown(b'package main\n\nimport "fmt"\n\n// \xff\xfe\nfunc main() {\n\tfmt.Println("\xe2\x82", "\xf0")\n}\n')
+        text = self.shown(b'package main\n\nimport "fmt"\n\n// \xff\xfe\n'
+                          b'func main() {\n\tfmt.Println("\xe2\x82", "\xf0")\n}\n')
         self.assertIn("\ufffd", text)
         self.assertIn("Status 0.", text)
 
@@ -514,18 +580,21 @@ class Refused(unittest.TestCase):
         self.assertNotIn("<li id=L7 ", text)
 
     def test_no_text_of_a_file_is_markup(self):
-        text = self.shown('package main\n\nfunc main() {\n\tpanic("</script><script>alert(1)</script> @@DATA@@ <!-- <script> &lt;")\n}\n')
+        text = self.shown("package main\n\nfunc main() {\n"
+                          '\tpanic("</script><script>alert(1)</script> @@DATA@@ <!-- <script> &lt;")\n}\n')
         self.assertEqual(text.count("<script"), 2)
         self.assertEqual(text.count("</script>"), 2)
         self.assertEqual(text.count('id="data"'), 1)
-        self.assertIn("&lt;/script&gt;&lt;script&gt;alert(1)&lt;/script&gt; @@DATA@@ &lt;!-- &lt;script&gt; &amp;lt;", text)
+        self.assertIn("&lt;/script&gt;&lt;script&gt;alert(1)&lt;/script&gt; @@DATA@@ &lt;!-- &lt;script&gt; &amp;lt;",
+                      text)
 
 
 class Sources(unittest.TestCase):
     """The names and rows of a file."""
 
     def test_functions_and_calls(self):
-        found = source.Source("package main\n\nfunc (t *T) get() int {\n\treturn 1\n}\nfunc main() {\n\tgo run(1)\n\tgo t.get(); go run(2)\n}\n")
+        found = source.Source("package main\n\nfunc (t *T) get() int {\n\treturn 1\n}\n"
+                              "func main() {\n\tgo run(1)\n\tgo t.get(); go run(2)\n}\n")
         self.assertEqual([found.function_of(line) for line in (1, 4, 7)], ["", "T.get", "main"])
         self.assertEqual([found.call_of(line) for line in (7, 8)], ["run", ""])
 
@@ -563,7 +632,8 @@ class LoweredFiles(unittest.TestCase):
     """The places and the output of lowered files."""
 
     def places(self, *names):
-        return places.Lowered([(f"x/{name}", b"package main\n" * 9) for name in names], LOWERED, MAP.replace("a.go", names[-1]))
+        return places.Lowered([(f"x/{name}", b"package main\n" * 9) for name in names], LOWERED,
+                              MAP.replace("a.go", names[-1]))
 
     def test_rows_of_one_file(self):
         self.assertEqual([self.places("a.go").row(line) for line in (4, 7, 99)], [4, 0, 0])
@@ -581,8 +651,10 @@ class LoweredFiles(unittest.TestCase):
                          "goroutine 2: chan send at line 4 in work, started at line 5 in work")
 
     def test_output_is_decoded(self):
-        printed = self.places("a.go").printed([(3, "a ‿ b ‿\n".encode()), (4, "‿\n".encode()), (5, "c\n".encode()), (6, "‿err d\n".encode()),
-                                               (7, "‿panic e ‿\n".encode()), (8, "‿byte 226 ‿\n".encode()), (9, "‿exit 3 ‿\n".encode())])
+        printed = self.places("a.go").printed([(3, "a ‿ b ‿\n".encode()), (4, "‿\n".encode()), (5, "c\n".encode()),
+                                               (6, "‿err d\n".encode()),
+                                               (7, "‿panic e ‿\n".encode()), (8, "‿byte 226 ‿\n".encode()),
+                                               (9, "‿exit 3 ‿\n".encode())])
         self.assertEqual(printed.output, [(3, b"ab"), (4, b""), (5, b"c\n"), (8, b"\xe2")])
         self.assertEqual((printed.errors, printed.panic, printed.exit), ([(6, b"d\n")], b"e", 3))
         self.assertEqual(tell.output_lines(printed.output), [(3, "abc"), (8, "\ufffd")])
@@ -590,7 +662,8 @@ class LoweredFiles(unittest.TestCase):
     def test_ends(self):
         found, printed = self.places("a.go"), places.Printed([])
         printed.panic = b"lost"
-        self.assertEqual(found.told_tail("panic: ‿ (goroutine 1, line 4)", printed), "panic: lost (goroutine 1, line 4 in work)")
+        self.assertEqual(found.told_tail("panic: ‿ (goroutine 1, line 4)", printed),
+                         "panic: lost (goroutine 1, line 4 in work)")
         unlocked = "fatal error: sync: unlock of unlocked mutex (goroutine 1, line 4)"
         self.assertEqual(found.told_tail(unlocked, printed), unlocked.replace("line 4", "line 4 in work"))
         printed.exit = 2

@@ -23,22 +23,22 @@ use Rattle.golf_check_types.specs.Facts.{new_target}
 use Rattle.golf_check_types.specs.Types.{has_base, type_given, is_nil, element, assignable}
 use Rattle.golf_check_types.specs.Names.{is_blank}
 use Rattle.golf_check_types.specs.Scopes.{is_here, is_reserved, may_be_declared, begun}
-use Rattle.golf_check_types.specs.Written.{Write}
+use Rattle.golf_check_types.specs.Written.{WriteType}
 use Rattle.golf_check_types.specs.Expressions.{Judged, used, named_or_used, given_by, facts_of}
 use Rattle.golf_check_types.specs.Calls.{call_judged}
-use Rattle.golf_check_types.specs.Judging.{Judge, judge}
+use Rattle.golf_check_types.specs.Judgments.{Judge, judge}
 use Rattle.golf_check_types.specs.Statements as W
 use Rattle.golf_code_layout.specs.Piece.{Piece, all, op, placed}
 use Rattle.golf_code_of.specs.Values.{push, zero_value}
-use Rattle.golf_code_of.specs.Coding.{Coded, coded, argument}
-use Rattle.golf_code_of.specs.declared.making.Making.{Making}
-use Rattle.golf_code_of.specs.Calls.{Argument, makings, beginning, pushes}
+use Rattle.golf_code_of.specs.ExpressionCode.{Coded, coded, argument}
+use Rattle.golf_code_of.specs.declared.surroundings.Making.{Making}
+use Rattle.golf_code_of.specs.Calls.{ArgumentCode, makings, beginning, pushes}
 use Rattle.golf_code_of.specs.Statements as C
-use Rattle.golf_code_of.specs.Statements.{Part, laid, wrapped}
+use Rattle.golf_code_of.specs.Statements.{StatementPart, laid, wrapped}
 use Rattle.golf_code_of.specs.Loops as L
 use Rattle.golf_code_of.specs.Selects as S
 use Rattle.golf_code_of.specs.Selects.{ClausePart}
-use Rattle.golf_code_of.specs.Laying.{stmt_part, clause_part}
+use Rattle.golf_code_of.specs.StatementCode.{stmt_part, clause_part}
 use Rattle.golf_code_of.proofs.StmtCodes as s
 use Rattle.golf_code_of.proofs.Examples.Writing.{WrittenType, Sample, known, tables, scope, outermost}
 
@@ -46,14 +46,14 @@ use Rattle.golf_code_of.proofs.Examples.Writing.{WrittenType, Sample, known, tab
 
 pub record SimpleSample : Type 0 where
   pub tree : Simple
-  pub value : Part
+  pub value : StatementPart
   pub same : C.simple_part tables tree ≡ value
 
 abbrev pub simply : ℕ → SimpleKind → Simple
 simply l kind = record { line = l; kind = kind }
 
 -- a simple statement in terms of what its expressions are, and of their code
-abbrev action_of : ℕ → Judge → Coded → Part
+abbrev action_of : ℕ → Judge → Coded → StatementPart
 action_of l j c = record {
   walk = λ s. W.judges ((j l s).faults ++ W.action_faults l (j l s).meaning)
       (facts_of (j l s));
@@ -67,7 +67,7 @@ action l x = record {
   same = known x (action_of l);
 }
 
-abbrev send_of : ℕ → Judge → Coded → Judge → Coded → Part
+abbrev send_of : ℕ → Judge → Coded → Judge → Coded → StatementPart
 send_of l j c k d = record {
   walk = λ s. W.judges (used l (j l s) ++ (used l (k l s) ++ W.send_faults l (given_by (j l s)) (given_by (k l s))))
       (facts_of (j l s) ++ facts_of (k l s));
@@ -82,7 +82,7 @@ send l x y = record {
       ∙ known y (send_of l x.value.judge x.value);
 }
 
-abbrev step_of : ℕ → Instr → Judge → Coded → Part
+abbrev step_of : ℕ → Instr → Judge → Coded → StatementPart
 step_of l i j c = record {
   walk = λ s. W.judges (named_or_used l (j l s) ++ W.step_faults l (j l s).meaning) (facts_of (j l s));
   lay = λ a s. laid (C.updates l (c.code l s) (op l (Instr.Int (pos 1))) i);
@@ -102,7 +102,7 @@ decrement l x = record {
   same = known x (step_of l Instr.Sub);
 }
 
-abbrev assign_of : ℕ → Judge → Coded → Judge → Coded → Part
+abbrev assign_of : ℕ → Judge → Coded → Judge → Coded → StatementPart
 assign_of l j c k d = record {
   walk = λ s. W.judges ((j l s).faults ++
       (W.left_faults l (j l s).meaning ++ (used l (k l s) ++ W.assign_faults l (j l s).meaning (given_by (k l s)))))
@@ -118,7 +118,7 @@ assign l x y = record {
       ∙ known y (assign_of l x.value.judge x.value);
 }
 
-abbrev update_of : ℕ → UpdateOperator → Judge → Coded → Judge → Coded → Part
+abbrev update_of : ℕ → UpdateOperator → Judge → Coded → Judge → Coded → StatementPart
 update_of l o j c k d = record {
   walk = λ s. W.judges (named_or_used l (j l s)
       ++ (used l (k l s) ++ W.update_faults l (j l s).meaning (given_by (k l s))))
@@ -134,7 +134,7 @@ update l x o y = record {
       ∙ known y (update_of l o x.value.judge x.value);
 }
 
-abbrev define_of : ℕ → List ℕ → Judge → Coded → Part
+abbrev define_of : ℕ → List ℕ → Judge → Coded → StatementPart
 define_of l n j c = record {
   walk = λ s. W.declares_one s n (type_given (given_by (j l s)))
       (used l (j l s) ++ (broken l 2 (not (is_blank n) && not (is_reserved n))
@@ -153,7 +153,7 @@ define l n x = record {
 abbrev received_of : ℕ → Judge → Scope → W.Walked
 received_of l j s = W.judges (used l (j l s) ++ W.receive_faults l (given_by (j l s))) (facts_of (j l s))
 
-abbrev define_received_of : ℕ → List ℕ → List ℕ → Judge → Coded → Part
+abbrev define_received_of : ℕ → List ℕ → List ℕ → Judge → Coded → StatementPart
 define_received_of l n m j c = record {
   walk = λ s. W.both (received_of l j s) (W.pair l n m (element (given_by (j l s))) s);
   lay = λ a s. laid (all ((c.code l s).piece ∷ op l Instr.ReceiveOk
@@ -167,7 +167,7 @@ define_received l n m x = record {
   same = known x (define_received_of l n m);
 }
 
-abbrev assign_received_of : ℕ → List ℕ → List ℕ → Judge → Coded → Part
+abbrev assign_received_of : ℕ → List ℕ → List ℕ → Judge → Coded → StatementPart
 assign_received_of l n m j c = record {
   walk = λ s. W.both (received_of l j s) (W.assign_pair l n m (element (given_by (j l s))) s);
   lay = λ a s. laid (all ((c.code l s).piece ∷ op l Instr.ReceiveOk ∷ C.stores_name l tables s m
@@ -185,7 +185,7 @@ assign_received l n m x = record {
 
 pub record StmtSample : Type 0 where
   pub tree : Stmt
-  pub value : Part
+  pub value : StatementPart
   pub same : stmt_part tables tree ≡ value
 
 abbrev pub does : SimpleSample → StmtSample
@@ -223,7 +223,7 @@ continue l = record { tree = st.Continue l; value = C.continue_part l; same = s.
 abbrev pub trees : List StmtSample → List Stmt
 trees xs = map (λ x. x.tree) xs
 
-abbrev pub parts : List StmtSample → List Part
+abbrev pub parts : List StmtSample → List StatementPart
 parts xs = map (λ x. x.value) xs
 
 pub all-same : (xs : List StmtSample) → map (stmt_part tables) (trees xs) ≡ parts xs
@@ -239,7 +239,7 @@ block l xs = record {
 }
 
 -- a test, and what stands after it
-abbrev tested_of : ℕ → Part → Judge → Coded → Part
+abbrev tested_of : ℕ → StatementPart → Judge → Coded → StatementPart
 tested_of l x j c = record {
   walk = λ s. W.both (W.judges (used l (j l s) ++ broken l 8 (has_base base.Bool (given_by (j l s))))
       (facts_of (j l s))) (x.walk s);
@@ -285,7 +285,7 @@ forever l xs = record {
   same = s.part-For tables l header.Forever (trees xs) ∙ ap (λ ps. L.for_part tables l header.Forever ps) (all-same xs);
 }
 
-abbrev while_of : ℕ → Part → Judge → Coded → Part
+abbrev while_of : ℕ → StatementPart → Judge → Coded → StatementPart
 while_of l body j c = C.in_block (record {
   walk = λ s. W.both (W.judges (used l (j l s) ++ broken l 8 (has_base base.Bool (given_by (j l s))))
       (facts_of (j l s))) (body.walk s);
@@ -310,7 +310,7 @@ steps_empty l xs = record {
       ∙ ap (λ ps. L.for_part tables l (header.Steps None None None) ps) (all-same xs);
 }
 
-abbrev stepping_of : ℕ → Part → Part → Judge → Coded → Part
+abbrev stepping_of : ℕ → StatementPart → StatementPart → Judge → Coded → StatementPart
 stepping_of l post body j c = record {
   walk = λ s. W.both (W.judges (used l (j l s) ++ broken l 8 (has_base base.Bool (given_by (j l s))))
       (facts_of (j l s))) (W.then (W.counted post.walk) body.walk s);
@@ -335,7 +335,7 @@ steps l i x p xs = record {
       (stepping_of l p.value (L.in_loop 2 0 (C.block (parts xs))) j c))))));
 }
 
-abbrev range_of : ℕ → RangeNames → Part → Judge → Coded → Part
+abbrev range_of : ℕ → RangeNames → StatementPart → Judge → Coded → StatementPart
 range_of l names body j c = C.in_block (record {
   walk = λ s. W.both (W.judges (used l (j l s) ++ W.range_faults l names (given_by (j l s)))
       (facts_of (j l s) ++ fact.Hidden s.next ∷ [])) (W.then (W.range_slots names (given_by (j l s))) body.walk s);
@@ -354,7 +354,8 @@ range_over l names x xs = record {
 
 -- `go` and `defer`
 
-abbrev begin_of : ℕ → (ℕ → ℕ → Instr) → (ℕ → Scope → List Judged) → (ℕ → Scope → List Argument) → Judge → Coded → Part
+abbrev begin_of : ℕ → (ℕ → ℕ → Instr) → (ℕ → Scope → List Judged) → (ℕ → Scope → List ArgumentCode) → Judge → Coded
+    → StatementPart
 begin_of l begin js given_args j c = record {
   walk = λ s. W.judges
       ((call_judged l s (j l s) (js l s)).faults
@@ -369,10 +370,10 @@ begin_of l begin js given_args j c = record {
 }
 
 -- without arguments, and with one
-abbrev begin_alone : ℕ → (ℕ → ℕ → Instr) → Judge → Coded → Part
+abbrev begin_alone : ℕ → (ℕ → ℕ → Instr) → Judge → Coded → StatementPart
 begin_alone l begin = begin_of l begin (λ l s. []) (λ l s. [])
 
-abbrev begin_with : ℕ → (ℕ → ℕ → Instr) → Judge → Coded → Judge → Coded → Part
+abbrev begin_with : ℕ → (ℕ → ℕ → Instr) → Judge → Coded → Judge → Coded → StatementPart
 begin_with l begin j c k d = begin_of l begin (λ l s. k l s ∷ []) (λ l s. argument l s d ∷ []) j c
 
 abbrev pub go : ℕ → Sample → Sample → StmtSample
@@ -408,16 +409,18 @@ pub record ClauseSample : Type 0 where
   pub same : clause_part tables tree ≡ value
 
 -- a clause that communicates so, with this kind, these operands and this code after the choice
-abbrev clause_of : ℕ → CaseKind → (ℕ → W.Walk) → (ℕ → Scope → Piece) → (ℕ → Scope → Piece) → List Part → ClausePart
+abbrev clause_of : ℕ → CaseKind → (ℕ → W.Walk) → (ℕ → Scope → Piece) → (ℕ → Scope → Piece) → List StatementPart
+    → ClausePart
 clause_of k kind w operands takes body = record {
-  walk = λ l. W.counted (W.in_block (W.then (w l) (W.breaking (W.in_order (map (λ (x : Part). x.walk) body)))));
+  walk = λ l. W.counted (W.in_block (W.then (w l)
+      (W.breaking (W.in_order (map (λ (x : StatementPart). x.walk) body)))));
   kind = Some kind;
   operands = operands;
   lay = λ l a s. C.then_lay (λ b r. laid (takes l r)) (w l) (S.breaking (C.in_order body)).lay a (begun s);
   line = k;
 }
 
-abbrev sends_of : ℕ → List Part → Judge → Coded → Judge → Coded → ClausePart
+abbrev sends_of : ℕ → List StatementPart → Judge → Coded → Judge → Coded → ClausePart
 sends_of k body j c m d = clause_of k CaseKind.Send (λ l. (send_of l j c m d).walk)
     (λ l s. all ((c.code l s).piece ∷ (d.code l s).piece ∷ [])) (λ l s. Piece.Empty) body
 
@@ -431,7 +434,7 @@ case_send k x y xs = record {
       ∙ known y (sends_of k (parts xs) x.value.judge x.value)));
 }
 
-abbrev takes_of : ℕ → List Part → Judge → Coded → ClausePart
+abbrev takes_of : ℕ → List StatementPart → Judge → Coded → ClausePart
 takes_of k body j c = clause_of k CaseKind.Take (λ l s. received_of l j s) (λ l s. (c.code l s).piece)
     (λ l s. op k Instr.Drop) body
 
@@ -443,7 +446,7 @@ case_receive k x xs = record {
       ∙ (ap (λ ps. S.case_clause tables k (comm.Receive x.tree) ps) (all-same xs) ∙ known x (takes_of k (parts xs)));
 }
 
-abbrev defines_of : ℕ → List ℕ → List Part → Judge → Coded → ClausePart
+abbrev defines_of : ℕ → List ℕ → List StatementPart → Judge → Coded → ClausePart
 defines_of k n body j c = clause_of k CaseKind.Take
     (λ l s. W.both (received_of l j s) (W.define_name k n (element (given_by (j l s))) s)) (λ l s. (c.code l s).piece)
     (λ l s. op k (Instr.Store s.next)) body
@@ -457,7 +460,7 @@ case_define k n x xs = record {
       ∙ known x (defines_of k n (parts xs)));
 }
 
-abbrev assigns_of : ℕ → List ℕ → List Part → Judge → Coded → ClausePart
+abbrev assigns_of : ℕ → List ℕ → List StatementPart → Judge → Coded → ClausePart
 assigns_of k n body j c = clause_of k CaseKind.Take
     (λ l s. W.both (received_of l j s) (W.assign_name k n (element (given_by (j l s))) s)) (λ l s. (c.code l s).piece)
     (λ l s. C.stores_name k tables s n) body
@@ -471,7 +474,7 @@ case_assign k n x xs = record {
       ∙ known x (assigns_of k n (parts xs)));
 }
 
-abbrev pairs_of : ℕ → List ℕ → List ℕ → List Part → Judge → Coded → ClausePart
+abbrev pairs_of : ℕ → List ℕ → List ℕ → List StatementPart → Judge → Coded → ClausePart
 pairs_of k n m body j c = clause_of k CaseKind.TakeOk
     (λ l s. W.both (received_of l j s) (W.pair k n m (element (given_by (j l s))) s)) (λ l s. (c.code l s).piece)
     (λ l s. C.stores_pair k tables s n m (element (given_by (j l s)))) body
@@ -510,7 +513,7 @@ select l cs = record {
 
 -- Variables.
 
-abbrev zero_of : ℕ → List ℕ → Write → Part
+abbrev zero_of : ℕ → List ℕ → WriteType → StatementPart
 zero_of l n w = record {
   walk = λ s. W.declares_one s n (w l s).type ((w l s).faults ++ broken l 2 (may_be_declared s n))
       (new_target s (w l s).type ∷ []);
@@ -525,7 +528,7 @@ var_zero l n t = record {
       ∙ ap (λ w. zero_of l n w) t.same;
 }
 
-abbrev typed_of : ℕ → List ℕ → Write → Judge → Coded → Part
+abbrev typed_of : ℕ → List ℕ → WriteType → Judge → Coded → StatementPart
 typed_of l n w j c = record {
   walk = λ s. W.declares_one s n (w l s).type
       ((w l s).faults ++ (used l (j l s) ++ (broken l 2 (may_be_declared s n)
@@ -542,7 +545,7 @@ var_typed l n t x = record {
       ∙ (ap (λ w. typed_of l n w (judge x.tree) (coded tables x.tree)) t.same ∙ known x (typed_of l n t.value));
 }
 
-abbrev untyped_of : ℕ → List ℕ → Judge → Coded → Part
+abbrev untyped_of : ℕ → List ℕ → Judge → Coded → StatementPart
 untyped_of l n j c = record {
   walk = λ s. W.declares_one s n (type_given (given_by (j l s)))
       (used l (j l s) ++ (broken l 2 (may_be_declared s n) ++ broken l 23 (not (is_nil (given_by (j l s))))))

@@ -25,14 +25,14 @@ use Rattle.golf_check_types.specs.declared.scopes.Member.TheVariants as members
 use Rattle.golf_check_types.specs.declared.scopes.FileScope.{FileScope}
 use Rattle.golf_check_types.specs.declared.scopes.Scope.{Scope}
 use Rattle.golf_check_types.specs.Types.{with_layer}
-use Rattle.golf_check_types.specs.Written.{Write, write, write_step}
+use Rattle.golf_check_types.specs.Written.{WriteType, write, write_step}
 use Rattle.golf_check_types.specs.Expressions as T
-use Rattle.golf_check_types.specs.Judging.{Judge, judge}
+use Rattle.golf_check_types.specs.Judgments.{Judge, judge}
 use Rattle.golf_code_layout.specs.Piece.{on, placed}
 use Rattle.golf_code_of.specs.declared.tables.Tables.{Tables}
 use Rattle.golf_code_of.specs.Expressions as C
-use Rattle.golf_code_of.specs.Coding.{Coded, CodedPut, coded, coded_step, piece_at}
-use Rattle.golf_code_of.specs.declared.making.Around.{Around}
+use Rattle.golf_code_of.specs.ExpressionCode.{Coded, CodedPut, coded, coded_step, piece_at}
+use Rattle.golf_code_of.specs.declared.surroundings.Around.{Around}
 use Rattle.golf_code_of.proofs.ExprCodes as e
 use Rattle.golf_code_of.proofs.TypeWrites as w
 use Rattle.golf_code_of.proofs.Judgments.{agree}
@@ -96,7 +96,7 @@ outermost = record { breaks = 0; continues = 0; functions = 3 }
 
 pub record WrittenType : Type 0 where
   pub tree : TypeExpr
-  pub value : Write
+  pub value : WriteType
   pub same : write tree ≡ value
 
 abbrev pub named : List ℕ → WrittenType
@@ -262,17 +262,17 @@ empty_literal = record {
 }
 
 -- if a written type is known
-abbrev pub slice_code : Write → List Coded → Coded
+abbrev pub slice_code : WriteType → List Coded → Coded
 slice_code x cs = record {
   judge = λ l s. T.slice_literal l (x l s) (with_layer layer.Slice (x l s).type)
       (map (λ j. j l s) (map (λ (c : Coded). c.judge) cs));
   code = λ l s. C.slice_literal l (with_layer layer.Slice (x l s).type) (map (λ (c : Coded). (c.code l s).piece) cs);
 }
 
-abbrev pub make_code : Write → Coded
+abbrev pub make_code : WriteType → Coded
 make_code x = record { judge = λ l s. T.made l (x l s); code = λ l s. C.made l (x l s).type }
 
-abbrev pub sized_code : Write → Coded → Coded
+abbrev pub sized_code : WriteType → Coded → Coded
 sized_code x c = record {
   judge = λ l s. T.made_sized l (x l s) (c.judge l s);
   code = λ l s. C.made_sized l (x l s).type (c.code l s).piece;

@@ -6,7 +6,7 @@ use Rattle.golf_data.specs.declared.code.Code.{Code}
 use Rattle.golf_data.specs.declared.code.Instr.{Instr}
 use Rattle.golf_data.specs.declared.goroutine.Ending.{Ending}
 use Rattle.golf_model.specs.State.{State, start, ending}
-use Rattle.golf_model.specs.Living.{dead, live_list}
+use Rattle.golf_model.specs.LiveSet.{dead, live_list}
 use Rattle.golf_model.proofs.Examples.Writing.{straight}
 use Rattle.golf_explore_laws.specs.Closed.{IsClosed, NoneDead, NoneEnds}
 use Rattle.golf_explore_laws.specs.Laws.{is_panic, is_asleep, NeverLeaks, NeverReports, ReportsNobody, NeverPanics}
@@ -23,7 +23,8 @@ abbrev visited : List State
 visited = start endless ∷ []
 
 closed : IsClosed endless visited
-closed = closed-by endless visited (inl refl) (inr (refl, (0 ∷ []) ∷ [], ((([], tt, refl), omega arith), omega arith)), tt)
+closed = closed-by endless visited (inl refl)
+    (inr (refl, (0 ∷ []) ∷ [], ((([], tt, refl), omega arith), omega arith)), tt)
 
 none-dead : NoneDead visited
 unfolding live_list

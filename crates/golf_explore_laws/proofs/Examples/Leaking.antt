@@ -6,9 +6,9 @@ use Rattle.golf_theory.specs.Membership.{In}
 use Rattle.golf_data.specs.declared.code.Code.{Code}
 use Rattle.golf_data.specs.declared.code.Instr.{Instr}
 use Rattle.golf_model.specs.State.{State}
-use Rattle.golf_model.specs.Reaching.{reach}
-use Rattle.golf_model.specs.Running.{stops}
-use Rattle.golf_model.specs.Living.{dead, live_list}
+use Rattle.golf_model.specs.Reach.{reach}
+use Rattle.golf_model.specs.Runs.{stops}
+use Rattle.golf_model.specs.LiveSet.{dead, live_list}
 use Rattle.golf_model.proofs.Examples.Writing.{after, code_with, function, new_channel, turns, lowest, second}
 use Rattle.golf_explore_laws.specs.Laws.{NeverLeaks, NeverReports}
 

@@ -5,7 +5,7 @@ use Rattle.std.proofs.Common.{◌≡◌, List, [], ◌∷◌, inl, inr, refl, sy
 use Rattle.golf_data.specs.declared.code.Code.{Code}
 use Rattle.golf_data.specs.declared.code.Instr.{Instr}
 use Rattle.golf_model.specs.State.{State, start}
-use Rattle.golf_model.specs.Living.{dead, live_list}
+use Rattle.golf_model.specs.LiveSet.{dead, live_list}
 use Rattle.golf_model.proofs.Examples.Writing.{straight}
 use Rattle.golf_explore_laws.specs.Local.{IsLocalTurn}
 use Rattle.golf_explore_laws.specs.Closed.{after_turn, IsClosed, NoneDead}

@@ -86,7 +86,8 @@ pub closed-by : (code : Code) (visited : List State) → In (start code) visited
     → Every (λ s. IsLed code s (StandsIn code visited)) visited → IsClosed code visited
 closed-by code visited opening led = record {
   opening = ([], tt, opening);
-  plain = λ s i. led-plain code s (StandsIn code visited) (Every-at (λ s. IsLed code s (StandsIn code visited)) visited s led i);
+  plain = λ s i. led-plain code s (StandsIn code visited)
+      (Every-at (λ s. IsLed code s (StandsIn code visited)) visited s led i);
   turns = λ s i goes place choice t.
       let r = led-turns code s (StandsIn code visited)
       (Every-at (λ s. IsLed code s (StandsIn code visited)) visited s led i) goes place choice t in

@@ -5,7 +5,7 @@ use Rattle.golf_data.specs.declared.code.Instr.{Instr}
 use Rattle.golf_data.specs.declared.goroutine.Mode.{Mode}
 use Rattle.golf_data.specs.declared.goroutine.Side.{Side}
 use Rattle.golf_data.specs.declared.goroutine.WaitKind.{WaitKind}
-use Rattle.golf_model.specs.Waiting.{bare_wait, send_wait, receive_wait}
+use Rattle.golf_model.specs.Waiters.{bare_wait, send_wait, receive_wait}
 use Rattle.golf_model.proofs.Examples.Writing.{number, push, new_channel, straight, case, lowest, after, mode_of}
 
 -- goroutine 1 after so many turns

@@ -8,7 +8,7 @@ use Rattle.golf_data.specs.declared.goroutine.PanicKind.{PanicKind}
 use Rattle.golf_model.specs.State.{ending}
 use Rattle.golf_model.proofs.Examples.Writing.{number, push, straight, lowest, after, panicked}
 use Rattle.golf_model.specs.Values.{equality, reference, zero_of}
-use Rattle.golf_model.specs.Calculating.{sum, difference, product, quotient, remainder}
+use Rattle.golf_model.specs.Arithmetic.{sum, difference, product, quotient, remainder}
 use Rattle.golf_model.specs.Structures.{is_bad_size}
 
 -- the greatest and the least `int`

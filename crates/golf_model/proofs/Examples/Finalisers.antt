@@ -10,9 +10,9 @@ use Rattle.golf_data.specs.declared.goroutine.Mode.{Mode}
 use Rattle.golf_data.specs.declared.goroutine.PanicKind.{PanicKind}
 use Rattle.golf_data.specs.declared.goroutine.WaitKind.{WaitKind}
 use Rattle.golf_model.specs.State.{runnable, ending, start}
-use Rattle.golf_model.specs.Reaching.{reach}
-use Rattle.golf_model.specs.Living.{live_list, dead}
-use Rattle.golf_model.specs.Running.{finaliser_calls}
+use Rattle.golf_model.specs.Reach.{reach}
+use Rattle.golf_model.specs.LiveSet.{live_list, dead}
+use Rattle.golf_model.specs.Runs.{finaliser_calls}
 use Rattle.golf_model.proofs.Examples.Writing.{second, function, push, code_with, straight, turns, lowest, after}
 use Rattle.golf_model.proofs.Examples.Writing.{panicked, mode_of, reports, quiet}
 

@@ -13,8 +13,8 @@ use Rattle.golf_data.specs.declared.goroutine.PanicKind.{PanicKind}
 use Rattle.golf_data.specs.declared.goroutine.WaitKind.{WaitKind}
 use Rattle.golf_data.specs.declared.report.Entry.{Entry}
 use Rattle.golf_model.specs.State.{State, runnable, ending}
-use Rattle.golf_model.specs.Reaching.{reach}
-use Rattle.golf_model.specs.Living.{live_list}
+use Rattle.golf_model.specs.Reach.{reach}
+use Rattle.golf_model.specs.LiveSet.{live_list}
 use Rattle.golf_model.specs.Turn.{wants_collection}
 use Rattle.golf_model.proofs.Examples.Writing.{function, number, push, new_channel, code_with, straight, case, lowest}
 use Rattle.golf_model.proofs.Examples.Writing.{second, after, panicked, reports}

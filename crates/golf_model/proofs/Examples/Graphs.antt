@@ -34,7 +34,7 @@ pub roots_grow_twice : marked (graph ([] ∷ [] ∷ [] ∷ []) (0 ∷ [])
 unfolding least_places
 roots_grow_twice = refl
 
--- a sleeper that waits on an unmarked node alone stays asleep, and so does one that waits on nothing
+-- a sleeper that waits on an unmarked node alone stays unmarked, and so does one that waits on nothing
 pub asleep_for_ever : marked (graph ([] ∷ [] ∷ []) (0 ∷ []) (sleeper (1 ∷ []) (0 ∷ 1 ∷ []) ∷ sleeper [] (0 ∷ []) ∷ []))
     ≡ 0 ∷ []
 unfolding least_places
@@ -45,7 +45,7 @@ pub one_of_many : marked (graph ([] ∷ [] ∷ []) (1 ∷ []) (sleeper (0 ∷ 1 
 unfolding least_places
 one_of_many = refl
 
--- sleepers that wait for each other stay asleep
+-- sleepers that wait for each other stay unmarked
 pub cycle_stays_asleep : marked (graph ([] ∷ [] ∷ []) []
     (sleeper (0 ∷ []) (0 ∷ 1 ∷ []) ∷ sleeper (1 ∷ []) (0 ∷ 1 ∷ []) ∷ [])) ≡ []
 unfolding least_places

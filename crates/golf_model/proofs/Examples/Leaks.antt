@@ -1,6 +1,6 @@
 -- What is live, what is reported, and what a collection takes back.
 use Rattle.golf_theory.specs.Maps.{keys}
-use Rattle.golf_model.specs.Living.{live_objects}
+use Rattle.golf_model.specs.LiveSet.{live_objects}
 use Rattle.std.specs.Prelude.{◌≡◌, ℕ, true, false, List, [], ◌∷◌, ◌++◌, None, refl}
 use Rattle.std.specs.Fmt.{digits}
 use Rattle.golf_data.specs.declared.value.Value.{Value}
@@ -11,9 +11,9 @@ use Rattle.golf_data.specs.declared.code.Instr.{Instr}
 use Rattle.golf_data.specs.declared.code.CaseKind.{CaseKind}
 use Rattle.golf_data.specs.declared.goroutine.WaitKind.{WaitKind}
 use Rattle.golf_data.specs.declared.report.Entry.{Entry}
-use Rattle.golf_model.specs.Reaching.{reach}
-use Rattle.golf_model.specs.Living.{live_list}
-use Rattle.golf_model.specs.Reporting.{real_run, real_reports}
+use Rattle.golf_model.specs.Reach.{reach}
+use Rattle.golf_model.specs.LiveSet.{live_list}
+use Rattle.golf_model.specs.Reports.{real_run, real_reports}
 use Rattle.golf_model.proofs.Examples.Writing.{after, function, push, new_channel, code_with, turns, lowest, second}
 use Rattle.golf_model.proofs.Examples.Writing.{third, reports, quiet, case}
 

@@ -3,7 +3,7 @@ use Rattle.std.specs.Prelude.{map, replicate}
 use Rattle.golf_data.specs.declared.goroutine.Mode.{Mode}
 use Rattle.golf_data.specs.declared.goroutine.Side.{Side}
 use Rattle.golf_data.specs.declared.goroutine.WaitKind.{WaitKind}
-use Rattle.golf_model.specs.Waiting.{bare_wait}
+use Rattle.golf_model.specs.Waiters.{bare_wait}
 use Rattle.std.specs.Prelude.{◌≡◌, ℕ, true, false, List, [], ◌∷◌, ◌++◌, Some, refl, pos, negsuc}
 use Rattle.std.specs.Fmt.{digits}
 use Rattle.golf_theory.specs.Maps.{find}
@@ -64,7 +64,7 @@ conditional end =
 abbrev both_await : List ℕ
 both_await = lowest 9 ++ (third 5 ++ second 5)
 
--- under the mutex, each waiter is passed on to it, and the mutex is handed to them in that order
+-- under the mutex, each waiter is requeued on it, and the mutex is handed to them in that order
 abbrev under_mutex : Code
 under_mutex = conditional (Instr.Load 0 ∷ Instr.CondMutex ∷ Instr.Lock ∷ Instr.Load 0 ∷ Instr.CondBroadcast
     ∷ Instr.Load 0 ∷ Instr.CondMutex ∷ Instr.Unlock ∷ Instr.Return ∷ [])
@@ -72,10 +72,10 @@ under_mutex = conditional (Instr.Load 0 ∷ Instr.CondMutex ∷ Instr.Lock ∷ I
 pub nobody_runs_yet : runnable (after under_mutex (both_await ++ lowest 5)) ≡ 1 ∷ []
 nobody_runs_yet = refl
 
-pub passed_on_in_order : (after under_mutex (both_await ++ (lowest 8 ++ (second 5 ++ second 2)))).output ≡ 51 ∷ 10 ∷ 50
+pub requeued_in_order : (after under_mutex (both_await ++ (lowest 8 ++ (second 5 ++ second 2)))).output ≡ 51 ∷ 10 ∷ 50
     ∷ 10 ∷ []
 unfolding digits
-passed_on_in_order = refl
+requeued_in_order = refl
 
 -- without it, the first waiter gets the mutex at once and the second waits for it
 abbrev without_mutex : Code
@@ -85,9 +85,9 @@ pub first_gets_the_mutex : runnable (after without_mutex (both_await ++ lowest 2
 first_gets_the_mutex = refl
 
 -- it keeps what it is reported as and its line, and has the next ticket
-pub passed_on_keeps_its_kind : mode_of 2 (after without_mutex (both_await ++ lowest 2))
+pub requeued_keeps_its_kind : mode_of 2 (after without_mutex (both_await ++ lowest 2))
     ≡ Some (Mode.Blocked WaitKind.Condition 35 (bare_wait 1 Side.Lock ∷ []) 2)
-passed_on_keeps_its_kind = refl
+requeued_keeps_its_kind = refl
 
 pub second_waits_for_it : (after without_mutex (both_await ++ (lowest 2 ++ (second 5 ++ second 2)))).output ≡ 51 ∷ 10
     ∷ 50 ∷ 10 ∷ []

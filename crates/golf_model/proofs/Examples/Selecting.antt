@@ -1,7 +1,7 @@
 -- The choice of a `select`.
 use Rattle.std.specs.Prelude.{option_map}
 use Rattle.golf_theory.specs.Maps.{find}
-use Rattle.golf_model.specs.Waiting.{waits_of, send_wait}
+use Rattle.golf_model.specs.Waiters.{waits_of, send_wait}
 use Rattle.golf_model.proofs.Examples.Writing.{number}
 use Rattle.std.specs.Prelude.{◌≡◌, ℕ, List, [], ◌∷◌, ◌++◌, Some, None, refl}
 use Rattle.std.specs.Fmt.{digits}

@@ -13,9 +13,9 @@ use Rattle.golf_data.specs.declared.goroutine.Mode.{Mode}
 use Rattle.golf_data.specs.declared.goroutine.PanicKind.{PanicKind}
 use Rattle.golf_data.specs.declared.report.Report.{Report}
 use Rattle.golf_model.specs.State.{State, start}
-use Rattle.golf_model.specs.Collecting.{sets_finalisers}
-use Rattle.golf_model.specs.Running.{Event, run, stops}
-use Rattle.golf_model.specs.Reporting.{book_of}
+use Rattle.golf_model.specs.Collections.{sets_finalisers}
+use Rattle.golf_model.specs.Runs.{Event, run, stops}
+use Rattle.golf_model.specs.Reports.{book_of}
 
 -- the instructions from this line on, one a line
 abbrev pub lines_from : ℕ → List Instr → List CodeLine

@@ -13,8 +13,8 @@ use Rattle.golf_data.specs.declared.goroutine.WaitKind.{WaitKind}
 use Rattle.golf_model.specs.Views.{FrameView, GoroutineView}
 use Rattle.golf_model.specs.Values.{reference}
 use Rattle.golf_model.specs.State.{State, ending, runnable}
-use Rattle.golf_model.specs.Waiting.{bare_wait}
-use Rattle.golf_model.specs.Waking.{fault}
+use Rattle.golf_model.specs.Waiters.{bare_wait}
+use Rattle.golf_model.specs.Wakes.{fault}
 use Rattle.golf_model.specs.Changes.{Change}
 use Rattle.golf_model.specs.Turn.{turn_changes, whose_turn, step}
 use Rattle.golf_model.proofs.Examples.Writing.{straight, case, panicked}

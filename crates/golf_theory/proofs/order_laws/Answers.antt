@@ -5,7 +5,7 @@ pub returns-clause-entries : goal.returns-clause-entries
 returns-clause-entries g c = Law.entries_found _
 
 pub returns-clause-keys : goal.returns-clause-keys
-returns-clause-keys g c = Law.keys_pass _
+returns-clause-keys g c = Law.keys_satisfy _
 
 pub returns-clause-rise : goal.returns-clause-rise
 returns-clause-rise g c = Law.keys_rise _

@@ -1,5 +1,5 @@
 use Rattle.golf_model_futures.proofs.Leading.{leads-numbered}
-use Rattle.golf_model_order.proofs.Leading.{leads-whole}
+use Rattle.golf_model_futures.proofs.OrderedLeading.{leads-whole}
 use Rattle.golf_bench_machine.proofs.pairs.blocked_state.Goals as goal
 
 pub returns-clause-numbered : goal.returns-clause-numbered

@@ -1,6 +1,6 @@
 use Rattle.std.proofs.Common.{sym, subst}
 use Rattle.golf_marks.specs.Flags.{IsSet}
-use Rattle.golf_cert.specs.Verifying.{TellsPlace}
+use Rattle.golf_cert.specs.Verification.{TellsPlace}
 use Rattle.golf_cert.specs.declared.links.Link.{Link}
 use Rattle.golf_cert.proofs.VerdictLaws.{root_tells}
 use Rattle.golf_cert.proofs.verdicts.place_by.Goals as goal

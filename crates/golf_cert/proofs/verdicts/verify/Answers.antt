@@ -6,7 +6,7 @@ use Rattle.golf_cert.specs.declared.links.Link.{Link}
 use Rattle.golf_cert.specs.declared.links.Verdict.TheVariants.{Proved, Refused}
 use Rattle.golf_marks.specs.Flags.{IsSet}
 use Rattle.golf_cert.specs.Links.{places_of, IsJustifiedAmong, IsClosedSet, IsVerdictOn}
-use Rattle.golf_cert.specs.Verifying.{IsVerifying}
+use Rattle.golf_cert.specs.Verification.{IsVerifying}
 use Rattle.golf_cert.proofs.VerdictLaws.{verifying_none, verifying_more, verifying_fails, verifying_ends, closed_alike}
 use Rattle.golf_cert.proofs.VerdictLaws.{told_proved, told_refused}
 use Rattle.golf_cert.proofs.verdicts.verify.Goals as goal

@@ -7,7 +7,7 @@ use Rattle.golf_rows.specs.Rows.{row_of}
 use Rattle.golf_model.specs.Graph.{node_count, Justifies}
 use Rattle.golf_cert.specs.declared.walk.Walk.{Walk}
 use Rattle.golf_cert.specs.Steps.{referred_by}
-use Rattle.golf_cert.specs.Walking.{claimed_all}
+use Rattle.golf_cert.specs.LevelWalk.{claimed_all}
 use Rattle.golf_cert.proofs.StepLaws.{referred-justifies, woken-justifies, justified-in}
 use Rattle.golf_cert.proofs.Lists.{slice_get-some, slice_get-none}
 use Rattle.golf_cert.proofs.Claims.{level_of}

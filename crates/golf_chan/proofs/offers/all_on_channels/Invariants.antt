@@ -1,5 +1,5 @@
 use Rattle.std.proofs.Common.{◌≡◌, drop}
-use Rattle.golf_model.specs.Selecting.{all_on_channels}
+use Rattle.golf_model.specs.Selects.{all_on_channels}
 use Rattle.golf_chan.specs.Offers.{plain_offers}
 use Rattle.golf_chan.proofs.offers.all_on_channels.Given as goal
 

@@ -4,7 +4,7 @@ use Rattle.std.proofs.lemmas.List.{length-reverse}
 use Rattle.golf_data.specs.declared.value.Value.{Value}
 use Rattle.golf_data.specs.declared.code.SelectCase.{SelectCase}
 use Rattle.golf_data.specs.declared.code.CaseKind.{CaseKind}
-use Rattle.golf_model.specs.Selecting.{Taken, take_case, offers_of}
+use Rattle.golf_model.specs.Selects.{Taken, take_case, offers_of}
 use Rattle.golf_model.proofs.ViewForms.{reverse-push}
 use Rattle.golf_chan.specs.Offers.{plain_offer, plain_offers, width_of}
 use Rattle.golf_chan.specs.declared.offers.Offer.{Offer}

@@ -1,6 +1,6 @@
 use Rattle.std.proofs.Common.{◌≡◌, ◌≤◌, length, take, drop, Some}
 use Rattle.std.specs.Prelude.{reverse}
-use Rattle.golf_model.specs.Selecting.{offers_of}
+use Rattle.golf_model.specs.Selects.{offers_of}
 use Rattle.golf_chan.specs.Offers.{plain_offers}
 use Rattle.golf_chan.proofs.offers.offers_of.Given as goal
 

@@ -1,5 +1,5 @@
 use Rattle.std.proofs.Common.{◌≡◌, ◌++◌, drop}
-use Rattle.golf_model.specs.Selecting.{ready}
+use Rattle.golf_model.specs.Selects.{ready}
 use Rattle.golf_chan.specs.Offers.{plain_offers}
 use Rattle.golf_chan.proofs.offers.ready_of.Given as goal
 

@@ -1,5 +1,5 @@
 use Rattle.std.proofs.Common.{◌≡◌, ◌++◌, drop}
-use Rattle.golf_model.specs.Selecting.{offered_waits}
+use Rattle.golf_model.specs.Selects.{offered_waits}
 use Rattle.golf_chan.specs.Offers.{plain_offers}
 use Rattle.golf_chan.proofs.offers.waits_of.Given as goal
 

@@ -1,7 +1,7 @@
 use Rattle.std.proofs.Common.{◌≡◌, ◌+◌, ◌*◌, length}
 use Rattle.golf_syntax_trees.specs.declared.expressions.Expr.{size-Expr}
 use Rattle.golf_syntax_trees.specs.Spines.{shown, risen}
-use Rattle.golf_check_types.specs.Judging.{judge}
+use Rattle.golf_check_types.specs.Judgments.{judge}
 use Rattle.golf_check_names.specs.Forms.{without_late}
 use Rattle.golf_check_names.specs.Spines.{raised}
 use Rattle.golf_check_names.proofs.forms.+forming.Given as goal

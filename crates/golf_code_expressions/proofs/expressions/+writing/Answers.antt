@@ -3,8 +3,8 @@ use Rattle.golf_code_layout.specs.Piece.{Piece}
 use Rattle.golf_code_of.specs.Calls.{finalising}
 use Rattle.golf_code_facts.specs.Facts.{operand_in, next_is}
 use Rattle.golf_code_facts.specs.Expressions.{taking, arguments}
-use Rattle.golf_code_expressions.specs.Writing.{Extends}
-use Rattle.golf_code_expressions.proofs.Wholes.{passed_over, call_is, slice_is, none_written}
+use Rattle.golf_code_expressions.specs.WriterClauses.{Extends}
+use Rattle.golf_code_expressions.proofs.Wholes.{skipped_over, call_is, slice_is, none_written}
 use Rattle.golf_code_expressions.proofs.Spines.{call_sets, rises, follow_smaller}
 use Rattle.golf_code_expressions.proofs.expressions.+writing.Goals as goal
 
@@ -27,7 +27,7 @@ whole-returns-in-Call t c =
     ∙ call_is u c.args.line c.args.fact.now w.facts c.args.e.now c.in-Call.field-0 c.in-Call.xs ys c.in-Call.is
     c.as_slice-in-Call.ensures (call_sets c.args.e.now c.in-Call.field-0 c.in-Call.xs (operand_in c.args.fact.now)
     (next_is w.facts) c.in-Call.is c.requires))
-    (passed_over c.finalising_at.result _ w c.finalising_at.new.writer c.skip.new.self c.finalising_at.ensures)
+    (skipped_over c.finalising_at.result _ w c.finalising_at.new.writer c.skip.new.self c.finalising_at.ensures)
 
 pub innermost_at-returns-in_default : goal.innermost_at-returns-in_default
 innermost_at-returns-in_default t c = none_written c.args.line c.args.e.now c.args.writer.now

@@ -3,8 +3,8 @@ use Rattle.golf_syntax_trees.specs.declared.expressions.Expr.{size-Expr}
 use Rattle.golf_code_of.specs.Expressions.{elements}
 use Rattle.golf_code_of.specs.Calls.{pushes}
 use Rattle.golf_code_facts.specs.Expressions.{taking, arguments, pieces, puts}
-use Rattle.golf_code_expressions.specs.Writing.{with_piece}
-use Rattle.golf_code_expressions.specs.Spines.{Rising}
+use Rattle.golf_code_expressions.specs.WriterClauses.{with_piece}
+use Rattle.golf_code_expressions.specs.Spines.{RisingCode}
 use Rattle.golf_code_expressions.proofs.expressions.+writing.Given as goal
 
 -- the fields left, after those so far
@@ -40,7 +40,7 @@ invariant-arguments-loop-x l =
 
 -- what waits goes on with what was written
 abbrev pub invariant-expression-loop-node : goal.invariant-expression-loop-node
-invariant-expression-loop-node l = Rising l.line l.fn.e l.fn.writer l.waiting l.writer.draft
+invariant-expression-loop-node l = RisingCode l.line l.fn.e l.fn.writer l.waiting l.writer.draft
 
 abbrev pub decreases-expression-loop-node : goal.decreases-expression-loop-node
 decreases-expression-loop-node l = length l.waiting

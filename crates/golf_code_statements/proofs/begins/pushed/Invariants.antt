@@ -2,7 +2,7 @@ use Rattle.std.proofs.Common.{◌≡◌, map, drop, length}
 use Rattle.golf_code_of.specs.Calls.{pushes}
 use Rattle.golf_code_facts.specs.Facts.{skip_all}
 use Rattle.golf_code_facts.specs.Expressions.{taking, arguments}
-use Rattle.golf_code_expressions.specs.Writing.{with_piece}
+use Rattle.golf_code_expressions.specs.WriterClauses.{with_piece}
 use Rattle.golf_code_statements.proofs.begins.pushed.Given as goal
 
 abbrev pub invariant-loop-x : goal.invariant-loop-x

@@ -1,9 +1,9 @@
 use Rattle.std.proofs.Common.{◌≡◌, ◌++◌, map, drop, length}
 use Rattle.golf_check_types.specs.Types.{given, type_given}
-use Rattle.golf_code_of.specs.Calls.{Argument, pushes}
+use Rattle.golf_code_of.specs.Calls.{ArgumentCode, pushes}
 use Rattle.golf_code_facts.specs.Facts.{skip_all}
 use Rattle.golf_code_facts.specs.Expressions.{taking, arguments}
-use Rattle.golf_code_expressions.specs.Writing.{with_piece}
+use Rattle.golf_code_expressions.specs.WriterClauses.{with_piece}
 use Rattle.golf_code_statements.proofs.begins.pushed_with_types.Given as goal
 
 abbrev pub invariant-loop-x : goal.invariant-loop-x
@@ -14,7 +14,7 @@ invariant-loop-x l =
     record {
       tables : l.writer.draft.tables ≡ l.fn.writer.draft.tables;
       facts : skip_all (length (drop l.x-index l.xs)) l.writer.facts ≡ skip_all (length l.xs) l.fn.writer.facts;
-      types : l.types ++ map (λ (y : Argument). type_given (given y.meaning)) rest ≡ l.fn.types
-          ++ map (λ (y : Argument). type_given (given y.meaning)) whole;
+      types : l.types ++ map (λ (y : ArgumentCode). type_given (given y.meaning)) rest ≡ l.fn.types
+          ++ map (λ (y : ArgumentCode). type_given (given y.meaning)) whole;
       draft : with_piece l.writer.draft (pushes rest) ≡ with_piece l.fn.writer.draft (pushes whole);
     }

@@ -1,8 +1,8 @@
 use Rattle.std.proofs.Common.{◌≡◌, map, drop}
 use Rattle.golf_code_layout.specs.Piece.{all}
 use Rattle.golf_code_facts.specs.Selects.{operands_all}
-use Rattle.golf_code_facts.specs.Laying.{clause_by}
-use Rattle.golf_code_expressions.specs.Writing.{with_piece}
+use Rattle.golf_code_facts.specs.StatementCode.{clause_by}
+use Rattle.golf_code_expressions.specs.WriterClauses.{with_piece}
 use Rattle.golf_code_statements.proofs.clauses.all_operands.Given as goal
 
 abbrev pub invariant-loop-clause : goal.invariant-loop-clause

@@ -1,7 +1,7 @@
 use Rattle.std.proofs.Common.{◌≡◌, ◌++◌, map, drop}
 use Rattle.golf_code_of.specs.declared.tables.Tables.{Tables}
 use Rattle.golf_code_facts.specs.Selects.{cases_from, default_from}
-use Rattle.golf_code_facts.specs.Laying.{clause_by}
+use Rattle.golf_code_facts.specs.StatementCode.{clause_by}
 use Rattle.golf_code_statements.specs.Clauses.{first_of}
 use Rattle.golf_code_statements.proofs.clauses.choice_from.Given as goal
 

@@ -6,7 +6,7 @@ use Rattle.golf_code_of.specs.declared.tables.Tables.{Tables}
 use Rattle.golf_code_layout.specs.Emission.{onto}
 use Rattle.golf_code_facts.specs.Selects.{ClauseBy}
 use Rattle.golf_code_facts.specs.Statements.{then_lay}
-use Rattle.golf_code_facts.specs.Laying.{stmt_by, clause_by}
+use Rattle.golf_code_facts.specs.StatementCode.{stmt_by, clause_by}
 use Rattle.golf_code_expressions.specs.declared.writer.Writer.{Writer}
 use Rattle.golf_code_statements.specs.Clauses.{opened, with_clauses}
 use Rattle.golf_code_statements.specs.Lays.{around, after}

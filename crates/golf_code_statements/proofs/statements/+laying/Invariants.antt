@@ -2,7 +2,7 @@ use Rattle.std.proofs.Common.{◌≡◌, ◌≤◌, ◌+◌, ◌*◌, max, lengt
 use Rattle.golf_syntax_trees.specs.declared.statements.Stmt.{size-Stmt}
 use Rattle.golf_syntax_trees.specs.declared.statements.Clause.{size-Clause}
 use Rattle.golf_code_facts.specs.Statements.{in_order}
-use Rattle.golf_code_facts.specs.Laying.{stmt_by, clause_by}
+use Rattle.golf_code_facts.specs.StatementCode.{stmt_by, clause_by}
 use Rattle.golf_code_statements.specs.Clauses.{with_clauses}
 use Rattle.golf_code_statements.specs.Lays.{around, after}
 use Rattle.golf_code_statements.specs.Branches.{with_parts, shut}

@@ -1,5 +1,5 @@
 use Rattle.std.proofs.Common.{◌≡◌, drop}
-use Rattle.golf_code_targets.specs.Passes.{line_steps, no_lines}
+use Rattle.golf_code_targets.specs.Walks.{line_steps, no_lines}
 use Rattle.golf_code_targets.proofs.bodies.lines_of.Given as goal
 
 abbrev pub invariant-loop-part : goal.invariant-loop-part

@@ -1,5 +1,5 @@
 use Rattle.std.proofs.Common.{◌≡◌, drop}
-use Rattle.golf_code_targets.specs.Passes.{target_steps, no_targets}
+use Rattle.golf_code_targets.specs.Walks.{target_steps, no_targets}
 use Rattle.golf_code_targets.proofs.targets.targets_of.Given as goal
 
 abbrev pub invariant-loop-part : goal.invariant-loop-part

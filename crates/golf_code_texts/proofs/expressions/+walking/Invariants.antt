@@ -3,8 +3,8 @@ use Rattle.std.specs.Prelude.{flat_map}
 use Rattle.golf_syntax_trees.specs.declared.expressions.Expr.{size-Expr}
 use Rattle.golf_code_of.specs.Texts.{expr_texts}
 use Rattle.golf_code_of.proofs.TextEquations.{element_texts}
-use Rattle.golf_code_texts.specs.Adding.{with_texts}
-use Rattle.golf_code_texts.specs.Spines.{Rising}
+use Rattle.golf_code_texts.specs.AddedTexts.{with_texts}
+use Rattle.golf_code_texts.specs.Spines.{RisingTexts}
 use Rattle.golf_code_texts.proofs.expressions.+walking.Given as goal
 
 abbrev pub invariant-exprs-loop-x : goal.invariant-exprs-loop-x
@@ -17,7 +17,7 @@ invariant-elements-loop-x l = with_texts l.table (flat_map element_texts (drop l
 
 -- what waits is still to be added
 abbrev pub invariant-expr-loop-node : goal.invariant-expr-loop-node
-invariant-expr-loop-node l = Rising l.fn.e l.fn.table l.waiting l.table
+invariant-expr-loop-node l = RisingTexts l.fn.e l.fn.table l.waiting l.table
 
 abbrev pub decreases-expr-loop-node : goal.decreases-expr-loop-node
 decreases-expr-loop-node l = length l.waiting

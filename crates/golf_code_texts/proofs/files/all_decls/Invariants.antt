@@ -1,7 +1,7 @@
 use Rattle.std.proofs.Common.{◌≡◌, drop}
 use Rattle.std.specs.Prelude.{flat_map}
 use Rattle.golf_code_of.specs.Texts.{decl_texts}
-use Rattle.golf_code_texts.specs.Adding.{with_texts}
+use Rattle.golf_code_texts.specs.AddedTexts.{with_texts}
 use Rattle.golf_code_texts.proofs.files.all_decls.Given as goal
 
 abbrev pub invariant-loop-x : goal.invariant-loop-x

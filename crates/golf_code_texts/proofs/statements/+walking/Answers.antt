@@ -5,7 +5,7 @@ use Rattle.golf_syntax_trees.specs.declared.statements.Stmt.TheVariants as st
 use Rattle.golf_code_of.specs.Table.{Texts}
 use Rattle.golf_code_of.specs.Texts.{expr_texts, optional_simple_texts, stmt_texts}
 use Rattle.golf_code_of.proofs.TextEquations.{clause_texts}
-use Rattle.golf_code_texts.specs.Adding.{with_texts}
+use Rattle.golf_code_texts.specs.AddedTexts.{with_texts}
 use Rattle.golf_syntax_trees.proofs.Elses.{behind, shorter}
 use Rattle.golf_code_texts.proofs.Walks.{at_IfElse, one_more, no_more}
 use Rattle.golf_code_texts.proofs.statements.+walking.Goals as goal

@@ -4,7 +4,7 @@ use Rattle.golf_syntax_trees.specs.declared.statements.Stmt.{size-Stmt}
 use Rattle.golf_syntax_trees.specs.declared.statements.Clause.{size-Clause}
 use Rattle.golf_code_of.specs.Texts.{stmt_texts}
 use Rattle.golf_code_of.proofs.TextEquations.{clause_texts}
-use Rattle.golf_code_texts.specs.Adding.{with_texts}
+use Rattle.golf_code_texts.specs.AddedTexts.{with_texts}
 use Rattle.golf_code_texts.proofs.statements.+walking.Given as goal
 
 abbrev pub invariant-stmts-loop-stmt : goal.invariant-stmts-loop-stmt

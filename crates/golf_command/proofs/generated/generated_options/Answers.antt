@@ -1,5 +1,5 @@
 use Rattle.std.proofs.Common.{refl}
-use Rattle.golf_command.specs.Generating.{generated_options}
+use Rattle.golf_command.specs.GeneratedRuns.{generated_options}
 use Rattle.golf_command.proofs.generated.generated_options.Goals as goal
 
 pub returns-clause-options : goal.returns-clause-options

@@ -11,6 +11,6 @@ returns g c =
     let checked = c.in-Ok.checked in
     let loads = c.in-Ok.ensures in
     let l = loads.0 in
-    loaded-tells CommandLine.Meaning tt l loads.3 loads.4
-    (told-tells l.bytes checked.file l.accepts l.only c.agreement.result c.write_told.result _ _ c.agreement.ensures
+    loaded-tells CommandLine.Meaning tt l loads.1 loads.2
+    (told-tells l.bytes checked l.accepts l.only c.agreement.result c.write_told.result _ _ c.agreement.ensures
     c.write_told.ensures)

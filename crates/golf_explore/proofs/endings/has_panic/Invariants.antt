@@ -1,6 +1,6 @@
 use Rattle.std.proofs.Common.{◌≡◌, false, take}
 use Rattle.golf_explore_laws.specs.Laws.{is_panic}
-use Rattle.golf_explore.specs.Telling.{some_ended}
+use Rattle.golf_explore.specs.Results.{some_ended}
 use Rattle.golf_explore.proofs.endings.has_panic.Given as goal
 
 -- no visit so far has such an ending

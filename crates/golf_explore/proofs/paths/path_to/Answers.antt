@@ -1,7 +1,7 @@
 use Rattle.std.proofs.Common.{ℕ, ◌<◌, ◌++◌, List, length, reverse, sym, subst, ap, ◌∙◌, arith}
 use Rattle.std.proofs.lemmas.Option.{slice_get-get_or}
 use Rattle.golf_explore.specs.declared.visits.Visit.{Visit}
-use Rattle.golf_explore.specs.Visiting.{Joins, IsPathTo}
+use Rattle.golf_explore.specs.VisitLists.{Joins, IsPathTo}
 use Rattle.golf_explore.proofs.Parents.{joins-up, joins-path, reverse-adds}
 use Rattle.golf_explore.proofs.paths.path_to.Goals as goal
 

@@ -1,5 +1,5 @@
 use Rattle.std.proofs.Common.{◌<◌, length, reverse}
-use Rattle.golf_explore.specs.Visiting.{Joins}
+use Rattle.golf_explore.specs.VisitLists.{Joins}
 use Rattle.golf_explore.proofs.paths.path_to.Given as goal
 
 -- the turns so far lead from here to the visit

@@ -6,7 +6,8 @@ use Rattle.golf_data.specs.declared.value.Object.{Object}
 use Rattle.golf_heap.specs.declared.places.ObjectKey.{ObjectKey}
 use Rattle.golf_heap.specs.Objects.{kept}
 use Rattle.golf_heap.proofs.Order.{held-index}
-use Rattle.golf_heap.proofs.Freeing.{Spared, spared-less, spared-freed, gathered-kept, Holds-kept, kept_more, is-filled}
+use Rattle.golf_heap.proofs.Freeing.{Spared, spared-less, spared-freed, gathered-kept, HoldsPlaces-kept, kept_more}
+use Rattle.golf_heap.proofs.Freeing.{is-filled}
 use Rattle.golf_heap.proofs.places.free.Goals as goal
 
 pub empty-requires : goal.empty-requires
@@ -75,5 +76,5 @@ returns-clause-same c = gathered-kept c.args.slots.now c.loop-at.slots c.args.ke
     (λ i d l f. c.loop-at.invariant.spared i d l (inr f))
 
 pub returns-clause-held : goal.returns-clause-held
-returns-clause-held c = Holds-kept c.args.slots.now c.loop-at.slots c.args.keep.now c.args.places.now
+returns-clause-held c = HoldsPlaces-kept c.args.slots.now c.loop-at.slots c.args.keep.now c.args.places.now
     (λ i d l f. c.loop-at.invariant.spared i d l (inr f)) c.requires.held

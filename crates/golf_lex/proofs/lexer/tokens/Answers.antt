@@ -7,7 +7,7 @@ use Rattle.golf_lex_tokens.specs.Lexes.{Lexes, IsFault}
 use Rattle.golf_lex.specs.declared.automaton.Growth.TheVariants.{To, Over, Fault}
 use Rattle.golf_lex.specs.Automaton.{growth, begun, is_complete, step_by}
 use Rattle.golf_lex.specs.Output.{with_lexemes, finished}
-use Rattle.golf_lex.specs.Scanning.{ended}
+use Rattle.golf_lex.specs.LexemeScan.{ended}
 use Rattle.golf_lex.proofs.Follows.{over-complete}
 use Rattle.golf_lex.proofs.Runs.{fault-at, fault-end}
 use Rattle.golf_lex.proofs.Loop.{ended-line, run-more, reads-more, reads-next, run-end, reads-end, reads-lexes}

@@ -1,9 +1,9 @@
 use Rattle.std.proofs.Common.{true}
 use Rattle.std.proofs.lemmas.Result.{IfOk-weaker}
-use Rattle.golf_model.specs.Calculating.{pushes, doubles}
+use Rattle.golf_model.specs.Arithmetic.{pushes, doubles}
 use Rattle.golf_model.specs.Views.{frame_view}
 use Rattle.golf_machine.proofs.Inner.{done-same}
-use Rattle.golf_machine.proofs.Turns.{first-is}
+use Rattle.golf_machine.proofs.TurnLaws.{first-is}
 use Rattle.golf_machine.proofs.within.double.Goals as goal
 
 pub returns-in-Some-clause-ok : goal.returns-in-Some-clause-ok

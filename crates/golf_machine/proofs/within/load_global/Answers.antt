@@ -1,6 +1,6 @@
 use Rattle.std.proofs.Common.{true}
 use Rattle.std.proofs.lemmas.Result.{IfOk-weaker}
-use Rattle.golf_model.specs.Calculating.{pushes, loads_global}
+use Rattle.golf_model.specs.Arithmetic.{pushes, loads_global}
 use Rattle.golf_model.specs.Views.{frame_view}
 use Rattle.golf_machine.proofs.Inner.{done-same}
 use Rattle.golf_machine.proofs.within.load_global.Goals as goal

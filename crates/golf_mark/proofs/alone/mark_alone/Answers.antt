@@ -3,7 +3,7 @@ use Rattle.golf_theory.specs.Membership.{In}
 use Rattle.golf_theory.proofs.Lists.{In-get_or}
 use Rattle.golf_model.specs.Graph.{node_count, sleeper_count, Least}
 use Rattle.golf_marks.specs.Flags.{HasMarked}
-use Rattle.golf_mark.specs.Working.{Gains}
+use Rattle.golf_mark.specs.UnderWay.{Gains}
 use Rattle.golf_mark.proofs.Ranges.{Least-below}
 use Rattle.golf_mark.proofs.Marked.{HasMarked-same}
 use Rattle.golf_mark.proofs.Turns.{slice_get-some, slice_get-none, begins, goes_on, ends}

@@ -13,8 +13,8 @@ use Rattle.golf_marks.specs.Seats.{graph_in, claimed, known, claim_count}
 use Rattle.golf_grey.specs.declared.hand.GreyHand.{GreyHand}
 use Rattle.golf_grey.specs.Hands.{AreAllHands, pushed_by, taken_by}
 use Rattle.golf_grey.proofs.Stages.{at_end}
-use Rattle.golf_mark.specs.Marking.{MarksLeast}
-use Rattle.golf_mark.specs.Gathering.{Finisher, IsHandedOver}
+use Rattle.golf_mark.specs.MarkingResult.{MarksLeast}
+use Rattle.golf_mark.specs.MergedMarkers.{Finisher, IsHandedOver}
 use Rattle.golf_mark.proofs.Gathers.{gathered_first, gathered_more, last_in, AllTakenIn, covers, handed_first}
 use Rattle.golf_mark.proofs.Gathers.{handed_more, hands_of, even_of}
 use Rattle.golf_mark.proofs.Marked.{HasMarked-same}

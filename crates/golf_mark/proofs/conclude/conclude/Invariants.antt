@@ -1,7 +1,7 @@
 use Rattle.std.proofs.Common.{◌≡◌, ◌+◌, ◌≤◌, length, []}
 use Rattle.golf_marks.specs.Places.{place_count}
 use Rattle.golf_marks.specs.Seats.{graph_in, claimed}
-use Rattle.golf_mark.specs.Gathering.{IsGathered, IsHandedOver}
+use Rattle.golf_mark.specs.MergedMarkers.{IsGathered, IsHandedOver}
 use Rattle.golf_mark.proofs.conclude.conclude.Given as goal
 
 abbrev pub invariant-loop-marker : goal.invariant-loop-marker

@@ -6,7 +6,7 @@ use Rattle.golf_theory.proofs.Sums.{at_index}
 use Rattle.golf_model.specs.declared.graph.GraphParts.{GraphParts}
 use Rattle.golf_model.specs.Graph.{node_count}
 use Rattle.golf_marks.specs.Places.{place_count}
-use Rattle.golf_mark.specs.Gathering.{IsRooted}
+use Rattle.golf_mark.specs.MergedMarkers.{IsRooted}
 use Rattle.golf_mark.proofs.Readying.{all_fresh_set, parts_set, rooted_set}
 use Rattle.golf_mark.proofs.deal.deal.Goals as goal
 

@@ -1,8 +1,8 @@
 use Rattle.std.proofs.Common.{◌≡◌, [], List, length, sym, subst, ap, ◌∙◌, arith}
 use mathlib.Core.Option.{some-ne-none}
 use Rattle.golf_mark.specs.declared.marker.Marker.{Marker}
-use Rattle.golf_mark.specs.Gathering.{marker_parts}
-use Rattle.golf_mark.specs.Ready.{AllFresh}
+use Rattle.golf_mark.specs.MergedMarkers.{marker_parts}
+use Rattle.golf_mark.specs.Ready.{AreFreshMarkers}
 use Rattle.golf_mark.proofs.Readying.{equipped}
 use Rattle.golf_mark.proofs.deal.equip.Goals as goal
 
@@ -16,7 +16,7 @@ loop-hand-init c =
       new_hands = c.requires.new;
       count = omega (arith, ap length none, c.requires.hands.0);
       parts = omega (arith, ap marker_parts none, c.requires.same);
-      fresh = subst (λ (l : List Marker). AllFresh c.args.marks.now c.args.pool.now l) (sym none)
+      fresh = subst (λ (l : List Marker). AreFreshMarkers c.args.marks.now c.args.pool.now l) (sym none)
           (λ k m at. absurd (some-ne-none m (sym at)));
     }
 

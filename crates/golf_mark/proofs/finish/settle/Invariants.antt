@@ -1,5 +1,5 @@
-use Rattle.golf_mark.specs.Finishing.{IsIdle, IsPending, KeepsSeat}
-use Rattle.golf_mark.specs.Scanning.{IsCovered}
+use Rattle.golf_mark.specs.FinishingScan.{IsIdle, IsPending, KeepsSeat}
+use Rattle.golf_mark.specs.ScannerState.{IsCovered}
 use Rattle.golf_mark.proofs.finish.settle.Given as goal
 
 abbrev pub invariant-loop-place : goal.invariant-loop-place

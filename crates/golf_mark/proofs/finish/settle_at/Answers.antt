@@ -4,8 +4,8 @@ use Rattle.golf_theory.proofs.Lists.{In-push}
 use Rattle.golf_theory.proofs.Times.{none-times}
 use Rattle.golf_model.specs.declared.graph.GraphParts.{GraphParts}
 use Rattle.golf_marks.specs.Seats.{known, claimed}
-use Rattle.golf_mark.specs.Scanning.{with_seat}
-use Rattle.golf_mark.specs.Working.{IsScanned}
+use Rattle.golf_mark.specs.ScannerState.{with_seat}
+use Rattle.golf_mark.specs.UnderWay.{IsScanned}
 use Rattle.golf_mark.proofs.Winning.{keeps_known}
 use Rattle.golf_mark.proofs.Settling.{looked, idle_looked, passes_over, settled_at, won_known}
 use Rattle.golf_mark.proofs.finish.settle_at.Goals as goal

@@ -5,8 +5,8 @@ use Rattle.golf_base.specs.Roomy.{Roomy}
 use Rattle.golf_model.specs.declared.graph.GraphParts.{GraphParts}
 use Rattle.golf_marks.specs.Places.{place_count}
 use Rattle.golf_marks.specs.Seats.{graph_in, known}
-use Rattle.golf_mark.specs.Finishing.{IsPending}
-use Rattle.golf_mark.specs.Working.{IsScanned}
+use Rattle.golf_mark.specs.FinishingScan.{IsPending}
+use Rattle.golf_mark.specs.UnderWay.{IsScanned}
 use Rattle.golf_mark.proofs.Settling.{settles, settles_less}
 use Rattle.golf_mark.proofs.finish.settle_won.Goals as goal
 

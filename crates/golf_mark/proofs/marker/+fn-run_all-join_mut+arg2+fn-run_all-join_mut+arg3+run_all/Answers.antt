@@ -1,6 +1,6 @@
 use Rattle.std.proofs.Common.{◌≡◌, ◌++◌, List, subst, rules}
 use Rattle.golf_mark.specs.declared.marker.Marker.{Marker}
-use Rattle.golf_mark.specs.Turning.{EachRuns}
+use Rattle.golf_mark.specs.MarkerTurns.{EachRuns}
 use Rattle.golf_mark.proofs.Running.{EachRuns-append}
 use Rattle.golf_mark.proofs.marker.+fn-run_all-join_mut+arg2+fn-run_all-join_mut+arg3+run_all.Goals as goal
 

@@ -1,5 +1,5 @@
-use Rattle.golf_mark.specs.Turning.{Runs}
+use Rattle.golf_mark.specs.MarkerTurns.{TakesTurns}
 use Rattle.golf_mark.proofs.marker.run.Given as goal
 
 abbrev pub invariant-loop-turn : goal.invariant-loop-turn
-invariant-loop-turn g l = Runs l.shared.marks.now l.shared.pool.now l.initial.marker l.marker
+invariant-loop-turn g l = TakesTurns l.shared.marks.now l.shared.pool.now l.initial.marker l.marker

@@ -3,7 +3,7 @@ use Rattle.golf_theory.specs.Membership.{In}
 use Rattle.golf_theory.proofs.Lists.{In-push}
 use Rattle.golf_model.specs.declared.graph.GraphParts.{GraphParts}
 use Rattle.golf_marks.specs.Seats.{known}
-use Rattle.golf_mark.specs.Working.{IsScanned}
+use Rattle.golf_mark.specs.UnderWay.{IsScanned}
 use Rattle.golf_mark.proofs.Attending.{Attends-scanned, Attends-deferred}
 use Rattle.golf_mark.proofs.Winning.{keeps_known, Wins-looked}
 use Rattle.golf_mark.proofs.marker.scan_or_defer.Goals as goal

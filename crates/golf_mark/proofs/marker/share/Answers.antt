@@ -1,12 +1,13 @@
 use Rattle.std.proofs.Common.{◌-◌, ◌∷◌, [], ◌++◌, ◌∙◌, ℕ, List, inl, refl, sym, ap, subst, arith}
 use Rattle.golf_theory.specs.Membership.{In}
-use Rattle.golf_mark.proofs.Running.{Runs-idle, Runs-shared}
+use Rattle.golf_mark.proofs.Running.{TakesTurns-idle, TakesTurns-shared}
 use Rattle.golf_mark.proofs.marker.share.Goals as goal
 
 pub returns-then-len-ge-SHARED : goal.returns-then-len-ge-SHARED
 returns-then-len-ge-SHARED c =
     let a = c.args.marker.now in
-    Runs-idle c.args.shared.now.marks.now c.args.shared.now.pool.now a a.scanner.won c.len-2.new.hand c.requires refl
+    TakesTurns-idle c.args.shared.now.marks.now c.args.shared.now.pool.now a a.scanner.won c.len-2.new.hand c.requires
+    refl
     refl
     (record {
       fits = c.len-2.ensures.hand;
@@ -18,7 +19,7 @@ returns-then-len-ge-SHARED c =
 pub returns : goal.returns
 returns c =
     let a = c.args.marker.now in
-    Runs-shared c.args.shared.now.marks.now c.args.shared.now.pool.now
+    TakesTurns-shared c.args.shared.now.marks.now c.args.shared.now.pool.now
     (a.budget - 1) a c.shift.new.self c.push.new.hand c.requires c.in-Some.ensures.items c.in-Some.ensures.spare
     (record {
       fits = c.push.ensures.hand;

@@ -1,9 +1,9 @@
 use Rattle.std.proofs.Common.{refl, arith}
-use Rattle.golf_mark.proofs.Running.{IsMarkerOf-hand, Runs-trans, Runs-idle, Runs-turn}
+use Rattle.golf_mark.proofs.Running.{IsMarkerOf-hand, TakesTurns-trans, TakesTurns-idle, TakesTurns-turn}
 use Rattle.golf_mark.proofs.marker.step.Goals as goal
 
 pub returns-then-scan_own : goal.returns-then-scan_own
-returns-then-scan_own c = Runs-trans c.args.shared.now.marks.now c.args.shared.now.pool.now c.args.marker.now
+returns-then-scan_own c = TakesTurns-trans c.args.shared.now.marks.now c.args.shared.now.pool.now c.args.marker.now
     c.scan_own.new.marker c.share.new.marker c.scan_own.ensures c.share.ensures
 
 pub returns-in_default : goal.returns-in_default
@@ -11,8 +11,8 @@ returns-in_default c =
     let marks = c.args.shared.now.marks.now in
     let pool = c.args.shared.now.pool.now in
     let b = c.scan_own.new.marker in
-    Runs-trans marks pool c.args.marker.now b (record b { hand = c.seek.new.hand }) c.scan_own.ensures
-    (Runs-idle marks pool b b.scanner.won c.seek.new.hand c.scan_own.ensures.fits refl refl
+    TakesTurns-trans marks pool c.args.marker.now b (record b { hand = c.seek.new.hand }) c.scan_own.ensures
+    (TakesTurns-idle marks pool b b.scanner.won c.seek.new.hand c.scan_own.ensures.fits refl refl
     (record {
       fits = c.in_default.ensures.hand;
       pushed = c.in_default.ensures.pushed;
@@ -31,11 +31,11 @@ returns c =
     let pool = c.args.shared.now.pool.now in
     let b = c.scan_own.new.marker in
     let d = c.scan_or_defer.new.marker in
-    let taken = Runs-turn marks pool c.in-Some.place b
+    let taken = TakesTurns-turn marks pool c.in-Some.place b
     (record b { hand = c.seek.new.hand }) d refl refl c.in-Some.ensures.number c.in-Some.ensures.took
     c.scan_or_defer.ensures in
-    Runs-trans marks pool c.args.marker.now b c.share-2.new.marker c.scan_own.ensures
-    (Runs-trans marks pool b d c.share-2.new.marker taken c.share-2.ensures)
+    TakesTurns-trans marks pool c.args.marker.now b c.share-2.new.marker c.scan_own.ensures
+    (TakesTurns-trans marks pool b d c.share-2.new.marker taken c.share-2.ensures)
 
 pub scan_or_defer-requires-clause-place : goal.scan_or_defer-requires-clause-place
 scan_or_defer-requires-clause-place c = omega (arith, c.in-Some.ensures.place, c.scan_own.ensures.fits.places)

@@ -1,7 +1,7 @@
 use Rattle.std.proofs.Common.{ℕ, ◌+◌, ◌<◌, get_or}
 use Rattle.golf_theory.specs.Membership.{In}
 use Rattle.golf_marks.specs.Seats.{known}
-use Rattle.golf_mark.specs.Scanning.{Wins}
+use Rattle.golf_mark.specs.ScannerState.{Wins}
 use Rattle.golf_mark.proofs.scanner.awaken.Given as goal
 
 abbrev pub invariant-loop-sleeper : goal.invariant-loop-sleeper

@@ -2,7 +2,7 @@ use Rattle.std.proofs.Common.{◌≡◌, ℕ, ◌<◌, ◌⊎◌, ◌∷◌, get
 use Rattle.golf_theory.specs.Membership.{In}
 use Rattle.golf_marks.specs.Batches.{batched}
 use Rattle.golf_marks.specs.Seats.{known}
-use Rattle.golf_mark.specs.Scanning.{Wins}
+use Rattle.golf_mark.specs.ScannerState.{Wins}
 use Rattle.golf_mark.proofs.scanner.claim_all.Given as goal
 
 abbrev pub invariant-loop-place : goal.invariant-loop-place

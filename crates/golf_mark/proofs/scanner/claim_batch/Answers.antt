@@ -7,7 +7,7 @@ use Rattle.golf_model.specs.Graph.{Justifies}
 use Rattle.golf_marks.specs.Batches.{batched}
 use Rattle.golf_marks.specs.Places.{place_count, IsJustified}
 use Rattle.golf_marks.specs.Seats.{graph_in, claimed, known}
-use Rattle.golf_mark.specs.Scanning.{with_seat}
+use Rattle.golf_mark.specs.ScannerState.{with_seat}
 use Rattle.golf_mark.proofs.Winning.{Wins-trans, Wins-looked, Wins-won}
 use Rattle.golf_mark.proofs.scanner.claim_batch.Goals as goal
 

@@ -5,7 +5,7 @@ use Rattle.golf_model.specs.declared.graph.GraphParts.{GraphParts}
 use Rattle.golf_model.specs.Graph.{node_count, children_of, sleeper_references, Justifies}
 use Rattle.golf_marks.specs.Places.{place_count, IsJustified}
 use Rattle.golf_marks.specs.Seats.{graph_in, known}
-use Rattle.golf_mark.specs.Working.{IsScanned}
+use Rattle.golf_mark.specs.UnderWay.{IsScanned}
 use Rattle.golf_mark.proofs.Ranges.{children-nodes, references-nodes, waits-below}
 use Rattle.golf_mark.proofs.Scans.{scanned_node, scanned_sleeper}
 use Rattle.golf_mark.proofs.Winning.{Wins-trans}

@@ -2,7 +2,7 @@ use Rattle.std.proofs.Common.{◌≡◌, ℕ, ◌+◌, ◌-◌, ◌<◌, List, a
 use Rattle.golf_theory.specs.Membership.{In, Every}
 use Rattle.golf_theory.proofs.Lists.{Every-from, Every-weaker}
 use Rattle.golf_model.specs.Graph.{node_count, children_of, sleeper_references, Justifies}
-use Rattle.golf_mark.specs.Working.{IsScanned}
+use Rattle.golf_mark.specs.UnderWay.{IsScanned}
 use Rattle.golf_mark.proofs.Ranges.{children-nodes, references-nodes, waits-below}
 use Rattle.golf_mark.proofs.Gaining.{Gains-trans, Gains-into, Gains-keeps}
 use Rattle.golf_mark.proofs.Scans.{scanned_node, scanned_sleeper}

@@ -2,9 +2,9 @@ use Rattle.std.proofs.Common.{◌≡◌, ℕ, ◌-◌, not, filter, length, map,
 use Rattle.std.proofs.lemmas.List.{length-map}
 use Rattle.golf_theory.specs.Membership.{is_in}
 use Rattle.golf_model.specs.Views.{GoroutineView}
-use Rattle.golf_model.specs.Collecting.{removed}
-use Rattle.golf_model.specs.Reporting.{numbers}
-use Rattle.golf_reclaim.specs.Noting.{stays_reported}
+use Rattle.golf_model.specs.Collections.{removed}
+use Rattle.golf_model.specs.Reports.{numbers}
+use Rattle.golf_reclaim.specs.RunBook.{stays_reported}
 use Rattle.golf_reclaim.proofs.Reports.{report-is, book-is, can-note}
 use Rattle.golf_reclaim.proofs.PlainReports.{report-plain, book-plain}
 use Rattle.golf_reclaim.proofs.States.{zero-stays, queued-alike, collected, stays-are}

@@ -1,6 +1,6 @@
 use Rattle.std.proofs.Common.{◌≡◌, ◌++◌, not, filter, take}
 use Rattle.golf_theory.specs.Membership.{is_in}
-use Rattle.golf_model.specs.Reporting.{numbers}
+use Rattle.golf_model.specs.Reports.{numbers}
 use Rattle.golf_reclaim.proofs.ledger.add_unlisted.Given as goal
 
 -- those so far

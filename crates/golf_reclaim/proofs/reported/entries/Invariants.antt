@@ -1,5 +1,5 @@
 use Rattle.std.proofs.Common.{◌≡◌, take}
-use Rattle.golf_model.specs.Reporting.{entries, numbers}
+use Rattle.golf_model.specs.Reports.{entries, numbers}
 use Rattle.golf_reclaim.proofs.reported.entries.Given as goal
 
 -- those so far

@@ -1,10 +1,10 @@
 use Rattle.std.proofs.Common.{refl, sym, subst, ap, ◌∙◌}
 use Rattle.std.specs.Io.KnownBytes.{Appends}
 use Rattle.golf_model.specs.Presence.{IsWhole}
-use Rattle.golf_reclaim.specs.Noting.{AreGone}
+use Rattle.golf_reclaim.specs.RunBook.{AreGone}
 use Rattle.golf_run_texts.specs.Output.{joined}
 use Rattle.golf_run.specs.Told.{told_by, totalled, noted, collected}
-use Rattle.golf_run.specs.Coming.{coming_left}
+use Rattle.golf_run.specs.PendingEvents.{pending_left}
 use Rattle.golf_run.specs.HasRun.{sinks}
 use Rattle.golf_run.specs.UnderWay.{IsGoing}
 use Rattle.golf_run.specs.HasGone.{WentThrough}
@@ -89,7 +89,7 @@ loop-book-preserved g c =
     let next = come-next a.come c.loop-book.invariant.going in
     record {
       going = subst (λ s. IsGoing c.args.code.now c.args.options
-          (coming_left c.advance.new.coming) c.advance.new.coming.events.done s c.loop-book.book c.loop-book.totals
+          (pending_left c.advance.new.coming) c.advance.new.coming.events.done s c.loop-book.book c.loop-book.totals
           (sinks (g.O.Sink.written c.args.out.now) (g.O.Sink.faults c.args.out.now) (g.E.Sink.written c.args.err.now)
           (g.E.Sink.faults c.args.err.now))
           (sinks (g.O.Sink.written c.advance.new.out) (g.O.Sink.faults c.advance.new.out)

@@ -1,6 +1,6 @@
 use Rattle.std.proofs.Common.{List, refl, ap, ◌∙◌, [], map}
 use Rattle.golf_base.specs.declared.ids.GoroutineId.{GoroutineId}
-use Rattle.golf_snapshot.specs.Stepping.{sleepers_of}
+use Rattle.golf_snapshot.specs.MapEntries.{sleepers_of}
 use Rattle.golf_snapshot.proofs.Stepping.{gather-init, gather-listed, gather-end}
 use Rattle.golf_snapshot.proofs.Gathering.{AwakeNodes, awake-append, sleepers-append}
 use Rattle.golf_snapshot.proofs.goroutines.add_awake.Goals as goal

@@ -1,6 +1,6 @@
 use Rattle.std.proofs.Common.{◌≡◌, ◌++◌, take}
 use Rattle.golf_snapshot.specs.Parts.{ranks, awake_refs}
-use Rattle.golf_snapshot.specs.Stepping.{sleepers_of}
+use Rattle.golf_snapshot.specs.MapEntries.{sleepers_of}
 use Rattle.golf_snapshot.proofs.goroutines.add_awake.Given as goal
 
 -- what the goroutines so far gave

@@ -1,6 +1,6 @@
 use Rattle.std.proofs.Common.{arith, ap, ◌∙◌, ◌++◌, ◌∷◌, [], List, ℕ}
 use Rattle.golf_snapshot.specs.Parts.{ranks, row_of}
-use Rattle.golf_snapshot.specs.Stepping.{refs_at}
+use Rattle.golf_snapshot.specs.MapEntries.{refs_at}
 use Rattle.golf_theory.proofs.MapOrder.{Rises-less}
 use Rattle.golf_snapshot.proofs.Stepping.{entry-of-key, find-at, map-next, map-done}
 use Rattle.golf_snapshot.proofs.nodes.children.Goals as goal

@@ -3,7 +3,7 @@ use Rattle.std.proofs.Common.{◌∙◌, append-nil, arith}
 use Rattle.std.specs.Prelude.{unwrap_or}
 use Rattle.std.proofs.lemmas.List.{take_all}
 use Rattle.std.proofs.lemmas.Option.{slice_get-get_or}
-use Rattle.golf_snapshot.specs.Stepping.{finalised_rows}
+use Rattle.golf_snapshot.specs.MapEntries.{finalised_rows}
 use Rattle.golf_snapshot.proofs.Staying.{rows-more}
 use Rattle.golf_snapshot.proofs.retained.add_finalised_rows.Goals as goal
 use Rattle.golf_snapshot.proofs.retained.add_finalised_rows.Goals.{then-finalised+in_ok-extend_from_slice}

@@ -1,5 +1,5 @@
 use Rattle.std.proofs.Common.{◌≡◌, ◌++◌, take}
-use Rattle.golf_snapshot.specs.Stepping.{finalised_rows}
+use Rattle.golf_snapshot.specs.MapEntries.{finalised_rows}
 use Rattle.golf_snapshot.proofs.retained.add_finalised_rows.Given as goal
 
 -- the nodes so far

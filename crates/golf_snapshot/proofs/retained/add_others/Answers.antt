@@ -2,7 +2,7 @@ use Rattle.std.proofs.Common.{◌≡◌, ℕ, ◌+◌, Bool, true, false, not, L
 use Rattle.std.proofs.Common.{arith}
 use Rattle.golf_theory.specs.Membership.{is_in}
 use Rattle.golf_base.specs.declared.ids.GoroutineId.{GoroutineId}
-use Rattle.golf_snapshot.specs.Stepping.{sleepers_of}
+use Rattle.golf_snapshot.specs.MapEntries.{sleepers_of}
 use Rattle.golf_snapshot.proofs.Stepping.{entry-listed, gather-init, gather-listed, gather-end}
 use Rattle.golf_snapshot.proofs.Gathering.{TestedNodes, tested-append}
 use Rattle.golf_snapshot.proofs.Staying.{next-within, next-sleeps, else-awake, count-next, sleeper-nodes}

@@ -2,7 +2,7 @@ use Rattle.std.proofs.Common.{◌≡◌, ◌++◌, length, take, map, not}
 use Rattle.golf_theory.specs.Membership.{is_in}
 use Rattle.golf_model.specs.Refs.{goroutine_refs_where}
 use Rattle.golf_snapshot.specs.Parts.{ranks}
-use Rattle.golf_snapshot.specs.Stepping.{sleepers_of}
+use Rattle.golf_snapshot.specs.MapEntries.{sleepers_of}
 use Rattle.golf_snapshot.proofs.retained.add_others.Given as goal
 
 -- what the goroutines so far gave, and how many of them are sleepers

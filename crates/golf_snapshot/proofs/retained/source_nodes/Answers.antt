@@ -7,7 +7,7 @@ use Rattle.golf_model.specs.Values.{refs}
 use Rattle.golf_model.specs.Refs.{queue_refs, refs_where, goroutine_refs_where, has_finaliser}
 use Rattle.golf_model.specs.declared.graph.GraphParts.{GraphParts}
 use Rattle.golf_snapshot.specs.Parts.{ranks}
-use Rattle.golf_snapshot.specs.Stepping.{finalised_rows}
+use Rattle.golf_snapshot.specs.MapEntries.{finalised_rows}
 use Rattle.golf_snapshot.proofs.Gathering.{four-pieces}
 use Rattle.golf_snapshot.proofs.Staying.{rows-ranks}
 use Rattle.golf_snapshot.proofs.retained.source_nodes.Goals as goal

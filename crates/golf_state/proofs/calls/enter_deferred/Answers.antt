@@ -1,4 +1,4 @@
-use Rattle.golf_state.specs.Going.{undeferred}
+use Rattle.golf_state.specs.FrameChanges.{undeferred}
 use Rattle.golf_state.proofs.Tops.{below_changed}
 use Rattle.golf_state.proofs.calls.enter_deferred.Goals as goal
 

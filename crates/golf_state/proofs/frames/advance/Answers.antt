@@ -1,5 +1,5 @@
 use Rattle.std.proofs.Common.{[]}
-use Rattle.golf_state.specs.Going.{went}
+use Rattle.golf_state.specs.FrameChanges.{went}
 use Rattle.golf_state.proofs.Tops.{top_changed}
 use Rattle.golf_state.proofs.frames.advance.Goals as goal
 

@@ -1,6 +1,6 @@
 use Rattle.std.proofs.lemmas.Result.{err_from_is_err_and}
 use Rattle.golf_state.specs.Looked.{values_of}
-use Rattle.golf_state.specs.Going.{went}
+use Rattle.golf_state.specs.FrameChanges.{went}
 use Rattle.golf_state.proofs.Tops.{top_changed, top_same}
 use Rattle.golf_state.proofs.frames.advance_with.Goals as goal
 

@@ -1,5 +1,5 @@
 use Rattle.std.proofs.lemmas.Result.{err_from_is_err_and}
-use Rattle.golf_state.specs.Going.{has_deferred}
+use Rattle.golf_state.specs.FrameChanges.{has_deferred}
 use Rattle.golf_state.proofs.Tops.{top_changed, top_same}
 use Rattle.golf_state.proofs.frames.defer.Goals as goal
 

@@ -1,4 +1,4 @@
-use Rattle.golf_model.specs.Waking.{resumed_frame}
+use Rattle.golf_model.specs.Wakes.{resumed_frame}
 use Rattle.golf_state.specs.Looked.{values_of}
 use Rattle.golf_state.proofs.Tops.{top_changed}
 use Rattle.golf_state.proofs.frames.resume.Goals as goal

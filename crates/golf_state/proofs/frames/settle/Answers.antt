@@ -1,7 +1,7 @@
 use Rattle.std.proofs.Common.{List, [], ap}
 use Rattle.std.proofs.lemmas.Result.{err_from_is_err_and}
 use Rattle.golf_model.specs.Views.{FrameView, GoroutineView}
-use Rattle.golf_state.specs.Going.{went}
+use Rattle.golf_state.specs.FrameChanges.{went}
 use Rattle.golf_state.proofs.Tops.{top_changed, top_same}
 use Rattle.golf_state.proofs.Readiness.{room-set}
 use Rattle.golf_state.proofs.frames.settle.Goals as goal

@@ -6,9 +6,9 @@ use Rattle.golf_data.specs.declared.value.Value.{Value}
 use Rattle.golf_model.specs.Views.{frame_views}
 use Rattle.golf_model.specs.State.{State}
 use Rattle.golf_model.specs.Changes.{Change}
-use Rattle.golf_model.specs.Acting.{Actor, stands}
-use Rattle.golf_model.specs.Waking.{on_top}
-use Rattle.golf_state.specs.Going.{went}
+use Rattle.golf_model.specs.Actors.{Actor, stands}
+use Rattle.golf_model.specs.Wakes.{on_top}
+use Rattle.golf_state.specs.FrameChanges.{went}
 use Rattle.golf_state.specs.Looked.{frames_in, is_running_in}
 use Rattle.golf_state.proofs.Doings.{does-is, found-after, taken-back}
 use Rattle.golf_state.proofs.outcome.make_onto.Goals as goal

@@ -4,13 +4,13 @@ use Rattle.golf_data.specs.declared.value.Value.{Value}
 use Rattle.golf_theory.specs.Maps.{find}
 use Rattle.golf_model.specs.Views.{FrameView, frame_views}
 use Rattle.golf_model.specs.State.{State}
-use Rattle.golf_model.specs.Waking.{on_top}
+use Rattle.golf_model.specs.Wakes.{on_top}
 use Rattle.golf_model.specs.Values.{reference}
 use Rattle.golf_model.specs.Changes.{apply_all}
-use Rattle.golf_model.specs.Acting.{stands, goes}
+use Rattle.golf_model.specs.Actors.{stands, goes}
 use Rattle.golf_model.specs.Structures.{makes}
-use Rattle.golf_state.specs.Doing.{Stands}
-use Rattle.golf_state.specs.Going.{exchanged}
+use Rattle.golf_state.specs.ActorChanges.{Stands}
+use Rattle.golf_state.specs.FrameChanges.{exchanged}
 use Rattle.golf_state.specs.Operands.{top_operands}
 use Rattle.golf_state.proofs.Doings.{does-is, actor_of, stands-is, frames-is, exchanged-is}
 use Rattle.golf_state.proofs.outcome.make_over.Goals as goal

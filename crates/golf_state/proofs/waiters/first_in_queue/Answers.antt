@@ -4,7 +4,7 @@ use Rattle.std.specs.Prelude.{option_map}
 use Rattle.std.proofs.lemmas.List.{drop_more}
 use Rattle.golf_data.specs.declared.goroutine.Side.{Side}
 use Rattle.golf_model.specs.Views.{GoroutineView}
-use Rattle.golf_model.specs.Waiting.{Waiter}
+use Rattle.golf_model.specs.Waiters.{Waiter}
 use Rattle.golf_state_queues.specs.WaitQueues.{held}
 use Rattle.golf_state_queues.specs.declared.holders.TicketHolder.{TicketHolder}
 use Rattle.golf_state_goroutines.specs.Places.{plain_entries}

@@ -3,7 +3,7 @@ use Rattle.std.proofs.Common.{◌∙◌, arith, Option}
 use Rattle.std.specs.Prelude.{option_map}
 use Rattle.std.proofs.lemmas.List.{length-map}
 use Rattle.golf_model.specs.Views.{GoroutineView}
-use Rattle.golf_model.specs.Waiting.{first, waiter_of}
+use Rattle.golf_model.specs.Waiters.{first, waiter_of}
 use Rattle.golf_state_goroutines.specs.Places.{plain_entry, plain_entries}
 use Rattle.golf_state.specs.Seen.{sooner}
 use Rattle.golf_state.specs.Waited.{waiting_of}

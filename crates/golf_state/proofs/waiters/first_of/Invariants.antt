@@ -1,7 +1,7 @@
 use Rattle.std.proofs.Common.{◌≡◌, ◌≤◌, ℕ, List, ◌++◌, drop, length}
 use Rattle.std.specs.Prelude.{option_map}
 use Rattle.golf_model.specs.Views.{GoroutineView}
-use Rattle.golf_model.specs.Waiting.{first}
+use Rattle.golf_model.specs.Waiters.{first}
 use Rattle.golf_state_goroutines.specs.Places.{plain_entries}
 use Rattle.golf_state.specs.Waited.{waiting_of}
 use Rattle.golf_state.proofs.waiters.first_of.Given as goal

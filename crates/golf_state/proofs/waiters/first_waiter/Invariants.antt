@@ -1,6 +1,6 @@
 use Rattle.std.proofs.Common.{◌≡◌, ◌≤◌, drop, length}
 use Rattle.std.specs.Prelude.{option_map}
-use Rattle.golf_model.specs.Waiting.{first}
+use Rattle.golf_model.specs.Waiters.{first}
 use Rattle.golf_state_goroutines.specs.Blocks.{places_in}
 use Rattle.golf_state_goroutines.specs.Places.{plain_entries}
 use Rattle.golf_state.specs.Waited.{waiting_of}

@@ -1,5 +1,5 @@
 use Rattle.std.proofs.Common.{◌≡◌, drop}
-use Rattle.golf_model.specs.Waiting.{wait_for}
+use Rattle.golf_model.specs.Waiters.{wait_for}
 use Rattle.golf_state.proofs.waiters.wait_for.Given as goal
 
 -- none of the waits so far fits

@@ -6,12 +6,12 @@ use Rattle.golf_theory.specs.Maps.{find}
 use Rattle.golf_model.specs.Views.{FrameView, GoroutineView}
 use Rattle.golf_model.specs.State.{State}
 use Rattle.golf_model.specs.Changes.{Change, apply_all}
-use Rattle.golf_model.specs.Acting.{Actor, standing, blocks, next, at_mutex}
-use Rattle.golf_model.specs.Waiting.{bare_wait, first}
+use Rattle.golf_model.specs.Actors.{Actor, standing, blocks, next, at_mutex}
+use Rattle.golf_model.specs.Waiters.{bare_wait, first}
 use Rattle.golf_model.specs.Mutexes.{hands_over}
 use Rattle.golf_model.specs.Conditions.{awaits_by}
-use Rattle.golf_state.specs.Doing.{does_by}
-use Rattle.golf_state.specs.Going.{went}
+use Rattle.golf_state.specs.ActorChanges.{does_by}
+use Rattle.golf_state.specs.FrameChanges.{went}
 use Rattle.golf_state.specs.Outcomes.{outcome_of}
 use Rattle.golf_state.specs.declared.outcome.Outcome.{Outcome}
 use Rattle.golf_state.specs.Looked.{is_blocked}

@@ -4,7 +4,7 @@ use Rattle.std.proofs.lemmas.Result.{IfOk-weaker}
 use Rattle.golf_data.specs.declared.value.Value.{Value}
 use Rattle.golf_theory.specs.Maps.{find}
 use Rattle.golf_model.specs.Changes.{Change}
-use Rattle.golf_model.specs.Acting.{Actor, at_condition, at_mutex, at_reference}
+use Rattle.golf_model.specs.Actors.{Actor, at_condition, at_mutex, at_reference}
 use Rattle.golf_model.specs.Conditions.{awaits, awaits_by}
 use Rattle.golf_state.proofs.Doings.{actor_of, operands-is}
 use Rattle.golf_state.proofs.References.{is-reference}

@@ -4,9 +4,9 @@ use Rattle.golf_data.specs.declared.goroutine.Side.{Side}
 use Rattle.golf_data.specs.declared.value.Value.{Value}
 use Rattle.golf_theory.specs.Maps.{find}
 use Rattle.golf_model.specs.Changes.{Change}
-use Rattle.golf_model.specs.Acting.{Actor, goes, at_mutex}
-use Rattle.golf_model.specs.Waiting.{Waiter, first}
-use Rattle.golf_model.specs.Conditions.{passes_on, notifies}
+use Rattle.golf_model.specs.Actors.{Actor, goes, at_mutex}
+use Rattle.golf_model.specs.Waiters.{Waiter, first}
+use Rattle.golf_model.specs.Conditions.{requeues, notifies}
 use Rattle.golf_state.proofs.Doings.{actor_of}
 use Rattle.golf_state.proofs.References.{is-reference}
 use Rattle.golf_state.proofs.Outcomings.{comes-same, acts-same}
@@ -29,7 +29,7 @@ returns-in-To c =
     c.if-is_none.ensures in
     let f : Value → List Waiter → Actor → List Change = λ v ws a. notifies a (drop 1 a.frame.operands) s ws v in
     let g : List Waiter → Actor → List Change =
-    λ ws a. at_mutex (λ locked. goes a (drop 1 a.frame.operands) ++ passes_on c.in-To.mutex.0 ws)
+    λ ws a. at_mutex (λ locked. goes a (drop 1 a.frame.operands) ++ requeues c.in-To.mutex.0 ws)
     (find c.in-To.mutex.0 s.objects) in
     let A = actor_of c.requires.stands c.args.acting.line in
     comes-same c.notify_with.result (g (notified c.args.all c.args.condition.0 s.goroutines))

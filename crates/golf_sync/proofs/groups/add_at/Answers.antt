@@ -4,13 +4,13 @@ use Rattle.golf_data.specs.declared.value.Object.{Object}
 use Rattle.golf_theory.specs.Maps.{find}
 use Rattle.golf_model.specs.Views.{FrameView}
 use Rattle.golf_model.specs.Changes.{Change}
-use Rattle.golf_model.specs.Acting.{Actor, at_group, next, stands}
-use Rattle.golf_model.specs.Calculating.{sum}
-use Rattle.golf_model.specs.Waking.{Waking}
+use Rattle.golf_model.specs.Actors.{Actor, at_group, next, stands}
+use Rattle.golf_model.specs.Arithmetic.{sum}
+use Rattle.golf_model.specs.Wakes.{Waking}
 use Rattle.golf_model.specs.Mutexes.{counts}
 use Rattle.golf_state.specs.Looked.{runs}
 use Rattle.golf_state.specs.Woken.{waking_of}
-use Rattle.golf_state.specs.declared.waking.Waking.TheVariants as k
+use Rattle.golf_state.specs.declared.wake_causes.Waking.TheVariants as k
 use Rattle.golf_state.proofs.Doings.{actor_of}
 use Rattle.golf_state.proofs.Outcomings.{done-replacing}
 use Rattle.golf_state.proofs.Runnings.{runs-all}

@@ -5,10 +5,10 @@ use Rattle.golf_theory.specs.Maps.{find}
 use Rattle.golf_model.specs.Views.{FrameView}
 use Rattle.golf_model.specs.State.{State}
 use Rattle.golf_model.specs.Changes.{Change}
-use Rattle.golf_model.specs.Acting.{Actor, stands, next, at_mutex}
-use Rattle.golf_model.specs.Waiting.{first}
+use Rattle.golf_model.specs.Actors.{Actor, stands, next, at_mutex}
+use Rattle.golf_model.specs.Waiters.{first}
 use Rattle.golf_model.specs.Mutexes.{unlocks_by, hands_over}
-use Rattle.golf_state.specs.Going.{went}
+use Rattle.golf_state.specs.FrameChanges.{went}
 use Rattle.golf_state.specs.Looked.{runs}
 use Rattle.golf_state.proofs.Runnings.{runs-handed}
 use Rattle.golf_state.proofs.Doings.{does-is, actor_of}

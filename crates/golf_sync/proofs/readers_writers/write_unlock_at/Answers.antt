@@ -3,7 +3,7 @@ use Rattle.std.proofs.lemmas.Grind.{common_steps}
 use Rattle.golf_theory.specs.Maps.{find}
 use Rattle.golf_model.specs.Views.{FrameView}
 use Rattle.golf_model.specs.Changes.{Change}
-use Rattle.golf_model.specs.Acting.{Actor, stands, next, at_rw}
+use Rattle.golf_model.specs.Actors.{Actor, stands, next, at_rw}
 use Rattle.golf_model.specs.ReadersWriters.{write_unlocks_by, serves}
 use Rattle.golf_state.specs.Looked.{runs}
 use Rattle.golf_state.proofs.Doings.{actor_of}

@@ -3,7 +3,7 @@ use Rattle.std.proofs.lemmas.Grind.{common_steps}
 use Rattle.std.specs.Prelude.{Some, None}
 use Rattle.golf_syntax_trees.specs.declared.declarations.Field.{Field}
 use Rattle.golf_syntax.specs.Many.{many_at}
-use Rattle.golf_syntax.specs.DeclReading.{field_at}
+use Rattle.golf_syntax.specs.DeclarationReader.{field_at}
 use Rattle.golf_syntax.proofs.ManySteps.{field-shrinks, list-empty, list-some, many-none, many-next, many-last}
 use Rattle.golf_syntax.proofs.fields.fields_at.Goals as goal
 

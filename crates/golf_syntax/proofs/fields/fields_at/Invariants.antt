@@ -1,6 +1,6 @@
 use Rattle.std.proofs.Common.{◌≡◌, ◌≤◌, length}
 use Rattle.golf_syntax.specs.Many.{many_at, list_at}
-use Rattle.golf_syntax.specs.DeclReading.{field_at}
+use Rattle.golf_syntax.specs.DeclarationReader.{field_at}
 use Rattle.golf_syntax.proofs.fields.fields_at.Given as goal
 
 -- the fields so far, and those that are read next, are what is read

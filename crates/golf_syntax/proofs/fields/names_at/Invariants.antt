@@ -1,5 +1,5 @@
 use Rattle.std.proofs.Common.{◌≡◌, ◌≤◌, length}
-use Rattle.golf_syntax.specs.DeclReading.{names_at}
+use Rattle.golf_syntax.specs.DeclarationReader.{names_at}
 use Rattle.golf_syntax.proofs.ManySteps.{names_from}
 use Rattle.golf_syntax.proofs.fields.names_at.Given as goal
 

@@ -4,7 +4,7 @@ use Rattle.std.specs.Prelude.{Some, None}
 use Rattle.std.proofs.Common.{ℕ, List}
 use Rattle.golf_lex_tokens.specs.declared.token.Punctuation.TheVariants as punctuations
 use Rattle.golf_syntax.specs.Many.{many_at}
-use Rattle.golf_syntax.specs.DeclReading.{text_at}
+use Rattle.golf_syntax.specs.DeclarationReader.{text_at}
 use Rattle.golf_syntax.proofs.ManySteps.{text-shrinks, list-empty, list-some, many-none, many-next, many-last}
 use Rattle.golf_syntax.proofs.imports.texts_at.Goals as goal
 

@@ -1,7 +1,7 @@
 use Rattle.std.proofs.Common.{◌≡◌, ◌≤◌, length}
 use Rattle.golf_lex_tokens.specs.declared.token.Punctuation.TheVariants as punctuations
 use Rattle.golf_syntax.specs.Many.{many_at, list_at}
-use Rattle.golf_syntax.specs.DeclReading.{text_at}
+use Rattle.golf_syntax.specs.DeclarationReader.{text_at}
 use Rattle.golf_syntax.proofs.imports.texts_at.Given as goal
 
 -- the paths so far, and those that are read next, are what is read

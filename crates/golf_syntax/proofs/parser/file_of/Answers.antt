@@ -2,7 +2,7 @@ use Rattle.std.proofs.Common.{◌≡◌, true, sym, subst, ◌∙◌, arith}
 use Rattle.std.specs.Prelude.{Ok}
 use Rattle.std.proofs.lemmas.Grind.{common_steps}
 use Rattle.golf_syntax.specs.Parses.{Declared}
-use Rattle.golf_syntax.specs.SegmentReading.{is_package}
+use Rattle.golf_syntax.specs.SegmentReader.{is_package}
 use Rattle.golf_syntax.proofs.FileLaws.{too_complex, not-read, all-read}
 use Rattle.golf_syntax.proofs.parser.file_of.Goals as goal
 

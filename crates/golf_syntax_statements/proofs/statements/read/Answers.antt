@@ -2,7 +2,7 @@ use Rattle.std.proofs.Common.{◌+◌, ◌*◌, List, length, ap, sym, ◌∙◌
 use Rattle.golf_syntax_statements.specs.declared.pending.Pending.{Pending}
 use Rattle.golf_syntax_statements.specs.declared.pending.Move.{Move}
 use Rattle.golf_syntax_statements.specs.declared.pending.Move.TheVariants as moves
-use Rattle.golf_syntax_statements.specs.StmtReading.{OfStmt, stmt_at}
+use Rattle.golf_syntax_statements.specs.StatementReader.{OfStmt, stmt_at}
 use Rattle.golf_syntax_statements.specs.Moves.{move_at, waited, moved, weight}
 use Rattle.golf_syntax_statements.proofs.Moves.{went-done, went-found, went-wait, went-on, went-so, went-nowhere}
 use Rattle.golf_syntax_statements.proofs.Moves.{went-further, less-than, smaller-found, smaller-wait, smaller-on}

@@ -1,5 +1,5 @@
 use Rattle.std.proofs.Common.{◌≡◌, ◌+◌, ◌*◌, length}
-use Rattle.golf_syntax_statements.specs.StmtReading.{OfStmt, stmt_at}
+use Rattle.golf_syntax_statements.specs.StatementReader.{OfStmt, stmt_at}
 use Rattle.golf_syntax_statements.specs.Moves.{move_at, waited, weight}
 use Rattle.golf_syntax_statements.proofs.statements.read.Given as goal
 

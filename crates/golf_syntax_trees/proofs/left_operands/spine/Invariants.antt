@@ -1,12 +1,12 @@
 use Rattle.std.proofs.Common.{◌≤◌}
 use Rattle.golf_syntax_trees.specs.declared.expressions.Expr.{size-Expr}
-use Rattle.golf_syntax_trees.specs.Spines.{left_of, shown, IsSpine, Within}
+use Rattle.golf_syntax_trees.specs.Spines.{left_of, shown, IsSpine, AreNoLarger}
 use Rattle.golf_syntax_trees.proofs.left_operands.spine.Given as goal
 
 abbrev pub invariant-loop-left : goal.invariant-loop-left
 invariant-loop-left l = record {
   down : IsSpine left_of l.fn.e (shown l.waiting) l.inner;
-  within : Within size-Expr (size-Expr l.fn.e) (shown l.waiting);
+  within : AreNoLarger size-Expr (size-Expr l.fn.e) (shown l.waiting);
   smaller : size-Expr l.inner ≤ size-Expr l.fn.e;
 }
 

@@ -1,7 +1,7 @@
 use Rattle.std.proofs.Common.{◌≡◌, ℕ, false, length, sym, ap, ◌∙◌, subst, arith}
 use Rattle.golf_data.specs.declared.code.Code.{Code}
 use Rattle.golf_model.specs.State.{State, ending}
-use Rattle.golf_model.specs.Reporting.{real_run, real_reports}
+use Rattle.golf_model.specs.Reports.{real_run, real_reports}
 use Rattle.golf_model_futures.proofs.RealRuns.{real-runs}
 use Rattle.golf_world.specs.History.{turns, after, reports_after, IsHistory}
 use Rattle.golf_world.proofs.Executions.{after-is, reports-is}

@@ -1,5 +1,5 @@
 use Rattle.std.proofs.Common.{◌≡◌, rules, arith, ◌-◌, [], ◌++◌, length, refl, ap, subst, ◌∙◌}
-use Rattle.golf_check_types.specs.Faults.{Refuses}
+use Rattle.golf_check_types.specs.Faults.{StopsAt}
 use Rattle.golf_check_types.specs.Expressions.{Judged}
 use Rattle.golf_check_bodies.specs.declared.checker.Checker.{Checker}
 use Rattle.golf_check_bodies.specs.Spines.{after, kept}
@@ -52,7 +52,7 @@ pub expression-returns-in_err-operand-2 : goal.expression-returns-in_err-operand
 expression-returns-in_err-operand-2 t c =
     let f = c.in_err-operand-2.field-0.0 in
     let left = c.loop-node.operand in
-    let refused = subst (λ (k : Checker). Refuses f (after c.in-Some.node.now k.line k.scope left).faults)
+    let refused = subst (λ (k : Checker). StopsAt f (after c.in-Some.node.now k.line k.scope left).faults)
     c.loop-node.invariant.stays c.in_err-operand-2.ensures in
     let all = rise_refused c.args.e.now c.args.self.now.facts c.args.self.now.line c.args.self.now.scope
     c.loop-node.waiting c.pop.new.self c.in-Some.node left c.loop-node.at c.loop-node.self.facts

@@ -2,9 +2,9 @@ use Rattle.std.proofs.Common.{◌≡◌, ◌++◌, ◌+◌, ◌*◌, max, map, d
 use Rattle.std.specs.Prelude.{flat_map}
 use Rattle.golf_syntax_trees.specs.declared.expressions.Expr.{size-Expr}
 use Rattle.golf_check_types.specs.Expressions.{given_by, used, facts_of, put_facts}
-use Rattle.golf_check_types.specs.Judging.{judge_at, value_at}
-use Rattle.golf_check_bodies.specs.Spines.{Rising}
-use Rattle.golf_check_bodies.specs.Telling.{with_facts}
+use Rattle.golf_check_types.specs.Judgments.{judge_at, value_at}
+use Rattle.golf_check_bodies.specs.Spines.{RisingJudgment}
+use Rattle.golf_check_bodies.specs.CheckerClauses.{with_facts}
 use Rattle.golf_check_bodies.proofs.checker.Checker.+judging.Given as goal
 
 abbrev pub invariant-all_given-loop-e : goal.invariant-all_given-loop-e
@@ -40,7 +40,7 @@ invariant-all_put-loop-e l =
 abbrev pub invariant-expression-loop-node : goal.invariant-expression-loop-node
 invariant-expression-loop-node l = record {
   stays : l.self ≡ record l.fn.self { facts = l.self.facts };
-  rising : Rising l.fn.self.line l.fn.self.scope l.fn.e l.fn.self.facts l.waiting l.operand l.at l.self.facts;
+  rising : RisingJudgment l.fn.self.line l.fn.self.scope l.fn.e l.fn.self.facts l.waiting l.operand l.at l.self.facts;
 }
 
 abbrev pub decreases-expression-loop-node : goal.decreases-expression-loop-node

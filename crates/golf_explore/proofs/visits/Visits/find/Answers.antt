@@ -1,7 +1,7 @@
 use Rattle.std.proofs.Common.{◌<◌, List, Some, length, slice_get, sym, ap, ◌∙◌}
 use Rattle.std.proofs.lemmas.Option.{slice_get-get_or}
 use Rattle.golf_explore.specs.declared.visits.Visit.{Visit}
-use Rattle.golf_explore.specs.Visiting.{states}
+use Rattle.golf_explore.specs.VisitLists.{states}
 use Rattle.golf_explore.proofs.Growing.{get-states}
 use Rattle.golf_explore.proofs.visits.Visits.find.Goals as goal
 

@@ -1,6 +1,6 @@
 use Rattle.std.proofs.Common.{ℕ, ◌<◌, get_or}
 use Rattle.golf_theory.specs.Membership.{In}
-use Rattle.golf_mark.specs.Working.{Gains}
+use Rattle.golf_mark.specs.UnderWay.{Gains}
 use Rattle.golf_mark.proofs.work.Work.claim_all.Given as goal
 
 abbrev pub invariant-loop-place : goal.invariant-loop-place

@@ -3,7 +3,7 @@ use Rattle.std.specs.Prelude.{◌↔◌}
 use Rattle.golf_theory.specs.Membership.{In}
 use Rattle.golf_model.specs.declared.graph.Marked.{Marked}
 use Rattle.golf_marks.specs.Flags.{IsSet}
-use Rattle.golf_mark.specs.Working.{Working}
+use Rattle.golf_mark.specs.UnderWay.{Working}
 use Rattle.golf_mark.proofs.Marked.{HasMarked-cut, HasMarked-same}
 use Rattle.golf_mark.proofs.work.Work.into_marked.Goals as goal
 

@@ -53,4 +53,5 @@ returns-clause-known c = ap (λ (v : View). v.known) c.fetch_or-was.ensures.2.0.
     ∙ ap (λ (xs : List ℕ). known c.args.seat.now ++ xs) (sym (batched_is c.args.batch.now))
 
 pub returns-clause-once : goal.returns-clause-once
-returns-clause-once c = λ p h. c.fetch_or-was.ensures.2.0.once p (subst (λ (xs : List ℕ). In p xs) c.without.ensures.places h)
+returns-clause-once c = λ p h. c.fetch_or-was.ensures.2.0.once p
+    (subst (λ (xs : List ℕ). In p xs) c.without.ensures.places h)

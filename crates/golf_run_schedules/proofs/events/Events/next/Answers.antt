@@ -1,19 +1,12 @@
-use Rattle.std.proofs.Common.{◌-◌, suc, refl}
-use Rattle.golf_run_schedules.proofs.Counting.{events_none, events_turn}
+use Rattle.std.proofs.Common.{refl, ap, ◌∙◌}
+use Rattle.golf_run_schedules.specs.Events.{EventsLeft, events_left}
+use Rattle.golf_run_schedules.proofs.Counting.{none-come}
 use Rattle.golf_run_schedules.proofs.events.Events.next.Goals as goal
 
-pub returns-in_err-number : goal.returns-in_err-number
-returns-in_err-number c =
-    let s = c.args.self.now in
-    let none = c.in_err-number.ensures (s.turns - suc s.done) in
-    let both = events_none s.is_collection_next s.schedule c.next_number.new.self s.every s.done s.turns c.if-self.false
-    c.if-self-2.false none.0 none.1 in
-    rw c.from_residual.ensures (both.0, both.1, refl)
-
-pub returns : goal.returns
-returns c =
-    let s = c.args.self.now in (
-      events_turn s.schedule c.next_number.new.self s.every s.done s.turns c.if-self.false c.if-self-2.false
-          (c.in_ok-number.ensures (s.turns - suc s.done)) c.is_due-self.ensures,
-      refl,
+pub returns-in-None : goal.returns-in-None
+returns-in-None c =
+    let none = none-come c.args.self.now (rw (← c.self.view_is) c.if-self.false) c.in-None.ensures.0 in (
+      none,
+      ap events_left c.in-None.ensures.1 ∙ none,
+      ap (λ (e : EventsLeft). e.done) c.in-None.ensures.1,
     )

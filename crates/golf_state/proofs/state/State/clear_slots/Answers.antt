@@ -3,7 +3,7 @@ use Rattle.golf_theory.specs.Maps.{find}
 use Rattle.golf_model.specs.Views.{GoroutineView, goroutine_view}
 use Rattle.golf_model.specs.State.{is_running}
 use Rattle.golf_model.specs.Changes.{become, apply_all}
-use Rattle.golf_model.specs.Clearing.{clears}
+use Rattle.golf_model.specs.ClearedSlots.{clears}
 use Rattle.golf_state.specs.Inside.{plain_state}
 use Rattle.golf_state.specs.Enqueued.{AreEnqueued}
 use Rattle.golf_state_goroutines.specs.Places.{plain_entries}

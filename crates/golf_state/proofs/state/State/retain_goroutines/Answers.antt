@@ -13,7 +13,7 @@ use Rattle.golf_state.specs.Enqueued.{AreEnqueued}
 use Rattle.golf_state_goroutines.specs.declared.places.NumberedGoroutine.{NumberedGoroutine}
 use Rattle.golf_state.proofs.Retaining.{map-kept, kept-short, Rises-kept, AllBelow-kept, ready-kept}
 use Rattle.golf_state.proofs.Leaving.{enqueued-kept}
-use Rattle.golf_state_queues.specs.WaitQueues.{Keeps}
+use Rattle.golf_state_queues.specs.WaitQueues.{KeepsWaiters}
 use Rattle.golf_state.proofs.state.State.retain_goroutines.Goals as goal
 
 pub retain-requires : goal.retain-requires
@@ -52,7 +52,7 @@ invariant_of-self c =
           c.narrow_queues.new.queues s.next_ticket) (sym e)
           (enqueued-kept s.are_mutexes_enqueued stays es s.waiting c.narrow_queues.new.queues s.next_ticket
           c.self.invariant.enqueued
-          (subst (λ (xs : List (ℕ × GoroutineView)). Keeps
+          (subst (λ (xs : List (ℕ × GoroutineView)). KeepsWaiters
           (λ t h. is_in h (keys xs) ≡ true) s.waiting c.narrow_queues.new.queues) e c.narrow_queues.ensures.kept)
           c.narrow_queues.ensures.below);
       finalisers = c.self.invariant.finalisers;

@@ -6,7 +6,7 @@ use Rattle.golf_model.specs.State.{State, is_running}
 use Rattle.golf_model.specs.Changes.{become}
 use Rattle.golf_state.specs.Inside.{AreKept, plain_state}
 use Rattle.golf_state.specs.Looked.{on_goroutine, is_blocked}
-use Rattle.golf_state.specs.Wakening.{wakened}
+use Rattle.golf_state.specs.Wakenings.{wakened}
 use Rattle.golf_state_goroutines.specs.Goroutines.{Goroutines}
 use Rattle.golf_state_goroutines.specs.Places.{plain_entries}
 use Rattle.golf_state.specs.Left.{leaves_in}

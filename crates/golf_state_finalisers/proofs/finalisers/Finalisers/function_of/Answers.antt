@@ -3,7 +3,7 @@ use Rattle.std.proofs.lemmas.Bool.{ltb-false}
 use Rattle.golf_theory.specs.Maps.{find, Rises}
 use Rattle.golf_theory.proofs.MapFinds.{find_above}
 use Rattle.golf_heap.proofs.Finding.{item-at}
-use Rattle.golf_state_finalisers.specs.Blocks.{AreBlocks, pairs_in}
+use Rattle.golf_state_finalisers.specs.Blocks.{AreFinaliserBlocks, pairs_in}
 use Rattle.golf_state_finalisers.specs.declared.blocks.Block.{Block}
 use Rattle.golf_state_finalisers.proofs.BlockLaws.{tops-below}
 use Rattle.golf_state_finalisers.proofs.Places.{Sides, sides, all-tops, find-in}
@@ -13,7 +13,8 @@ pub returns-in_err-block : goal.returns-in_err-block
 returns-in_err-block c =
     let bs = c.as_slice-blocks.result.now in
     let g = c.args.object in
-    let a : AreBlocks 0 bs = subst (AreBlocks 0) (sym c.as_slice-blocks.ensures.value) c.self.invariant.blocks in
+    let a : AreFinaliserBlocks 0 bs = subst (AreFinaliserBlocks 0)
+    (sym c.as_slice-blocks.ensures.value) c.self.invariant.blocks in
     let past : length bs ≤ c.block_of.result =
     ltb-false c.block_of.result (length bs) (sym c.in_err-block.ensures.lookup.0) in
     let none : find g (pairs_in bs) ≡ None =
@@ -28,7 +29,8 @@ function_in-requires c =
     let bs = c.as_slice-blocks.result.now in
     let g = c.args.object in
     let b = c.in_ok-block.block.now in
-    let a : AreBlocks 0 bs = subst (AreBlocks 0) (sym c.as_slice-blocks.ensures.value) c.self.invariant.blocks in
+    let a : AreFinaliserBlocks 0 bs = subst (AreFinaliserBlocks 0)
+    (sym c.as_slice-blocks.ensures.value) c.self.invariant.blocks in
     let s : Sides bs c.block_of.result g b =
     sides bs c.block_of.result g b a c.block_of.ensures
     (item-at bs c.block_of.result c.in_ok-block.block c.in_ok-block.ensures.lookup) in
@@ -39,7 +41,8 @@ returns c =
     let bs = c.as_slice-blocks.result.now in
     let g = c.args.object in
     let b = c.in_ok-block.block.now in
-    let a : AreBlocks 0 bs = subst (AreBlocks 0) (sym c.as_slice-blocks.ensures.value) c.self.invariant.blocks in
+    let a : AreFinaliserBlocks 0 bs = subst (AreFinaliserBlocks 0)
+    (sym c.as_slice-blocks.ensures.value) c.self.invariant.blocks in
     let s : Sides bs c.block_of.result g b =
     sides bs c.block_of.result g b a c.block_of.ensures
     (item-at bs c.block_of.result c.in_ok-block.block c.in_ok-block.ensures.lookup) in

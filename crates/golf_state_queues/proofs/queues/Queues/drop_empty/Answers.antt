@@ -1,6 +1,7 @@
 use Rattle.std.proofs.Common.{◌≡◌, ℕ, filter, rules, sym, ap, subst, ◌∙◌}
 use Rattle.std.proofs.lemmas.Fn.{filter_same}
-use Rattle.golf_state_queues.specs.WaitQueues.{WaitQueues, IsInOrder, held, wait_queues_of, has_anyone, AreBelow, Keeps}
+use Rattle.golf_state_queues.specs.WaitQueues.{WaitQueues, IsInOrder, held, wait_queues_of, has_anyone, TicketsBelow}
+use Rattle.golf_state_queues.specs.WaitQueues.{KeepsWaiters}
 use Rattle.golf_state_queues.specs.declared.queues.Queue.{Queue}
 use Rattle.golf_state_queues.proofs.Standing.{keeps-standing, order-standing, below-standing, queues-standing}
 use Rattle.golf_state_queues.proofs.queues.Queues.drop_empty.Goals as goal
@@ -23,11 +24,12 @@ returns-clause-queues c =
     rw (← c.self.view_is) (ap wait_queues_of left ∙ queues-standing qs)
 
 pub returns-clause-kept : goal.returns-clause-kept
-returns-clause-kept c = subst (λ (ls : WaitQueues). Keeps (λ t g. Unit {0}) c.args.self.now ls)
+returns-clause-kept c = subst (λ (ls : WaitQueues). KeepsWaiters (λ t g. Unit {0}) c.args.self.now ls)
     (sym (returns-clause-queues c)) (keeps-standing c.args.self.now)
 
 pub returns-clause-below : goal.returns-clause-below
 returns-clause-below c =
     let order : IsInOrder c.args.self.now = rw (← c.self.view_is) c.self.invariant in
-    subst (λ (ls : WaitQueues). (n : ℕ) → AreBelow n c.args.self.now → AreBelow n ls) (sym (returns-clause-queues c))
+    subst (λ (ls : WaitQueues). (n : ℕ) → TicketsBelow n c.args.self.now → TicketsBelow n ls)
+    (sym (returns-clause-queues c))
     (below-standing c.args.self.now order)

@@ -3,7 +3,7 @@ use Rattle.std.specs.Prelude.{insert as insert_item, None}
 use Rattle.std.proofs.lemmas.Result.{on_ok_weaker}
 use Rattle.golf_theory.specs.Maps.{Entry, find}
 use Rattle.golf_state_queues.specs.WaitQueues.{WaitQueues, key, held, wait_queues_of, wait_queue_in, wait_queue_at}
-use Rattle.golf_state_queues.specs.WaitQueues.{AddsOnlyIn, AreBelow, Keeps, KeepsIn}
+use Rattle.golf_state_queues.specs.WaitQueues.{AddsOnlyIn, TicketsBelow, KeepsWaiters, KeepsIn}
 use Rattle.golf_state_queues.specs.declared.queues.Queue.{Queue}
 use Rattle.golf_state_queues.proofs.HolderLaws.{QueueAt, Rewritten, queue-there, queue-absent, rises-there, rewritten}
 use Rattle.golf_state_queues.proofs.HolderLaws.{holders-was, inserted, place-is, keeps-changed, below-changed}
@@ -86,8 +86,8 @@ returns-then-stands_at-clause-only c =
 
 pub returns-then-stands_at-clause-below : goal.returns-then-stands_at-clause-below
 returns-then-stands_at-clause-below c =
-    let all : AreBelow (c.args.ticket + 1) (wait_queues_of c.self.inside.queues.items) =
-    subst (λ (ls : WaitQueues). AreBelow (c.args.ticket + 1) ls) (sym c.self.view_is) c.requires.below in
+    let all : TicketsBelow (c.args.ticket + 1) (wait_queues_of c.self.inside.queues.items) =
+    subst (λ (ls : WaitQueues). TicketsBelow (c.args.ticket + 1) ls) (sym c.self.view_is) c.requires.below in
     below-changed (key c.args.object.0 c.args.side) (held c.join.new.holders)
     (wait_queues_of c.self.inside.queues.items) _ (has-joined c).changed
     (c.args.ticket + 1) c.join.ensures.below all
@@ -120,7 +120,7 @@ nobody-was c = ap wait_queue_in (absent c)
 
 -- whoever stands in other queues is kept
 others-kept : (c : goal.In_ok-insert) (P : ℕ → ℕ → Type 0)
-    → Keeps P (wait_queues_of c.self.inside.queues.items) (wait_queues_of c.insert.new.self.items)
+    → KeepsWaiters P (wait_queues_of c.self.inside.queues.items) (wait_queues_of c.insert.new.self.items)
 others-kept c P =
     let es = held c.join-2.new.holders in
     keeps-changed (key c.args.object.0 c.args.side) es (wait_queues_of c.self.inside.queues.items)
@@ -151,8 +151,8 @@ returns-clause-only c =
 
 pub returns-clause-below : goal.returns-clause-below
 returns-clause-below c =
-    let all : AreBelow (c.args.ticket + 1) (wait_queues_of c.self.inside.queues.items) =
-    subst (λ (ls : WaitQueues). AreBelow (c.args.ticket + 1) ls) (sym c.self.view_is) c.requires.below in
+    let all : TicketsBelow (c.args.ticket + 1) (wait_queues_of c.self.inside.queues.items) =
+    subst (λ (ls : WaitQueues). TicketsBelow (c.args.ticket + 1) ls) (sym c.self.view_is) c.requires.below in
     below-changed (key c.args.object.0 c.args.side) (held c.join-2.new.holders)
     (wait_queues_of c.self.inside.queues.items) (wait_queues_of c.insert.new.self.items) (is-new c).changed
     (c.args.ticket + 1) c.join-2.ensures.below all

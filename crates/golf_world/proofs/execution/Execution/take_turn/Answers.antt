@@ -4,7 +4,7 @@ use Rattle.golf_data.specs.declared.code.Code.{Code}
 use Rattle.golf_data.specs.declared.report.Report.{Report}
 use Rattle.golf_model.specs.State.{ending}
 use Rattle.golf_world.specs.declared.history.HistoryEntry.{HistoryEntry}
-use Rattle.golf_world.specs.Steps.{HasAdvanced}
+use Rattle.golf_world.specs.Steps.{HasCollected}
 use Rattle.golf_world.specs.History.{entry, most_entries, IsExecution}
 use Rattle.golf_world.proofs.Spawning.{runnable-size}
 use Rattle.golf_world.proofs.Executions.{execution_next, next_is, does_turn}
@@ -38,9 +38,9 @@ invariant_of-self-2 g c =
     ∙ ap (λ (l : List HistoryEntry). l ++ entry c.args.pass n ∷ []) c.reserve.ensures.items in
     let told : c.add_report.new.reports.items ≡ rs ++ option_to_list report = c.add_report.ensures
     ∙ ap (λ (l : List Report). l ++ option_to_list report) c.reserve-2.ensures.items in
-    let went : HasAdvanced code n report inside.state c.turn_and_collect.new.state inside.book
+    let went : HasCollected code n report inside.state c.turn_and_collect.new.state inside.book
     c.turn_and_collect.new.book = subst (λ
-    (k : Code). HasAdvanced k n report inside.state c.turn_and_collect.new.state inside.book
+    (k : Code). HasCollected k n report inside.state c.turn_and_collect.new.state inside.book
     c.turn_and_collect.new.book) c.requires.code c.in_ok-report.ensures.ok in
     subst (λ (l : List HistoryEntry). IsExecution code passes c.turn_and_collect.new.state c.turn_and_collect.new.book l
     c.add_report.new.reports.items) (sym made)

@@ -1,0 +1,184 @@
+#!/usr/bin/env python3
+"""Fails if docs/THEOREM.md does not agree with the clauses of the programs and the definitions that they reach.
+
+It begins with the definitions that the two clauses name (ROOTS) and goes on along the `use` lines: a definition reaches
+each definition that its text names, of the same file or of a `use` line, also by a short name of a module. These things
+are checked:
+
+- The list of files between the two marks is that of the files that have a definition which is reached.
+- Each code block of the page stands in src/top.rt or specs/ of a crate of TOPS, line by line.
+- Each file that the page names is there, and is reached if it is one of specs/.
+- Each word that stands with a file in parentheses is in that file.
+- Each wrong body of the table is there.
+"""
+
+import re
+import sys
+from collections import defaultdict
+
+from shared import CRATES, ROOT, Words, crates, ended, text_of
+
+PAGE = ROOT / "docs" / "THEOREM.md"
+MEANS = CRATES / "golf_command" / "specs" / "Means.antt"
+ROOTS = [
+    (MEANS, "Tells"),
+    (MEANS, "words_of"),
+    (MEANS, "seen"),
+    (CRATES / "golf_run" / "specs" / "HasRun.antt", "sinks"),
+    (CRATES / "golf_explore_command" / "specs" / "Means.antt", "CallTells"),
+]
+TOPS = ["golf_command", "golf_explore_command"]
+MARKS = ("<!-- the list of checks/theorem.py begins -->", "<!-- the list of checks/theorem.py ends -->")
+# The layers of crates.txt, those that matter first.
+LAYERS = ["program", "definitions", "ground", "laws", "collector", "machine", "checker", "lexer and parser", "reader",
+          "generator"]
+USE = re.compile(r"^(?:pub )?use Rattle\.(\w+(?:\.\w+)*)(?:\.\{([^}]*)\})?(?: as (\w+))?", re.M)
+WORD = re.compile(r"[^\s(){}\[\],;.`]+")
+HEAD = re.compile(r"(?:(?:abbrev|unfoldable|opaque|private|pub) )*(?:(?:record|data|module|abbrev) )?(?:pub )?(\S+)")
+NAMED = re.compile(r"`(golf_\w+/[\w/]+\.(?:rt|antt))`( \(([^()]*)\))?")
+
+
+def file_of(module):
+    """Returns the file of specs/ that a module is, or None: of the kit, or made from the code."""
+    parts = module.split(".")
+    if len(parts) < 3 or parts[1] != "specs" or parts[2] == "declared":
+        return None
+    file = CRATES.joinpath(*parts).with_suffix(".antt")
+    return file if file.is_file() else None
+
+
+def definitions_of(text):
+    """Returns the definitions of a file by name: what begins at the left end goes with what is indented below."""
+    blocks = defaultdict(list)
+    name = None
+    for line in text.splitlines():
+        if re.match(r"[^\s})]", line) and not line.startswith("use "):
+            name = HEAD.match(line).group(1)
+        if name:
+            blocks[name].append(line)
+    return {name: "\n".join(lines) for name, lines in blocks.items()}
+
+
+class Files:
+    """The files that were read so far."""
+
+    def __init__(self):
+        self.known = {}
+
+    def of(self, file):
+        """Returns the definitions of a file, what its `use` lines import by name, and the modules with a short name."""
+        if file not in self.known:
+            text = re.sub(r"--[^\n]*", "", text_of(file))
+            names, modules = {}, {}
+            for module, imported, short in USE.findall(text):
+                target = file_of(module)
+                if not target:
+                    continue
+                if short:
+                    modules[short] = target
+                for part in filter(None, (part.strip() for part in imported.split(","))):
+                    name, _, own = part.partition(" as ")
+                    names[own or name] = (target, name)
+            self.known[file] = (definitions_of(re.sub(USE, "", text)), names, modules)
+        return self.known[file]
+
+
+def reached():
+    """Returns the definitions that the clauses reach, as pairs of file and name, with the number of their lines."""
+    files, lines, left = Files(), {}, list(ROOTS)
+    while left:
+        file, name = left.pop()
+        own, names, modules = files.of(file)
+        if name not in own:
+            # A field, a constructor or a word of a module: the definition whose text has it.
+            left += [(file, it) for it, text in own.items() if name in WORD.findall(text)][:1]
+            continue
+        if (file, name) in lines:
+            continue
+        text = own[name]
+        lines[file, name] = sum(1 for line in text.splitlines() if line.strip())
+        for word in set(WORD.findall(text)):
+            left += [(file, word)] if word in own else []
+            left += [names[word]] if word in names else []
+        for short, word in re.findall(r"(\w+)\.([\w-]+)", text):
+            left += [(modules[short], word)] if short in modules else []
+    return lines
+
+
+def listed(lines, page):
+    """Returns the list, a row a crate: its files, first those that the page names, in bold."""
+    of = {name: crate.layer.split(":")[0] for name, crate in crates().items()}
+    named = set(re.findall(r"`(golf_\w+/specs/[\w/]+\.antt)`", page))
+    rows = defaultdict(list)
+    for file in {file for file, _ in lines}:
+        place = file.relative_to(CRATES)
+        rows[place.parts[0]].append((str(place) not in named, "/".join(place.with_suffix("").parts[2:])))
+    text, last = ["| layer | crate | files of `specs/` |", "|---|---|---|"], ""
+    for crate in sorted(rows, key=lambda it: ((LAYERS + [of[it]]).index(of[it]), list(of).index(it))):
+        files = ", ".join(f"`{name}`" if other else f"**`{name}`**" for other, name in sorted(rows[crate]))
+        layer = "" if of[crate] == last else of[crate]
+        last = of[crate]
+        text.append(f"| {layer} | `{crate}` | {files} |")
+    return text
+
+
+def single_blanks(line):
+    """Returns a line with one blank between its words."""
+    return re.sub(r"\s+", " ", line).strip()
+
+
+def faults_of_blocks(page):
+    """Returns the lines of code blocks that stand in no file of TOPS."""
+    sources = [CRATES / top / "src" / "top.rt" for top in TOPS]
+    sources += [file for top in TOPS for file in sorted((CRATES / top / "specs").glob("*.antt"))]
+    stand = {single_blanks(line) for file in sources for line in text_of(file).splitlines()}
+    lines = [line for block in re.findall(r"^```rattle\n(.*?)^```", page, re.M | re.S) for line in block.splitlines()]
+    return [f"not in {' or '.join(TOPS)}: {line.strip()}" for line in lines if single_blanks(line) not in {"", *stand}]
+
+
+def faults_of_files(page, files):
+    """Returns what is wrong with the files that the page names, and with the words beside them."""
+    faults = []
+    for name, _, words in NAMED.findall(page):
+        file = CRATES / name
+        if not file.is_file():
+            faults.append(f"no file {name}")
+            continue
+        text = set(re.findall(r"[\w-]+", text_of(file)))
+        faults += [f"no word {word} in {name}" for word in re.findall(r"`([\w-]+)`", words) if word not in text]
+        if "/specs/" in name and file not in files:
+            faults.append(f"the clause does not reach {name}")
+    return faults
+
+
+def faults_of_wrong_bodies(page):
+    """Returns the wrong bodies of the table that are not there."""
+    faults = []
+    for crate, edits in re.findall(r"^\| \d \| `(\w+)`: ([^|]*)\|", page, re.M):
+        folders = [CRATES / crate / "must-fail", *(ROOT / "wrong" / of / crate for of in ("code", "definitions"))]
+        faults += [f"no wrong body {edit} of {crate}" for edit in re.findall(r"`(\w+)`", edits)
+                   if not any((folder / f"{edit}.edit").is_file() for folder in folders)]
+    return faults
+
+
+def main():
+    options = Words(__doc__)
+    options.add_argument("--write", action="store_true", help="write the list of files anew")
+    write = options.parse_args().write
+    lines, page = reached(), text_of(PAGE)
+    files, count = {file for file, _ in lines}, sum(lines.values())
+    begin, end = (page.find(mark) for mark in MARKS)
+    if begin < 0 or end < begin:
+        return ended("theorem", [f"no list in {PAGE.relative_to(ROOT)}"])
+    told = "\n".join([MARKS[0], "", *listed(lines, page[:begin] + page[end:]), "", ""])
+    if write:
+        page = page[:begin] + told + page[end:]
+        PAGE.write_text(page, encoding="utf-8")
+    faults = faults_of_blocks(page) + faults_of_files(page, files) + faults_of_wrong_bodies(page)
+    if told not in page:
+        faults.append("the list of files is stale: python3 checks/theorem.py --write")
+    return ended(f"{len(files)} files and {count} lines are reached", faults)
+
+
+if __name__ == "__main__":
+    sys.exit(main())

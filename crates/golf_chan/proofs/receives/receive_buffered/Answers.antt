@@ -1,0 +1,75 @@
+use Rattle.std.proofs.Common.{refl, ◌≡◌, true, ap, ◌∙◌, sym, arith, [], ◌∷◌, ◌++◌, List, Some}
+use Rattle.std.proofs.lemmas.Grind.{common_steps}
+use Rattle.golf_data.specs.declared.goroutine.Side.{Side}
+use Rattle.golf_data.specs.declared.value.Object.{Object}
+use Rattle.golf_data.specs.declared.value.Value.{Value}
+use Rattle.golf_theory.specs.Maps.{find}
+use Rattle.golf_model.specs.State.{State}
+use Rattle.golf_model.specs.Views.{FrameView}
+use Rattle.golf_model.specs.Changes.{Change, replace}
+use Rattle.golf_model.specs.Actors.{Actor, stands}
+use Rattle.golf_model.specs.Wakes.{received}
+use Rattle.golf_model.specs.Channels.{receives_on, given, served}
+use Rattle.golf_state.specs.FrameChanges.{went}
+use Rattle.golf_model.specs.Waiters.{first}
+use Rattle.golf_state.specs.Looked.{values_of, runs}
+use Rattle.golf_state.specs.declared.waiters.Waiting.{Waiting}
+use Rattle.golf_state.specs.declared.frames.Wakening.TheVariants as k
+use Rattle.golf_state.specs.declared.frames.Given.TheVariants as v
+use Rattle.golf_state.proofs.Doings.{actor_of}
+use Rattle.golf_state.proofs.Outcomings.{done-replacing}
+use Rattle.golf_state.proofs.Runnings.{runs-woken}
+use Rattle.golf_state.proofs.Serving.{served-from, served-blocked, served-woken}
+use Rattle.golf_chan.specs.Channels.{shifted, unbuffered}
+use Rattle.golf_chan.proofs.Buffers.{full-channel}
+use Rattle.golf_chan.proofs.Passing.{gone-beside, gone-on}
+use Rattle.golf_chan.proofs.receives.receive_buffered.Goals as goal
+
+pub wake-requires : goal.wake-requires
+wake-requires c =
+    let s = c.args.state.now in
+    let x = c.in-Some.waiting in
+    let t = replace c.args.object.0 c.take_first.new.object c.proceed_with.new.state in
+    let m = first c.args.object.0 Side.Send s.goroutines in
+    let b = gone-beside c.requires.stands c.args.acting.line c.args.receiving.target c.args.receiving.taken
+    (values_of c.received-given.result) c.in_ok-proceed_with.ensures.ok t refl in
+    served-blocked s m x (served-from s m x c.in-Some.ensures.first c.in-Some.ensures.blocked) t b
+
+pub returns-in-Some-clause-ok : goal.returns-in-Some-clause-ok
+returns-in-Some-clause-ok c =
+    let s = c.args.state.now in
+    let g = c.args.acting.goroutine.0 in
+    let o = c.args.object.0 in
+    let x = c.in-Some.waiting in
+    let t = replace o c.take_first.new.object c.proceed_with.new.state in
+    let m = first o Side.Send s.goroutines in
+    let now = gone-on c.requires.stands c.args.acting.line c.args.receiving.target c.args.receiving.taken
+    (values_of c.received-given.result) c.in_ok-proceed_with.ensures.ok in
+    let b = gone-beside c.requires.stands c.args.acting.line c.args.receiving.target c.args.receiving.taken
+    (values_of c.received-given.result) c.in_ok-proceed_with.ensures.ok t refl in
+    let w = served-from s m x c.in-Some.ensures.first c.in-Some.ensures.blocked in
+    let e = c.wake.ensures ∙ served-woken s m x w t b (k.Served x.wait v.Nothing) in
+    let ch = full-channel c.args.value (find o s.objects) c.requires.buffered in
+    let was : Some c.object_mut.result.now ≡ Some (Object.Chan ch.0) = sym c.object_mut.ensures.value
+    ∙ ap (λ (t : State). find o t.objects) now ∙ ch.2 in
+    let old : c.object_mut.result.now ≡ Object.Chan ch.0 = cc in
+    let new : c.take_first.new.object ≡ Object.Chan (record ch.0 { buffer = ch.1 ++ w.waiter.wait.value ∷ [] }) =
+    c.take_first.ensures ∙ ap (unbuffered (x.wait.value ∷ [])) old
+    ∙ ap (λ (bs : List Value). Object.Chan (record ch.0 { buffer = shifted (x.wait.value ∷ []) bs })) ch.3
+    ∙ ap (λ (y : Waiting). Object.Chan (record ch.0 { buffer = ch.1 ++ y.wait.value ∷ [] })) w.told in
+    let st = c.requires.stands in
+    let line = c.args.acting.line in
+    let after : Actor → FrameView = λ a. went c.args.receiving.target c.args.receiving.taken [] a.frame in
+    let act : Actor → List Change = λ a. receives_on a (after a) c.args.receiving.with_ok s o in
+    let h : FrameView = given (after (actor_of st line)) (received c.args.receiving.with_ok c.args.value true) in
+    let y : Object = Object.Chan (record ch.0 { buffer = ch.1 ++ w.waiter.wait.value ∷ [] }) in
+    let rest : List Change = served w.waiter [] ∷ [] in
+    let is : act (actor_of st line) ≡ Change.Replace o y ∷ (stands (actor_of st line) h ++ rest) =
+    grind (arith, common_steps, w.is, ch.2, ch.3) in (
+      (
+        grind (arith, common_steps, e, w.is, w.told, ch.2, ch.3, new),
+        ap (runs g) c.wake.ensures
+            ∙ runs-woken g x.goroutine.0 (k.Served x.wait v.Nothing) t c.in_ok-proceed_with.ensures.runs,
+      ),
+      done-replacing g c.args.acting.after line s st act h rest refl refl o y is,
+    )

@@ -1,7 +1,0 @@
-use Rattle.std.proofs.Common.{false, take}
-use Rattle.golf_theory.specs.Membership.{In}
-use Rattle.golf_explore.proofs.dying.has_unset.Given as goal
-
--- no flag so far is false
-abbrev pub invariant-loop-flag : goal.invariant-loop-flag
-invariant-loop-flag l = In false (take l.flag-index l.flags) → ⊥

@@ -1,6 +1,0 @@
-use Rattle.golf_explore.specs.Settling.{HasSettled}
-use Rattle.golf_explore.proofs.settling.settle_at.Given as goal
-
--- the state has settled so far
-abbrev pub invariant-loop : goal.invariant-loop
-invariant-loop l = HasSettled l.code l.fn.state l.state l.fn.numbers l.numbers

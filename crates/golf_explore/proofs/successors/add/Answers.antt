@@ -1,0 +1,67 @@
+use Rattle.std.proofs.Common.{◌≡◌, ℕ, ◌++◌, List, Option, Some, IfSome, slice_get, subst, sym, ap, ◌∙◌}
+use Rattle.golf_model.specs.State.{State, ending, start as start_of}
+use Rattle.golf_model_futures.proofs.OrderedLeading.{leads-whole}
+use Rattle.golf_explore_laws.specs.After.{silent, after_all}
+use Rattle.golf_explore.specs.declared.visits.Came.{Came}
+use Rattle.golf_explore.specs.declared.visits.Edge.{Edge}
+use Rattle.golf_explore.specs.declared.visits.Visit.{Visit}
+use Rattle.golf_explore.specs.VisitLists.{states, IsTrail, IsWell, HasPushed}
+use Rattle.golf_explore.specs.FrameLocalTurns.{HasTakenAndSettled}
+use Rattle.golf_explore.specs.Results.{Unless}
+use Rattle.golf_explore.proofs.Growing.{grows-same, pushed-grows, pushed-at, added-by, added-visits}
+use Rattle.golf_explore.proofs.Settled.{trail-of}
+use Rattle.golf_explore.proofs.successors.add.Goals as goal
+
+pub take_and_settle-requires-clause-goes : goal.take_and_settle-requires-clause-goes
+take_and_settle-requires-clause-goes c = ap ending c.in_ok-state.ensures.state ∙ c.requires.path.on
+
+pub judge-requires-clause-whole : goal.judge-requires-clause-whole
+judge-requires-clause-whole c =
+    leads-whole c.args.code.now c.take_and_settle.new.state c.in_ok-numbers.ensures.leads
+
+pub judge-requires-clause-trail : goal.judge-requires-clause-trail
+judge-requires-clause-trail c =
+    let code = c.args.code.now in
+    let path : List ℕ = c.args.origin.path.now in
+    let numbers : List ℕ = c.in_ok-numbers.numbers in
+    let t = c.take_and_settle.new.state in
+    let taken = subst (λ (s : State). HasTakenAndSettled code s c.args.number t numbers) c.in_ok-state.ensures.state
+    c.in_ok-numbers.ensures in
+    subst (λ (ns : List ℕ). IsTrail code (path ++ ns) t) (sym c.as_slice.ensures)
+    (trail-of code path numbers c.args.number t c.requires.path.goes taken)
+
+pub returns-in-Some : goal.returns-in-Some
+returns-in-Some c =
+    let code = c.args.code.now in
+    let s = after_all code (start_of code) c.args.origin.path.now in
+    let vs : List Visit = c.args.visits.now.list in
+    let numbers : List ℕ = c.in_ok-numbers.numbers in
+    let t = c.take_and_settle.new.state in
+    let taken = subst (λ (u : State). HasTakenAndSettled code u c.args.number t numbers) c.in_ok-state.ensures.state
+    c.in_ok-numbers.ensures in
+    let e : Edge = record { to = c.in-Some.to; turns = c.len-turns.result } in
+    let stands : slice_get (states vs) c.in-Some.to ≡ Some (silent t) =
+    subst (λ o. IfSome o (λ at. slice_get (states vs) at ≡ Some (silent t))) c.in-Some.is c.in_ok-to.ensures in
+    added-by code s c.args.number t numbers taken vs vs (grows-same vs) c.requires.visits e stands c.len-turns.ensures
+    c.args.edges.now c.push.new.self c.in_ok-push.ensures.ok
+
+pub returns : goal.returns
+returns c =
+    let code = c.args.code.now in
+    let s = after_all code (start_of code) c.args.origin.path.now in
+    let vs : List Visit = c.args.visits.now.list in
+    let new : List Visit = c.push-2.new.self.list in
+    let numbers : List ℕ = c.in_ok-numbers.numbers in
+    let t = c.take_and_settle.new.state in
+    let taken = subst (λ (u : State). HasTakenAndSettled code u c.args.number t numbers) c.in_ok-state.ensures.state
+    c.in_ok-numbers.ensures in
+    let e : Edge = record { to = c.len-place.result; turns = c.len-turns.result } in
+    let came : Option Came = Some (record { parent = c.args.origin.at; numbers = numbers }) in
+    let pushed : HasPushed vs new t came = c.in_ok-push-2.ensures in
+    let well = subst (Unless code (IsWell t)) c.in_default-2.is c.in_ok-explored.ensures in
+    let visits = added-visits code s c.args.number t numbers taken vs new c.args.origin.at c.requires.visits
+    c.requires.path.stands well pushed in
+    let stands : slice_get (states new) c.len-place.result ≡ Some (silent t) =
+    ap (slice_get (states new)) c.len-place.ensures ∙ pushed-at code vs new t came pushed in
+    added-by code s c.args.number t numbers taken vs new (pushed-grows vs new t came pushed) visits e stands
+    c.len-turns.ensures c.args.edges.now c.push-3.new.self c.in_ok-push-3.ensures.ok

@@ -1,8 +1,0 @@
-use Rattle.golf_machine.proofs.Turns.{stands-there, stays-there}
-use Rattle.golf_machine.proofs.stepping.act.Goals as goal
-
-pub perform-requires-clause-stands : goal.perform-requires-clause-stands
-perform-requires-clause-stands c = stands-there c.requires.runs c.requires.at
-
-pub perform-requires-clause-stays : goal.perform-requires-clause-stays
-perform-requires-clause-stays c = stays-there c.requires.runs c.requires.at

@@ -1,5 +1,0 @@
-use Rattle.golf_meaning_turns.proofs.Turning.{turns-are-lived}
-use Rattle.golf_meaning_turns.proofs.turns_are_lived.Goals as goal
-
-pub returns : goal.returns
-returns c = turns-are-lived

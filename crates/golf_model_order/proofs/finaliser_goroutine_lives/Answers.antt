@@ -1,8 +1,0 @@
-use Rattle.golf_model_order.proofs.FinaliserGoroutine.{lives, not-dead, unreported}
-use Rattle.golf_model_order.proofs.finaliser_goroutine_lives.Goals as goal
-
-pub returns-clause-lives : goal.returns-clause-lives
-returns-clause-lives c = λ s. (lives s, not-dead s)
-
-pub returns-clause-unreported : goal.returns-clause-unreported
-returns-clause-unreported c = unreported

@@ -1,5 +1,0 @@
-use Rattle.golf_model_progress.proofs.Leading.{leads-typed}
-use Rattle.golf_model_progress.proofs.leads_are_typed.Goals as goal
-
-pub returns : goal.returns
-returns c = leads-typed

@@ -1,5 +1,0 @@
-use Rattle.golf_model_progress.proofs.Leading.{never-stuck}
-use Rattle.golf_model_progress.proofs.never_stuck.Goals as goal
-
-pub returns : goal.returns
-returns c = never-stuck

@@ -1,5 +1,0 @@
-use Rattle.golf_model_progress.proofs.Turning.{start-is-typed}
-use Rattle.golf_model_progress.proofs.start_is_typed.Goals as goal
-
-pub returns : goal.returns
-returns c = start-is-typed

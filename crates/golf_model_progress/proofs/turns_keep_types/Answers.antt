@@ -1,5 +1,0 @@
-use Rattle.golf_model_progress.proofs.Turning.{turns-keep-types}
-use Rattle.golf_model_progress.proofs.turns_keep_types.Goals as goal
-
-pub returns : goal.returns
-returns c = turns-keep-types

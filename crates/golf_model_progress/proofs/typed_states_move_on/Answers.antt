@@ -1,5 +1,0 @@
-use Rattle.golf_model_progress.proofs.Turning.{move-on}
-use Rattle.golf_model_progress.proofs.typed_states_move_on.Goals as goal
-
-pub returns : goal.returns
-returns c = move-on

@@ -1,8 +1,0 @@
-use Rattle.std.proofs.Common.{◌≡◌, ◌++◌, take}
-use Rattle.golf_heap.specs.Objects.{left_out}
-use Rattle.golf_model.specs.Collecting.{queued}
-use Rattle.golf_state_finalisers.proofs.collecting.add_unflagged.Given as goal
-
--- those so far
-abbrev pub invariant-loop-at : goal.invariant-loop-at
-invariant-loop-at l = l.entries ≡ l.fn.entries ++ queued (left_out (take l.at l.stays) (take l.at l.pairs))

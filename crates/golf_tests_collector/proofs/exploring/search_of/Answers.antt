@@ -1,6 +1,0 @@
-use Rattle.std.proofs.Common.{subst}
-use Rattle.golf_explore.specs.Telling.{Unless}
-use Rattle.golf_tests_collector.proofs.exploring.search_of.Goals as goal
-
-pub loop-preserved : goal.loop-preserved
-loop-preserved c = (subst (Unless c.args.code _) c.in_default.is c.in_ok-explored.ensures).exploring

@@ -1,6 +1,0 @@
-use Rattle.golf_explore.specs.Telling.{IsExploring}
-use Rattle.golf_tests_collector.proofs.exploring.search_of.Given as goal
-
--- the search is under way
-abbrev pub invariant-loop : goal.invariant-loop
-invariant-loop l = IsExploring l.code l.search

@@ -1,6 +1,0 @@
-use Rattle.golf_model.specs.Futures.{Leads}
-use Rattle.golf_tests_collector.proofs.programs.go_on.Given as goal
-
--- moves led here
-abbrev pub invariant-loop-number : goal.invariant-loop-number
-invariant-loop-number l = Leads l.code l.state
