@@ -1,25 +1,29 @@
-// Command golf-go runs Go files by golf: it lowers them, runs `golf run` on what comes out, and writes output, reports and
-// panics with the lines and functions of the files. With the word explore it runs `golf-explore all` in its place. With the
-// word page it writes the page of the run.
+// Command golf-go runs Go programs by golf: it lowers them, runs golf on what comes out, and writes output, reports and
+// panics with the lines and functions of the user's files.
 //
-//	golf-go FILE.go .. [--late] [--pause] [words of golf run]
-//	golf-go explore FILE.go .. [--late] [--pause] [words of golf-explore all]
-//	golf-go page FILE.go .. [--late] [--pause] [words of golf run]
+//	golf-go FILE.go .. [words]             runs the files of one package
+//	golf-go run PACKAGE [words]            runs a package as the command go finds it
+//	golf-go explore PACKAGE [words]        looks at every schedule, by golf-explore all
+//	golf-go search PACKAGE [words]         looks for a schedule that shows a bug, by golf-explore search
+//	golf-go page PACKAGE [words] > PAGE    writes the page of a run
+//	golf-go check PACKAGES                 lowers the packages and their tests, and runs nothing
 //
-// The programs are $GOLF, $GOLF_EXPLORE and $GOLF_PAGE, or golf, golf-explore and golf-page on the path. $GOLF_LOWERED names
-// a file for the lowered text.
+// Words are --late, --pause, --clock loose, and the words of the program that is run. The programs are $GOLF, $GOLF_EXPLORE
+// and $GOLF_PAGE, or golf, golf-explore and golf-page on the path. $GOLF_LOWERED names a file for the lowered text.
 package main
 
 import (
-	"bytes"
-	"errors"
+	"context"
 	"fmt"
 	"io"
 	"os"
-	"os/exec"
+	"os/signal"
+	"slices"
 	"strings"
+	"syscall"
 
-	lower "golflower"
+	"golflower/load"
+	"golflower/lower"
 )
 
 // every is after how many turns a collection is added, if the words do not say it.
@@ -36,15 +40,26 @@ const (
 	noWrite = 7
 )
 
-func main() { os.Exit(run(os.Args[1:], os.Stdout, os.Stderr)) }
+const usageText = "usage: golf-go [run | explore | search | page | check] FILE.go .. or PACKAGE [--late] [--pause] [--clock loose] [words of golf]"
+
+func main() {
+	ctx, stop := signal.NotifyContext(context.Background(), os.Interrupt, syscall.SIGTERM)
+	defer stop()
+	os.Exit(run(ctx, os.Args[1:], os.Stdout, os.Stderr))
+}
+
+// modes are the first words, beside files.
+var modes = []string{"run", "explore", "search", "page", "check"}
 
 // words are the words of the command line.
 type words struct {
-	mode    string // the first word, if it is explore or page
+	mode    string // the first word, "" for files alone
 	paths   []string
 	late    bool
 	pause   bool
-	golf    []string // those of golf run, or of golf-explore all
+	loose   bool
+	wrong   string   // what is wrong with the words
+	golf    []string // those of the program that is run
 	chosen  bool     // --every or --schedule is there
 	threads bool
 	turns   bool
@@ -52,22 +67,29 @@ type words struct {
 
 func parseWords(args []string) words {
 	var w words
-	if len(args) > 0 && (args[0] == "explore" || args[0] == "page") {
+	if len(args) > 0 && slices.Contains(modes, args[0]) {
 		w.mode = args[0]
 		args = args[1:]
 	}
-	for len(args) > 0 && isPath(args[0]) {
+	for len(args) > 0 && w.isPath(args[0]) {
 		w.paths = append(w.paths, args[0])
 		args = args[1:]
 	}
-	for _, a := range args {
-		name, _, _ := strings.Cut(a, "=")
+	for i := 0; i < len(args); i++ {
+		name, value, whole := strings.Cut(args[i], "=")
 		switch name {
 		case "--late":
 			w.late = true
 			continue
 		case "--pause":
 			w.pause = true
+			continue
+		case "--clock":
+			if !whole && i+1 < len(args) {
+				i++
+				value = args[i]
+			}
+			w.clock(value)
 			continue
 		case "--every", "--schedule":
 			w.chosen = true
@@ -76,20 +98,36 @@ func parseWords(args []string) words {
 		case "--turns":
 			w.turns = true
 		}
-		w.golf = append(w.golf, a)
+		w.golf = append(w.golf, args[i])
 	}
 	return w
 }
 
-func isPath(s string) bool {
+// clock takes the word after --clock.
+func (w *words) clock(value string) {
+	switch value {
+	case "loose":
+		w.loose = true
+	case "strict":
+	default:
+		w.wrong = fmt.Sprintf("--clock %s: the clocks are strict, which is the default, and loose", value)
+	}
+}
+
+// isPath: the word names files. Behind the name of a mode each word does that has no dashes, up to the answer of
+// golf-explore that page takes.
+func (w words) isPath(s string) bool {
 	if strings.HasSuffix(s, ".go") {
 		return true
+	}
+	if w.mode != "" {
+		return !strings.HasPrefix(s, "-") && !strings.HasSuffix(s, ":") && !strings.Contains(s, ": ")
 	}
 	info, err := os.Stat(s)
 	return err == nil && info.IsDir()
 }
 
-// line is the command line of golf.
+// line is the command line of golf run.
 func (w words) line() []string {
 	line := []string{"run"}
 	if !w.threads {
@@ -103,18 +141,28 @@ func (w words) line() []string {
 	return append(line, w.golf...)
 }
 
-func run(args []string, stdout, stderr io.Writer) int {
+func (w words) options() lower.Options {
+	loose := w.loose || w.mode == "explore" || w.mode == "search"
+	return lower.Options{Collect: true, Late: w.late, Pause: w.pause, Loose: loose}
+}
+
+func run(ctx context.Context, args []string, stdout, stderr io.Writer) int {
 	w := parseWords(args)
 	if len(w.paths) == 0 {
-		fmt.Fprintln(stderr, "usage: golf-go [explore | page] FILE.go .. [--late] [--pause] [words of golf run, or of golf-explore all]")
+		w.wrong = usageText
+	}
+	if w.wrong != "" {
+		fmt.Fprintln(stderr, w.wrong)
 		return usage
 	}
-	sources, tests, err := lower.ReadSources(w.paths)
-	if err != nil {
-		fmt.Fprintln(stderr, err)
-		return noRead
+	if w.mode == "check" {
+		return check(w, stdout, stderr)
 	}
-	low, err := lower.Lower(sources, lower.Options{Collect: true, Late: w.late, Pause: w.pause, Tests: tests})
+	program, opt, status := w.program(stderr)
+	if status != 0 {
+		return status
+	}
+	low, err := lower.Lower(program, opt)
 	if err != nil {
 		fmt.Fprintf(stderr, "refused: %v\n", err)
 		return refused
@@ -127,86 +175,70 @@ func run(args []string, stdout, stderr io.Writer) int {
 	}
 	switch w.mode {
 	case "explore":
-		return explore(w, low, stdout, stderr)
+		return explore(ctx, "all", w, low, stdout, stderr)
+	case "search":
+		return explore(ctx, "search", w, low, stdout, stderr)
 	case "page":
-		return page(w, args, sources, low, stdout, stderr)
+		return page(ctx, w, args, program.Sources(), low, stdout, stderr)
 	}
-	return execute(w, low, tests, stdout, stderr)
+	return execute(ctx, w, low, opt.Tests, stdout, stderr)
 }
 
-// program is the program that the variable names, or the one of that name on the path.
-func program(variable, name string) string {
-	if p := os.Getenv(variable); p != "" {
-		return p
+// program finds what is run. A status other than 0 says that there is nothing, and why has been told.
+func (w words) program(stderr io.Writer) (*load.Program, lower.Options, int) {
+	opt := w.options()
+	if w.byName() {
+		sources, tests, err := load.Files(w.paths)
+		if err != nil {
+			fmt.Fprintln(stderr, err)
+			return nil, opt, noRead
+		}
+		opt.Tests = tests
+		if !load.NeedsModules(sources) {
+			return load.Single(sources), opt, 0
+		}
 	}
-	return name
-}
-
-// execute runs golf on the lowered text.
-func execute(w words, low *lower.Output, tests bool, stdout, stderr io.Writer) int {
-	cmd := exec.Command(program("GOLF", "golf"), w.line()...)
-	cmd.Stdin = strings.NewReader(low.Text)
-	errs := &lines{out: stderr, told: "golf: "}
-	cmd.Stderr = errs
-	pipe, err := cmd.StdoutPipe()
-	if err == nil {
-		err = cmd.Start()
-	}
+	units, err := load.Modules(".", w.paths, false)
 	if err != nil {
 		fmt.Fprintln(stderr, err)
-		return noRead
+		return nil, opt, noRead
 	}
-	d := &lower.Decoder{Out: stdout, Err: stderr}
-	written := d.Copy(pipe)
-	if written != nil {
-		io.Copy(io.Discard, pipe)
+	unit, err := only(units)
+	if err != nil {
+		fmt.Fprintf(stderr, "refused: %v\n", err)
+		return nil, opt, refused
 	}
-	err = cmd.Wait()
-	var ee *exec.ExitError
-	if err != nil && !errors.As(err, &ee) {
-		fmt.Fprintln(stderr, err)
-		return noRead
-	}
-	if written != nil {
-		fmt.Fprintln(stderr, written)
-		return noWrite
-	}
-	r := &reporter{low: low, decoder: d, tests: tests, all: w.chosen || w.threads, status: cmd.ProcessState.ExitCode(), out: stderr}
-	for _, l := range errs.kept() {
-		r.line(l)
-	}
-	return r.end()
+	return unit.Program, opt, 0
 }
 
-// lines keeps the lines of a program, and hands on what its launcher tells while it builds the program.
-type lines struct {
-	out  io.Writer
-	told string // how the lines of the launcher begin
-	text []byte
-	from int // where the last line begins that is not whole
-}
-
-func (l *lines) Write(b []byte) (int, error) {
-	l.text = append(l.text, b...)
-	for {
-		n := bytes.IndexByte(l.text[l.from:], '\n')
-		if n < 0 {
-			return len(b), nil
+// byName: the words name files, or a folder without a mode.
+func (w words) byName() bool {
+	for _, p := range w.paths {
+		if w.mode != "" && !strings.HasSuffix(p, ".go") {
+			return false
 		}
-		end := l.from + n + 1
-		if l.told != "" && bytes.HasPrefix(l.text[l.from:], []byte(l.told)) {
-			l.out.Write(l.text[l.from:end])
-			l.text = append(l.text[:l.from], l.text[end:]...)
-			continue
-		}
-		l.from = end
 	}
+	return true
 }
 
-func (l *lines) kept() []string {
-	text := strings.TrimSuffix(string(l.text), "\n")
-	if text == "" {
-		return nil
+// only returns the one main package of those that are named.
+func only(units []*load.Unit) (*load.Unit, error) {
+	var mains []*load.Unit
+	for _, u := range units {
+		if u.Err != nil {
+			return nil, u.Err
+		}
+		if u.Main {
+			mains = append(mains, u)
+		}
 	}
-	return strings.Split(text, "\n")
+	switch {
+	case len(units) == 0:
+		return nil, fmt.Errorf("no package is named")
+	case len(mains) == 0:
+		return nil, fmt.Errorf("package %s: only package main has a function to run", units[0].Path)
+	case len(mains) > 1:
+		return nil, fmt.Errorf("%s and %s are main packages: name one", mains[0].Path, mains[1].Path)
+	}
+	return mains[0], nil
 }

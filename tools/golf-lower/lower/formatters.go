@@ -1,0 +1,398 @@
+package lower
+
+import (
+	"fmt"
+	"go/types"
+	"strings"
+
+	"golflower/load"
+)
+
+// formatted is the text of a value by a verb.
+func (p *prog) formatted(x string, t types.Type, v *verb) string {
+	if v.char == 'T' {
+		return p.padded(p.typeName(x, t), v)
+	}
+	return p.format(x, t, v, 0, true)
+}
+
+// padded brings a text to the width of a verb.
+func (p *prog) padded(text string, v *verb) string {
+	if v.width == 0 {
+		return text
+	}
+	return p.golf("Pad", text, fmt.Sprint(v.width), fmt.Sprint(v.minus), fmt.Sprint(v.zero))
+}
+
+// typeName is the name of a type, as %T writes it.
+func (p *prog) typeName(x string, t types.Type) string {
+	if !isIface(t) {
+		return p.textConst(typeText(t))
+	}
+	return fmt.Sprintf("%s(%s)", p.formatterOf(plain('T')).name, x)
+}
+
+// format is the text of a value: at depth 0 of the operand itself; methods: its own methods may be asked.
+func (p *prog) format(x string, t types.Type, v *verb, depth int, methods bool) string {
+	plain := v.char == 'v' || v.char == 's' || v.char == 'q'
+	if isIface(t) {
+		return fmt.Sprintf("%s(%s)", p.formatterOf(v).name, x)
+	}
+	if name := hasTextMethod(t); name != "" && methods && plain {
+		return p.formatString(p.textMethod(x, t, name), v)
+	}
+	switch u := under(t).(type) {
+	case *types.Basic:
+		return p.formatBasic(x, t, u, v)
+	case *types.Pointer:
+		if depth > 0 || !isRef(u.Elem()) || native(u.Elem()) != "" {
+			return p.formatAddress(x, t, v)
+		}
+		return p.formatPointer(x, u, v)
+	case *types.Chan, *types.Signature:
+		return p.formatAddress(x, t, v)
+	case *types.Struct:
+		if isStruct(t) {
+			return p.formatStruct(x, t, u, v)
+		}
+		return p.textConst("{}")
+	case *types.Slice:
+		if b, ok := under(u.Elem()).(*types.Basic); ok && b.Kind() == types.Uint8 && (v.char == 's' || v.char == 'x' || v.char == 'q' || v.char == 'X') {
+			return p.formatBasic(p.golf("OfSlice", x), types.Typ[types.String], types.Typ[types.String], v)
+		}
+		return p.formatList(x, t, u.Elem(), v, methods)
+	case *types.Array:
+		return p.formatList(x, t, u.Elem(), v, methods)
+	case *types.Map:
+		return p.formatMap(x, u, v, methods)
+	}
+	p.refuse("printing a value of type %s", t)
+	return ""
+}
+
+// textMethod calls Error or String; of a nil pointer fmt writes <nil> if the method would fail, which is not told here.
+func (p *prog) textMethod(x string, t types.Type, name string) string {
+	sel := types.NewMethodSet(t).Lookup(nil, name)
+	return p.callOn(x, t, &method{sel.Obj().(*types.Func), sel.Index()}, nil)
+}
+
+// formatString is the text of a string.
+func (p *prog) formatString(x string, v *verb) string {
+	if v.prec >= 0 {
+		if v.char == 'x' || v.char == 'X' {
+			return ""
+		}
+		x = p.golf("Cut", x, fmt.Sprint(v.prec))
+	}
+	switch v.char {
+	case 'v', 's':
+		return p.padded(x, v)
+	case 'q':
+		return p.padded(fmt.Sprintf("%s(%s)", p.stdFunc("strconv", "Quote"), x), v)
+	case 'x', 'X':
+		if !v.sharp && !v.space {
+			return p.padded(p.golf("Hex", x, fmt.Sprint(v.char == 'X')), v)
+		}
+	}
+	return ""
+}
+
+// formatBasic is the text of a number, a truth value or a string.
+func (p *prog) formatBasic(x string, t types.Type, b *types.Basic, v *verb) string {
+	text := ""
+	switch info := b.Info(); {
+	case info&types.IsString != 0:
+		if p.texts && !isLit(t) {
+			text = p.formatString(x, v)
+		}
+	case info&types.IsBoolean != 0:
+		if (v.char == 'v' || v.char == 't') && v.prec < 0 {
+			text = p.padded(p.golf("Bool", x), v)
+		}
+	case info&types.IsFloat != 0:
+		text = p.formatFloat(x, t, b, v)
+	case info&types.IsInteger != 0:
+		text = p.formatInteger(x, t, v)
+	}
+	if text == "" {
+		p.refuse("%%%c of a value of type %s", v.char, t)
+	}
+	return text
+}
+
+// formatFloat is the text of a float, "" if the verb has none.
+func (p *prog) formatFloat(x string, t types.Type, b *types.Basic, v *verb) string {
+	size := "64"
+	if b.Kind() == types.Float32 {
+		x, size = p.floatConversion(x, t, types.Typ[types.Float64]), "32"
+	}
+	char, prec := v.char, v.prec
+	switch char {
+	case 'v':
+		char = 'g'
+	case 'f', 'e':
+		if prec < 0 {
+			prec = 6
+		}
+	case 'g':
+	default:
+		return ""
+	}
+	if v.space || v.sharp {
+		return ""
+	}
+	text := fmt.Sprintf("%s(%s, %d, %d, %s)", p.stdFunc("strconv", "FormatFloat"), x, char, prec, size)
+	if v.plus && v.char != 'v' {
+		text = p.golf("WithSign", text)
+	}
+	return p.padded(text, v)
+}
+
+// formatInteger is the text of an integer, "" if the verb has none.
+func (p *prog) formatInteger(x string, t types.Type, v *verb) string {
+	base := map[byte]int{'v': 10, 'd': 10, 'x': 16, 'X': 16, 'o': 8, 'b': 2}[v.char]
+	simple := !v.sharp && !v.space && v.prec < 0 && !(v.plus && base != 10)
+	switch {
+	case base == 0 && (v.prec >= 0 || v.space):
+		return ""
+	case v.char == 'c':
+		return p.padded(p.golf("OfRune", x), v)
+	case v.char == 'q':
+		return p.padded(fmt.Sprintf("%s(%s)", p.stdFunc("strconv", "QuoteRune"), x), v)
+	case v.char == 'U':
+		return p.padded(p.golf("Unicode", x, fmt.Sprint(v.sharp)), v)
+	case base == 0:
+		return ""
+	case simple && base == 10 && v.plus && v.char == 'd' && !isWide(t):
+		return p.padded(p.golf("Signum", x), v)
+	case simple && base == 10 && !v.plus && isWide(t):
+		return p.padded(p.golf("Utoa", x), v)
+	case simple && base == 10 && (!v.plus || v.char == 'v') && !isWide(t):
+		return p.padded(p.golf("Itoa", x), v)
+	}
+	digits := "Base"
+	if isWide(t) {
+		digits = "WideBase"
+	}
+	text := p.golf(digits, x, fmt.Sprint(base), fmt.Sprint(v.char == 'X'))
+	if !simple || v.plus && v.char != 'v' {
+		if v.zero && v.width > 0 {
+			return "" // zeros come behind the prefix
+		}
+		text = p.golf("Number", text, fmt.Sprint(base), fmt.Sprint(v.char == 'X'), fmt.Sprint(v.plus && v.char != 'v'), fmt.Sprint(v.space), fmt.Sprint(v.sharp), fmt.Sprint(v.prec))
+	}
+	return p.padded(text, v)
+}
+
+// formatPointer is &{..} of a struct, &[..] of an array.
+func (p *prog) formatPointer(x string, u *types.Pointer, v *verb) string {
+	l := p.lt(u)
+	fn := p.aux("format", "pointer "+p.verbKey(v)+typeKey(u), func(name string, b *buffer) {
+		text := p.format("x", u.Elem(), v, 1, false)
+		b.add(0, "func %s(x %s) *%s {", name, l, p.structName(p.textType()))
+		b.add(0, "if x == nil {")
+		b.add(0, "return %s", p.padded(p.textConst("<nil>"), v))
+		b.add(0, "}")
+		b.add(0, "return %s", p.golf("Join", p.textConst("&"), text))
+		b.add(0, "}")
+	})
+	return fmt.Sprintf("%s(%s)", fn, x)
+}
+
+// formatAddress is <nil>; the number of an address cannot be told.
+func (p *prog) formatAddress(x string, t types.Type, v *verb) string {
+	if v.char != 'v' || v.width > 0 {
+		p.refuse("%%%c of a value of type %s", v.char, t)
+	}
+	l := p.lt(t)
+	fn := p.aux("format", "address "+l, func(name string, b *buffer) {
+		b.add(0, "func %s(x %s) *%s {", name, l, p.structName(p.textType()))
+		b.add(0, "if x != nil {")
+		b.add(0, "panic(\"lowering: printing an address is not supported\")")
+		b.add(0, "}")
+		b.add(0, "return %s", p.textConst("<nil>"))
+		b.add(0, "}")
+	})
+	return fmt.Sprintf("%s(%s)", fn, x)
+}
+
+func (p *prog) verbKey(v *verb) string { return fmt.Sprintf("%c%v ", v.char, *v) }
+
+// formatStruct is {..}; the methods of what an unexported field holds are not asked, as in Go.
+func (p *prog) formatStruct(x string, t types.Type, u *types.Struct, v *verb) string {
+	if p.hasNative(t) {
+		p.refuse("printing a value of type %s", t)
+	}
+	s := p.structOf(t)
+	fn := p.aux("format", "struct "+p.verbKey(v)+typeKey(t), func(name string, b *buffer) {
+		pieces := []piece{{lit: "{", isLit: true}}
+		for i, f := range s.fields {
+			if i > 0 {
+				pieces = append(pieces, piece{lit: " ", isLit: true})
+			}
+			if v.plus {
+				pieces = append(pieces, piece{lit: f.v.Name() + ":", isLit: true})
+			}
+			pieces = append(pieces, piece{text: p.format("x."+p.fieldRef(t, i), f.v.Type(), v, 1, f.v.Exported())})
+		}
+		pieces = append(pieces, piece{lit: "}", isLit: true})
+		b.add(0, "func %s(x *%s) *%s {", name, s.name, p.structName(p.textType()))
+		b.add(0, "return %s", p.textOfPieces(pieces))
+		b.add(0, "}")
+	})
+	return fmt.Sprintf("%s(%s)", fn, x)
+}
+
+// formatList is [..] of a slice or an array.
+func (p *prog) formatList(x string, t, elem types.Type, v *verb, methods bool) string {
+	l := p.lt(t)
+	key := fmt.Sprint("list ", p.verbKey(v), methods, typeKey(t))
+	fn := p.aux("format", key, func(name string, b *buffer) {
+		length, at := "len(s)", "s[i]"
+		if !isArray(t) {
+			length = p.sliceLen(elem, "s")
+			if p.grows(elem) {
+				at = "s.a[s.off+i]"
+			}
+		}
+		text := p.format(at, elem, v, 1, methods)
+		b.add(0, "func %s(s %s) *%s {", name, l, p.structName(p.textType()))
+		b.add(0, "r := %s", p.textConst("["))
+		b.add(0, "for i := 0; i < %s; i++ {", length)
+		b.add(0, "if i > 0 {")
+		b.add(0, "r = %s", p.golf("Join", "r", p.textConst(" ")))
+		b.add(0, "}")
+		b.add(0, "r = %s", p.golf("Join", "r", text))
+		b.add(0, "}")
+		b.add(0, "return %s", p.golf("Join", "r", p.textConst("]")))
+		b.add(0, "}")
+	})
+	return fmt.Sprintf("%s(%s)", fn, x)
+}
+
+// formatMap is map[..], in the order of the keys.
+func (p *prog) formatMap(x string, u *types.Map, v *verb, methods bool) string {
+	b, ok := under(u.Key()).(*types.Basic)
+	if !ok || b.Info()&(types.IsString|types.IsInteger) == 0 {
+		p.refuse("printing a map with keys of type %s", u.Key())
+	}
+	fn := p.aux("format", fmt.Sprint("map ", p.verbKey(v), methods, typeKey(u)), func(name string, b *buffer) {
+		less := func(x, y string) string { return fmt.Sprintf("%s < %s", x, y) }
+		if p.isText(u.Key()) {
+			less = func(x, y string) string { return p.golf("Compare", x, y) + " < 0" }
+		}
+		key := p.format("ks[i]", u.Key(), v, 1, methods)
+		val := p.format(fmt.Sprintf("%s(m, ks[i])", p.mapFunc(u, "get")), u.Elem(), v, 1, methods)
+		w := func(format string, args ...any) { b.add(0, format, args...) }
+		w("func %s(m %s) *%s {", name, p.lt(u), p.structName(p.textType()))
+		w("ks := %s(m)", p.mapFunc(u, "keys"))
+		w("for i := 1; i < len(ks); i++ {")
+		w("for j := i; j > 0 && %s; j-- {", less("ks[j]", "ks[j-1]"))
+		w("k := ks[j]")
+		w("ks[j] = ks[j-1]")
+		w("ks[j-1] = k")
+		w("}")
+		w("}")
+		w("r := %s", p.textConst("map["))
+		w("for i := 0; i < len(ks); i++ {")
+		w("if i > 0 {")
+		w("r = %s", p.golf("Join", "r", p.textConst(" ")))
+		w("}")
+		w("r = %s", p.golf("Join", p.golf("Join", "r", key), p.golf("Join", p.textConst(":"), val)))
+		w("}")
+		w("return %s", p.golf("Join", "r", p.textConst("]")))
+		w("}")
+	})
+	return fmt.Sprintf("%s(%s)", fn, x)
+}
+
+// formatter is the function that makes the text of an interface by a verb.
+type formatter struct {
+	name  string
+	verb  *verb
+	done  map[*dyn]bool
+	cases []string
+}
+
+func (p *prog) formatterOf(v *verb) *formatter {
+	p.usesAny = true
+	key := p.verbKey(v)
+	f := p.formats[key]
+	if f == nil {
+		names := map[byte]string{'v': "value", 's': "string", 'T': "type"}
+		n := names[v.char]
+		if n == "" {
+			n = string(v.char)
+		}
+		f = &formatter{name: p.fresh("golf_format_" + n), verb: v, done: map[*dyn]bool{}}
+		p.formats[key] = f
+		p.formList = append(p.formList, f)
+		p.lt(p.textType())
+	}
+	return f
+}
+
+// formatRound finds how the types in interfaces are printed; true if one was new.
+func (p *prog) formatRound() bool {
+	progress := false
+	for i := 0; i < len(p.formList); i++ {
+		f := p.formList[i]
+		for j := 0; j < len(p.dynList); j++ {
+			d := p.dynList[j]
+			if f.done[d] {
+				continue
+			}
+			f.done[d] = true
+			progress = true
+			f.cases = append(f.cases, fmt.Sprintf("%d %s", d.tag, p.formatCase(f, d)))
+		}
+	}
+	return progress
+}
+
+// formatCase is the statement for a type in an interface; one that cannot be printed ends the program.
+func (p *prog) formatCase(f *formatter, d *dyn) (stmt string) {
+	var err error
+	defer func() {
+		if e, ok := err.(*load.Error); ok {
+			what, _, _ := strings.Cut(e.Msg, ": not supported")
+			stmt = fmt.Sprintf("panic(%s)", p.quote("lowering: "+what+" is not supported"))
+		}
+	}()
+	defer p.guard(&err)
+	if f.verb.char == 'K' {
+		if isString(d.t) {
+			return "return " + p.textConst("s")
+		}
+		return "return nil"
+	}
+	if f.verb.char == 'T' {
+		return "return " + p.padded(p.textConst(typeText(d.t)), f.verb)
+	}
+	return "return " + p.format("x."+d.field(), d.t, f.verb, 0, true)
+}
+
+// formatTables writes the functions of the formatters.
+func (p *prog) formatTables() {
+	b := &p.decls
+	for _, f := range p.formList {
+		b.add(0, "func %s(x *golf_any) *%s {", f.name, p.structName(p.textType()))
+		b.add(0, "if x == nil {")
+		if f.verb.char == 'K' {
+			b.add(0, "return nil")
+		} else if f.verb.char == 'T' || f.verb.char == 'v' {
+			b.add(0, "return %s", p.padded(p.textConst("<nil>"), f.verb))
+		} else {
+			b.add(0, "return %s", p.textConst("%!"+string(f.verb.char)+"(<nil>)"))
+		}
+		b.add(0, "}")
+		for _, c := range f.cases {
+			tag, stmt, _ := strings.Cut(c, " ")
+			b.add(0, "if x.tag == %s {", tag)
+			b.add(0, "%s", stmt)
+			b.add(0, "}")
+		}
+		b.add(0, "panic(\"lowering: a value of this type cannot be printed\")")
+		b.add(0, "}")
+	}
+}

@@ -1,0 +1,674 @@
+package lower
+
+import (
+	"fmt"
+	"go/ast"
+	"go/constant"
+	"go/token"
+	"go/types"
+	"strings"
+)
+
+func pointerTo(t types.Type) types.Type { return types.NewPointer(t) }
+
+func methodOf(t types.Type, name string) *types.Func {
+	it := under(t).(*types.Interface)
+	for i := 0; i < it.NumMethods(); i++ {
+		if it.Method(i).Name() == name {
+			return it.Method(i)
+		}
+	}
+	return nil
+}
+
+func (f *fctx) stmts(list []ast.Stmt) {
+	for i, s := range list {
+		if l, ok := s.(*ast.LabeledStmt); ok && gotos(list[i:], l.Label.Name) {
+			f.backward(l.Label.Name, list[i:])
+			return
+		}
+		if label, n := f.forwardGoto(list, i); label != "" {
+			f.emit("for {")
+			c := f.push("goto "+label, 'g')
+			c.loop = false
+			f.stmts(list[i:n])
+			f.emit("break")
+			f.emit("}")
+			f.pop()
+			f.stmts(list[n:])
+			return
+		}
+		f.stmt(s)
+	}
+}
+
+// backward runs a list that is jumped back to in a loop of one round.
+func (f *fctx) backward(label string, list []ast.Stmt) {
+	f.emit("for {")
+	c := f.push("goto "+label, 'b')
+	c.loop = false
+	old := f.label
+	l := list[0].(*ast.LabeledStmt)
+	f.label = l.Label.Name
+	f.stmt(l.Stmt)
+	f.label = old
+	f.stmts(list[1:])
+	f.emit("break")
+	f.emit("}")
+	f.pop()
+}
+
+// forwardGoto: statement i of the list jumps to a label further down in it, and it is the first that does.
+func (f *fctx) forwardGoto(list []ast.Stmt, i int) (string, int) {
+	for n := len(list) - 1; n > i; n-- {
+		l, ok := list[n].(*ast.LabeledStmt)
+		if ok && gotos(list[i:i+1], l.Label.Name) && !f.inGoto(l.Label.Name) {
+			return l.Label.Name, n
+		}
+	}
+	return "", 0
+}
+
+func (f *fctx) inGoto(label string) bool {
+	for _, c := range f.stack {
+		if c.label == "goto "+label {
+			return true
+		}
+	}
+	return false
+}
+
+// gotos: a statement of the list jumps to the label.
+func gotos(list []ast.Stmt, label string) bool {
+	found := false
+	for _, s := range list {
+		ast.Inspect(s, func(n ast.Node) bool {
+			if b, ok := n.(*ast.BranchStmt); ok && b.Tok == token.GOTO && b.Label.Name == label {
+				found = true
+			}
+			_, lit := n.(*ast.FuncLit)
+			return !found && !lit
+		})
+	}
+	return found
+}
+
+func (f *fctx) block(list []ast.Stmt) {
+	f.emit("{")
+	f.stmts(list)
+	f.emit("}")
+}
+
+func (f *fctx) stmt(s ast.Stmt) {
+	f.at(s.Pos())
+	p := f.p
+	f.pause(s)
+	label := f.label
+	f.label = ""
+	switch s := s.(type) {
+	case *ast.EmptyStmt:
+	case *ast.BlockStmt:
+		f.block(s.List)
+	case *ast.ExprStmt:
+		f.exprStmt(s.X)
+	case *ast.SendStmt:
+		t := f.elemOf(s.Chan)
+		xs := f.ordered(func() string { return f.expr(s.Chan) }, func() string { return f.rval(s.Value, t) })
+		c, x := f.settle(xs[0]), f.settle(xs[1])
+		f.waiting(func() { f.emit("%s <- %s", c, x) })
+	case *ast.IncDecStmt:
+		op := token.ADD
+		if s.Tok == token.DEC {
+			op = token.SUB
+		}
+		one := "1"
+		if t := f.typeOf(s.X); isFloat(t) {
+			one = p.floatConst(constant.MakeInt64(1), under(t).(*types.Basic))
+		}
+		f.opAssign(s.X, op, func() string { return one })
+	case *ast.AssignStmt:
+		f.assignStmt(s)
+	case *ast.GoStmt:
+		f.emit("go %s", f.goCall(s.Call))
+	case *ast.DeferStmt:
+		f.emit("defer %s", f.goCall(s.Call))
+	case *ast.ReturnStmt:
+		f.returnStmt(s)
+	case *ast.BranchStmt:
+		f.branch(s)
+	case *ast.IfStmt:
+		f.ifStmt(s)
+	case *ast.SwitchStmt:
+		f.switchStmt(s, label)
+	case *ast.TypeSwitchStmt:
+		f.typeSwitch(s, label)
+	case *ast.SelectStmt:
+		f.selectStmt(s, label)
+	case *ast.ForStmt:
+		f.forStmt(s, label)
+	case *ast.RangeStmt:
+		f.rangeStmt(s, label)
+	case *ast.LabeledStmt:
+		f.label = s.Label.Name
+		f.stmt(s.Stmt)
+	case *ast.DeclStmt:
+		f.declStmt(s.Decl.(*ast.GenDecl))
+	default:
+		p.refuse("statement")
+	}
+}
+
+func (f *fctx) declStmt(d *ast.GenDecl) {
+	if d.Tok != token.VAR {
+		return
+	}
+	for _, sp := range d.Specs {
+		vs := sp.(*ast.ValueSpec)
+		f.at(vs.Pos())
+		vars := make([]*types.Var, len(vs.Names))
+		for i, id := range vs.Names {
+			vars[i], _ = f.p.Info.Defs[id].(*types.Var)
+		}
+		if len(vs.Values) == 1 && len(vs.Names) > 1 {
+			parts, ts := f.multi(vs.Values[0], len(vs.Names))
+			for i, v := range vars {
+				if vs.Names[i].Name != "_" {
+					f.declare(v, f.convert(parts[i], ts[i], f.p.vtype(v)))
+				}
+			}
+			continue
+		}
+		var gs []func() string
+		for i := range vs.Values {
+			t := f.typeOf(vs.Values[i])
+			if vars[i] != nil {
+				t = f.p.vtype(vars[i])
+			}
+			gs = append(gs, func() string { return f.rval(vs.Values[i], t) })
+		}
+		xs := f.ordered(gs...)
+		for i, v := range vars {
+			x := ""
+			if len(xs) > 0 {
+				x = xs[i]
+			} else {
+				x = f.p.zero(f.p.vtype(v))
+			}
+			if vs.Names[i].Name == "_" {
+				f.discard(x)
+				continue
+			}
+			f.declare(v, x)
+		}
+	}
+}
+
+// exprStmt is a call or a receive whose value is not used.
+func (f *fctx) exprStmt(e ast.Expr) {
+	p := f.p
+	e = ast.Unparen(e)
+	if u, ok := e.(*ast.UnaryExpr); ok && u.Op == token.ARROW {
+		r := strings.TrimSuffix(strings.TrimPrefix(f.recv(u), "("), ")")
+		f.waiting(func() { f.emit("%s", r) })
+		return
+	}
+	c := e.(*ast.CallExpr)
+	if f.printStmt(c) {
+		return
+	}
+	fn := p.callee(c)
+	if fn != nil && f.testCall(c, fn) {
+		return
+	}
+	if fn != nil {
+		p.testLiteral(c)
+		sel, _ := ast.Unparen(c.Fun).(*ast.SelectorExpr)
+		switch fn.FullName() {
+		case "os.Exit", "golf.exit", "os.exit":
+			f.exit(f.expr(c.Args[0]))
+			return
+		case "fmt.Errorf", "fmt.Sprintf", "fmt.Sprint", "fmt.Sprintln":
+			// nobody sees the text
+			for _, a := range c.Args {
+				f.discard(f.expr(a))
+			}
+			return
+		case "testing.apply":
+			fi := p.fnStruct(under(f.typeOf(c.Args[0])).(*types.Signature))
+			f.emit("%s_call(%s, %s)", fi.name, f.expr(c.Args[0]), f.expr(c.Args[1]))
+			if p.unwind {
+				f.emit("golf_end()")
+			}
+			return
+		case "runtime.Goexit":
+			p.need(&p.unwind)
+			f.emit("golf_goexit()")
+			f.leave()
+			return
+		case "(*sync.Once).Do":
+			f.once(sel, c)
+			return
+		case "(*sync.WaitGroup).Go":
+			s := p.selectionOf(sel)
+			x, _ := p.walkPath(f.expr(sel.X), f.typeOf(sel.X), s.index[:len(s.index)-1])
+			x = f.pin(x)
+			f.emit("%s.Add(1)", x)
+			f.emit("go %s(%s, %s)", p.stdFunc("sync", "groupGo"), x, f.rval(c.Args[0], fn.Signature().Params().At(0).Type()))
+			return
+		case "(*sync.Cond).Wait":
+			if p.genericCond {
+				s := p.selectionOf(sel)
+				x, _ := p.walkPath(f.expr(sel.X), f.typeOf(sel.X), s.index[:len(s.index)-1])
+				f.condWait(x)
+				return
+			}
+		case "(sync.Locker).Lock", "(sync.Locker).Unlock":
+			if s, ok := ast.Unparen(sel.X).(*ast.SelectorExpr); !ok || p.genericCond || native(deref(f.typeOf(s.X))) != "sync.Cond" {
+				f.locker(f.expr(sel.X), fn.Name())
+				return
+			}
+		case "(io.Writer).Write":
+			// io.Discard.Write([]byte(s)): only s is evaluated
+			if s, ok := ast.Unparen(sel.X).(*ast.SelectorExpr); ok && s.Sel.Name == "Discard" {
+				if cv, ok := ast.Unparen(c.Args[0]).(*ast.CallExpr); ok && p.Info.Types[cv.Fun].IsType() {
+					f.discard(f.expr(cv.Args[0]))
+					return
+				}
+			}
+		}
+	}
+	if fn != nil && f.nativeStmt(c, fn) {
+		return
+	}
+	x := f.call(c)
+	if b := p.isBuiltin(c); f.unwinds() && (b == "panic" || b == "" && isName(x)) {
+		return
+	}
+	if p.isBuiltin(c) == "recover" {
+		x = "_ = " + x
+	}
+	f.emit("%s", x)
+	if f.unwinds() && p.isBuiltin(c) == "" && !strings.HasPrefix(x, "golf_Write") {
+		f.check()
+	}
+}
+
+// once is o.Do(g) at the user's line: whoever waits for the first call waits there.
+func (f *fctx) once(sel *ast.SelectorExpr, c *ast.CallExpr) {
+	p := f.p
+	s := p.selectionOf(sel)
+	o, _ := p.walkPath(f.expr(sel.X), f.typeOf(sel.X), s.index[:len(s.index)-1])
+	o = f.pin(o)
+	g := ""
+	lit, isLit := ast.Unparen(c.Args[0]).(*ast.FuncLit)
+	if !isLit {
+		g = f.pin(f.expr(c.Args[0]))
+	}
+	f.emit("if !%s.done {", o)
+	f.waiting(func() { f.emit("%s.m.Lock()", o) })
+	f.emit("if !%s.done {", o)
+	if isLit {
+		name, li := f.lift(lit)
+		f.emit("%s(%s)", name, strings.Join(p.capNames(li), ", "))
+	} else {
+		f.emit("%s_call(%s)", p.fnStruct(under(f.typeOf(c.Args[0])).(*types.Signature)).name, g)
+	}
+	f.emit("%s.done = true", o)
+	f.emit("}")
+	f.emit("%s.m.Unlock()", o)
+	f.emit("}")
+	f.check()
+}
+
+// multi is an expression with several values.
+func (f *fctx) multi(e ast.Expr, n int) ([]string, []types.Type) {
+	p := f.p
+	e = ast.Unparen(e)
+	tup, _ := f.typeOf(e).(*types.Tuple)
+	ts := make([]types.Type, n)
+	if tup != nil {
+		for i := range ts {
+			ts[i] = tup.At(i).Type()
+		}
+	}
+	switch e := e.(type) {
+	case *ast.CallExpr:
+		t := f.temp(f.call(e))
+		parts := make([]string, n)
+		for i := range parts {
+			parts[i] = fmt.Sprintf("%s.r%d", t, i)
+		}
+		return parts, ts
+	case *ast.UnaryExpr:
+		v, ok := f.fresh("t"), f.fresh("ok")
+		et := f.elemOf(e.X)
+		c := f.settle(f.expr(e.X))
+		f.waiting(func() { f.emit("%s, %s := <-%s", v, ok, c) })
+		return []string{f.received(v, et), ok}, []types.Type{et, types.Typ[types.Bool]}
+	case *ast.IndexExpr:
+		m := under(f.typeOf(e.X)).(*types.Map)
+		xs := f.ordered(func() string { return f.expr(e.X) }, func() string { return f.rval(e.Index, m.Key()) })
+		x := f.pin(xs[0])
+		i := f.temp(fmt.Sprintf("%s(%s, %s)", p.mapFunc(m, "find"), x, xs[1]))
+		v := f.temp(fmt.Sprintf("%s(%s, %s)", p.mapFunc(m, "at"), x, i))
+		return []string{p.copyOf(m.Elem(), v), fmt.Sprintf("(%s >= 0)", i)}, []types.Type{m.Elem(), types.Typ[types.Bool]}
+	case *ast.TypeAssertExpr:
+		x := f.anyTemp(f.expr(e.X))
+		t := ts[0]
+		v, ok := f.assertOK(x, t)
+		return []string{v, ok}, []types.Type{t, types.Typ[types.Bool]}
+	}
+	p.refuse("expression with several values")
+	return nil, nil
+}
+
+func (f *fctx) assignStmt(s *ast.AssignStmt) {
+	p := f.p
+	if s.Tok != token.ASSIGN && s.Tok != token.DEFINE {
+		op := map[token.Token]token.Token{token.ADD_ASSIGN: token.ADD, token.SUB_ASSIGN: token.SUB, token.MUL_ASSIGN: token.MUL,
+			token.QUO_ASSIGN: token.QUO, token.REM_ASSIGN: token.REM, token.AND_ASSIGN: token.AND, token.OR_ASSIGN: token.OR,
+			token.XOR_ASSIGN: token.XOR, token.SHL_ASSIGN: token.SHL, token.SHR_ASSIGN: token.SHR, token.AND_NOT_ASSIGN: token.AND_NOT}[s.Tok]
+		f.opAssign(s.Lhs[0], op, func() string { return f.count(op, s.Rhs[0]) })
+		return
+	}
+	if len(s.Lhs) == 1 {
+		l := s.Lhs[0]
+		lt := f.lhsType(l, f.typeOf(s.Rhs[0]))
+		if v := f.newVar(s, l); v != nil {
+			f.declare(v, f.rval(s.Rhs[0], f.p.vtype(v)))
+			return
+		}
+		f.assignOne(l, func() string { return f.rval(s.Rhs[0], lt) })
+		return
+	}
+	if len(s.Rhs) == 1 {
+		// the operands on the left come first
+		stores := make([]func(string), len(s.Lhs))
+		for i, l := range s.Lhs {
+			if !isBlank(l) && f.newVar(s, l) == nil {
+				f.hard = true
+				stores[i] = f.place(l)
+				f.hard = false
+			}
+		}
+		parts, ts := f.multi(s.Rhs[0], len(s.Lhs))
+		f.at(s.Pos())
+		for i, l := range s.Lhs {
+			if stores[i] != nil {
+				stores[i](f.convert(parts[i], ts[i], f.typeOf(l)))
+			} else {
+				f.storePart(s, l, parts[i], ts[i])
+			}
+		}
+		return
+	}
+	// a, b = x, y: first the operands on the left, then all values, then the stores
+	var stores []func(string)
+	for _, l := range s.Lhs {
+		if v := f.newVar(s, l); v != nil {
+			stores = append(stores, func(x string) { f.declare(v, x) })
+		} else {
+			f.hard = true
+			stores = append(stores, f.place(l))
+			f.hard = false
+		}
+	}
+	vals := make([]string, len(s.Rhs))
+	for i, r := range s.Rhs {
+		t := f.lhsType(s.Lhs[i], f.typeOf(r))
+		if v := f.newVar(s, s.Lhs[i]); v != nil {
+			t = f.p.vtype(v)
+		}
+		x := f.rval(r, t)
+		if !isLiteral(x) {
+			x = f.temp(x)
+		}
+		vals[i] = x
+	}
+	for i, st := range stores {
+		st(vals[i])
+	}
+	_ = p
+}
+
+func isBlank(e ast.Expr) bool {
+	id, ok := e.(*ast.Ident)
+	return ok && id.Name == "_"
+}
+
+func (f *fctx) lhsType(l ast.Expr, dflt types.Type) types.Type {
+	if isBlank(l) {
+		return dflt
+	}
+	return f.typeOf(l)
+}
+
+// newVar is the variable that a := declares on this side.
+func (f *fctx) newVar(s *ast.AssignStmt, l ast.Expr) *types.Var {
+	if s.Tok != token.DEFINE || isBlank(l) {
+		return nil
+	}
+	v, _ := f.p.Info.Defs[l.(*ast.Ident)].(*types.Var)
+	return v
+}
+
+// storePart stores one of several values.
+func (f *fctx) storePart(s *ast.AssignStmt, l ast.Expr, x string, t types.Type) {
+	if isBlank(l) {
+		return
+	}
+	if v := f.newVar(s, l); v != nil {
+		f.declare(v, f.convert(x, t, f.p.vtype(v)))
+		return
+	}
+	f.place(l)(f.convert(x, t, f.typeOf(l)))
+}
+
+// assignOne is l = value.
+func (f *fctx) assignOne(l ast.Expr, value func() string) {
+	if isBlank(l) {
+		f.discard(value())
+		return
+	}
+	var st func(string)
+	lb := f.capture(func() { st = f.place(l) })
+	if len(lb.lines) > 0 {
+		f.splice(lb)
+		x := value()
+		st(x)
+		return
+	}
+	x := value()
+	st(x)
+}
+
+// place evaluates the operands of a left side, and gives the store to it.
+func (f *fctx) place(l ast.Expr) func(string) {
+	p := f.p
+	l = ast.Unparen(l)
+	if isBlank(l) {
+		return func(x string) { f.discard(x) }
+	}
+	t := f.typeOf(l)
+	if ix, ok := l.(*ast.IndexExpr); ok {
+		if m, ok := under(f.typeOf(ix.X)).(*types.Map); ok {
+			xs := f.ordered(func() string { return f.expr(ix.X) }, func() string { return f.rval(ix.Index, m.Key()) })
+			for i := range xs {
+				xs[i] = f.pin(xs[i])
+			}
+			return func(x string) {
+				f.runtimeError(xs[0]+" == nil", "assignment to entry in nil map")
+				f.emit("%s(%s, %s, %s)", p.mapFunc(m, "put"), xs[0], xs[1], x)
+			}
+		}
+	}
+	lv := f.lvalue(l)
+	if isRef(t) {
+		return func(x string) { f.emit("%s", p.set(t, lv, x)) }
+	}
+	return func(x string) { f.emit("%s = %s", lv, x) }
+}
+
+// lvalue is the text of a left side whose operands are evaluated.
+func (f *fctx) lvalue(l ast.Expr) string {
+	l = ast.Unparen(l)
+	switch l := l.(type) {
+	case *ast.IndexExpr:
+		if _, ok := under(deref(f.typeOf(l.X))).(*types.Map); ok {
+			break
+		}
+		xs := f.ordered(func() string { return f.expr(l.X) }, func() string { return f.expr(l.Index) })
+		s, i := f.pin(xs[0]), f.pin(xs[1])
+		if u, ok := under(f.typeOf(l.X)).(*types.Slice); ok {
+			return f.element(u.Elem(), s, i)
+		}
+		return f.arrayElement(l, under(deref(f.typeOf(l.X))).(*types.Array), s, i)
+	case *ast.SelectorExpr:
+		if s := f.p.selectionOf(l); s != nil && s.kind == types.FieldVal {
+			r, _ := f.walk(f.pin(f.expr(l.X)), f.typeOf(l.X), s.index)
+			return r
+		}
+	case *ast.StarExpr:
+		x := f.notNil(f.pin(f.expr(l.X)))
+		if isRef(f.typeOf(l)) {
+			return x
+		}
+		return x + ".v"
+	}
+	return f.expr(l)
+}
+
+// opAssign is l op= value.
+func (f *fctx) opAssign(l ast.Expr, op token.Token, value func() string) {
+	p := f.p
+	t := f.typeOf(l)
+	if ix, ok := ast.Unparen(l).(*ast.IndexExpr); ok {
+		if m, ok := under(f.typeOf(ix.X)).(*types.Map); ok {
+			xs := f.ordered(func() string { return f.expr(ix.X) }, func() string { return f.rval(ix.Index, m.Key()) })
+			x, k := f.pin(xs[0]), f.pin(xs[1])
+			old := fmt.Sprintf("%s(%s, %s)", p.mapFunc(m, "get"), x, k)
+			r := f.arith(op, t, old, value())
+			f.runtimeError(x+" == nil", "assignment to entry in nil map")
+			f.emit("%s(%s, %s, %s)", p.mapFunc(m, "put"), x, k, r)
+			return
+		}
+	}
+	lv := f.lvalue(l)
+	y := value()
+	r := f.arith(op, t, lv, y)
+	if strings.HasPrefix(r, "("+lv+" "+op.String()+" ") {
+		if y == "1" && (op == token.ADD || op == token.SUB) {
+			f.emit("%s%s%s", lv, op, op)
+			return
+		}
+		f.emit("%s %s= %s", lv, op, bare(y))
+		return
+	}
+	f.emit("%s = %s", lv, r)
+}
+
+func (f *fctx) returnStmt(s *ast.ReturnStmt) {
+	p := f.p
+	res := p.tuple(f.sig.Results())
+	if len(s.Results) == 0 {
+		if res.Len() == 0 || f.inner {
+			f.emit("return")
+			return
+		}
+		f.emit("return %s", f.namedResult())
+		return
+	}
+	var parts []string
+	if len(s.Results) == 1 && res.Len() > 1 {
+		c := ast.Unparen(s.Results[0]).(*ast.CallExpr)
+		tup := f.typeOf(c).(*types.Tuple)
+		same := len(f.named) == 0
+		for i := 0; i < res.Len(); i++ {
+			same = same && isIface(res.At(i).Type()) == isIface(tup.At(i).Type())
+		}
+		if same {
+			f.emit("return %s", f.call(c))
+			return
+		}
+		var ts []types.Type
+		parts, ts = f.multi(c, res.Len())
+		for i := range parts {
+			parts[i] = f.convert(parts[i], ts[i], res.At(i).Type())
+		}
+	} else {
+		var gs []func() string
+		for i, e := range s.Results {
+			gs = append(gs, func() string { return f.rval(e, res.At(i).Type()) })
+		}
+		parts = f.ordered(gs...)
+	}
+	f.at(s.Pos())
+	if len(f.named) > 0 {
+		// a return assigns to the named results, which deferred calls and literals may read
+		boxed := f.inner
+		for _, r := range f.named {
+			boxed = boxed || p.isBoxed(r)
+		}
+		if boxed {
+			for i := range parts {
+				if len(parts) > 1 {
+					parts[i] = f.pin(parts[i])
+				}
+			}
+			for i, r := range f.named {
+				if r.Name() != "_" {
+					if isRef(p.vtype(r)) {
+						f.emit("%s", p.set(p.vtype(r), f.varRef(r), parts[i]))
+					} else {
+						f.emit("%s = %s", f.varRef(r), parts[i])
+					}
+				}
+			}
+			if f.inner {
+				f.emit("return")
+				return
+			}
+			f.emit("return %s", f.namedResult())
+			return
+		}
+	}
+	if len(parts) == 1 {
+		f.emit("return %s", parts[0])
+		return
+	}
+	f.emit("return %s", p.pack(res, parts))
+}
+
+func (f *fctx) ifStmt(s *ast.IfStmt) {
+	if s.Init != nil {
+		f.stmt(s.Init)
+		f.at(s.Cond.Pos())
+	}
+	c := f.expr(s.Cond)
+	f.at(s.Pos())
+	f.emit("if %s {", bare(c))
+	f.stmts(s.Body.List)
+	f.at(s.Body.Rbrace)
+	switch e := s.Else.(type) {
+	case *ast.BlockStmt:
+		f.emit("} else {")
+		f.stmts(e.List)
+	case *ast.IfStmt:
+		f.elseIf(e)
+		return
+	}
+	f.emit("}")
+}
+
+// elseIf is an else with an if, which needs a block of its own if its condition needs statements.
+func (f *fctx) elseIf(s *ast.IfStmt) {
+	b := f.capture(func() { f.ifStmt(s) })
+	if first := b.lines[0].Text; strings.HasPrefix(first, "if ") {
+		b.lines[0].Text = "} else " + first
+		f.splice(b)
+		return
+	}
+	f.emit("} else {")
+	f.splice(b)
+	f.emit("}")
+}

@@ -1,0 +1,212 @@
+// Command examples runs the examples of the standard library by golf-go and writes a table: how many print what their
+// comment says, and why others are refused.
+//
+//	go run ./tables/examples [-goroot ROOT] [-only REGEXP] [-part K] [-jobs N]
+//
+// An example is taken if it has a comment with its output and can be written as a program. GOLF_GO and GOLF name the
+// programs. -part K takes those whose number ends in K.
+package main
+
+import (
+	"bytes"
+	"flag"
+	"fmt"
+	"go/ast"
+	"go/doc"
+	"go/format"
+	"go/parser"
+	"go/token"
+	"os"
+	"os/exec"
+	"path/filepath"
+	"regexp"
+	"runtime"
+	"sort"
+	"strings"
+	"sync"
+
+	"golflower/tables/judge"
+)
+
+var (
+	root = flag.String("goroot", runtime.GOROOT(), "the root of Go's source")
+	only = flag.String("only", "", "the examples whose names match, as strings.ExampleCut")
+	part = flag.Int("part", -1, "the examples whose number ends in this digit")
+	jobs = flag.Int("jobs", 2, "examples at the same time")
+	list = flag.Bool("list", false, "a line for each example, in place of the table")
+)
+
+// packages are those whose examples are taken.
+var packages = []string{"strings", "strconv", "bytes", "bufio", "sort", "slices", "maps", "container/heap", "container/list",
+	"container/ring", "time", "context", "errors", "unicode", "math"}
+
+// example is one example.
+type example struct {
+	name, pkg string
+	text      []byte // the program, nil if there is none
+	output    string
+	unordered bool
+	verdict   judge.Verdict
+}
+
+func main() {
+	flag.Parse()
+	all := find()
+	var wg sync.WaitGroup
+	slots := make(chan struct{}, *jobs)
+	for _, e := range all {
+		slots <- struct{}{}
+		wg.Add(1)
+		go func() {
+			defer wg.Done()
+			e.verdict = e.examine()
+			<-slots
+		}()
+	}
+	wg.Wait()
+	if *list {
+		for _, e := range all {
+			fmt.Printf("%s\t%s\t%s\n", e.name, e.verdict.Kind, e.verdict.Text)
+		}
+		return
+	}
+	write(all)
+}
+
+// find reads the examples of all packages.
+func find() []*example {
+	re := regexp.MustCompile(*only)
+	var all []*example
+	number := 0
+	for _, pkg := range packages {
+		for _, e := range examplesOf(pkg) {
+			number++
+			if re.MatchString(e.name) && (*part < 0 || number%10 == *part) {
+				all = append(all, e)
+			}
+		}
+	}
+	return all
+}
+
+// examplesOf reads the examples of a package that have an output.
+func examplesOf(pkg string) []*example {
+	fset := token.NewFileSet()
+	names, _ := filepath.Glob(filepath.Join(*root, "src", pkg, "*_test.go"))
+	var files []*ast.File
+	for _, n := range names {
+		f, err := parser.ParseFile(fset, n, nil, parser.ParseComments)
+		if err == nil {
+			files = append(files, f)
+		}
+	}
+	var all []*example
+	for _, x := range doc.Examples(files...) {
+		if x.Output == "" {
+			continue
+		}
+		e := &example{name: pkg + ".Example" + x.Name, pkg: pkg, output: x.Output, unordered: x.Unordered}
+		if x.Play != nil {
+			var text bytes.Buffer
+			if format.Node(&text, fset, x.Play) == nil {
+				e.text = text.Bytes()
+			}
+		}
+		all = append(all, e)
+	}
+	return all
+}
+
+// examine runs an example.
+func (e *example) examine() judge.Verdict {
+	if e.text == nil {
+		return judge.Verdict{Kind: judge.Unbuilt, Text: "it cannot be written as a program"}
+	}
+	dir, err := os.MkdirTemp("", "examples")
+	if err != nil {
+		return judge.Verdict{Kind: judge.Unbuilt, Text: err.Error()}
+	}
+	defer os.RemoveAll(dir)
+	file := filepath.Join(dir, "example.go")
+	if err := os.WriteFile(file, e.text, 0o666); err != nil {
+		return judge.Verdict{Kind: judge.Unbuilt, Text: err.Error()}
+	}
+	cmd := exec.Command(judge.GolfGo, file)
+	var out, errs bytes.Buffer
+	cmd.Stdout, cmd.Stderr = &out, &errs
+	cmd.Run() // how it ends is told in errs
+	for _, l := range strings.Split(errs.String(), "\n") {
+		switch {
+		case strings.HasPrefix(l, "refused: "), strings.HasPrefix(l, "golf-go: not supported: "):
+			return judge.Verdict{Kind: judge.Refused, Text: l}
+		case strings.HasPrefix(l, "stopped after "):
+			return judge.Verdict{Kind: judge.Stopped, Text: l}
+		}
+	}
+	got, want := strings.TrimSpace(out.String()), strings.TrimSpace(e.output)
+	if e.unordered {
+		got, want = sorted(got), sorted(want)
+	}
+	if got != want && got == e.byGo(file) {
+		return judge.Verdict{Kind: judge.Same} // the comment is about a zone of time, or about the name of the test's package
+	}
+	if got != want {
+		return judge.Verdict{Kind: judge.Different, Text: fmt.Sprintf("%.200q, by golf-go %.200q %.200q", want, got, errs.String())}
+	}
+	return judge.Verdict{Kind: judge.Same}
+}
+
+// byGo is what the program prints by Go, in the zone that golf has.
+func (e *example) byGo(file string) string {
+	cmd := exec.Command("go", "run", file)
+	cmd.Env = append(os.Environ(), "TZ=UTC")
+	out, err := cmd.Output()
+	if err != nil {
+		return ""
+	}
+	got := strings.TrimSpace(string(out))
+	if e.unordered {
+		got = sorted(got)
+	}
+	return got
+}
+
+func sorted(s string) string {
+	lines := strings.Split(s, "\n")
+	sort.Strings(lines)
+	return strings.Join(lines, "\n")
+}
+
+// write writes the table.
+func write(all []*example) {
+	count := map[string]map[judge.Kind]int{}
+	reasons := map[string]int{}
+	for _, e := range all {
+		for _, k := range []string{e.pkg, "all"} {
+			if count[k] == nil {
+				count[k] = map[judge.Kind]int{}
+			}
+			count[k][e.verdict.Kind]++
+			count[k]["all"]++
+		}
+		if e.verdict.Kind == judge.Refused {
+			reasons[judge.Reason(e.verdict.Text)]++
+		}
+	}
+	fmt.Print("| package | examples | same | refused | too many turns | different | no program |\n|---|---|---|---|---|---|---|\n")
+	for _, k := range append(packages, "all") {
+		c := count[k]
+		fmt.Printf("| %s | %d | %d | %d | %d | %d | %d |\n", k, c["all"], c[judge.Same], c[judge.Refused], c[judge.Stopped], c[judge.Different], c[judge.Unbuilt])
+	}
+	fmt.Print("\n| refused because of | examples |\n|---|---|\n")
+	var keys []string
+	for k := range reasons {
+		keys = append(keys, k)
+	}
+	sort.Slice(keys, func(i, j int) bool {
+		return reasons[keys[i]] > reasons[keys[j]] || reasons[keys[i]] == reasons[keys[j]] && keys[i] < keys[j]
+	})
+	for _, k := range keys {
+		fmt.Printf("| %s | %d |\n", strings.ReplaceAll(k, "|", `\|`), reasons[k])
+	}
+}
