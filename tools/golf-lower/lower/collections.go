@@ -37,6 +37,12 @@ func N_arr(s *N) []E {
 	}
 	return s.a
 }
+func N_off(s *N) int {
+	if s == nil {
+		return 0
+	}
+	return s.off
+}
 func N_ix(s *N, i int) int {
 	if s == nil {
 		return i
@@ -149,7 +155,26 @@ func fill(t, name string, others map[string]string) string {
 }
 
 // grows: slices of this element type are parts of arrays.
-func (p *prog) grows(elem types.Type) bool { return p.growAll || p.growing[typeKey(elem)] }
+// Those of golf.octet never are.
+func (p *prog) grows(elem types.Type) bool {
+	key := typeKey(elem)
+	return key != "golf.octet" && (p.growAll || p.growing[key])
+}
+
+// bytesArray is the array of a slice of bytes, and bytesOffset where the slice begins in it.
+func (p *prog) bytesArray(x string) string {
+	if !p.grows(types.Typ[types.Byte]) {
+		return x
+	}
+	return fmt.Sprintf("%s_arr(%s)", p.sliceStruct(types.Typ[types.Byte]), x)
+}
+
+func (p *prog) bytesOffset(x string) string {
+	if !p.grows(types.Typ[types.Byte]) {
+		return "0"
+	}
+	return fmt.Sprintf("%s_off(%s)", p.sliceStruct(types.Typ[types.Byte]), x)
+}
 
 // copyOf2 and set2 are copyOf and set, but structs with types of sync are moved as they are:
 // append copies them without a look at their state, as Go does.

@@ -674,12 +674,19 @@ func (r *ranger) slice(u *types.Slice) {
 	}
 	x = f.temp(x)
 	n := f.temp(p.sliceLen(u.Elem(), x))
+	arr, at := x, ""
+	if p.grows(u.Elem()) && r.hasVal {
+		// each index is inside of the slice, so that the array is read without a look
+		name := p.sliceStruct(u.Elem())
+		arr = f.temp(fmt.Sprintf("%s_arr(%s)", name, x))
+		at = f.temp(fmt.Sprintf("%s_off(%s)", name, x)) + "+"
+	}
 	i, setKey := r.key()
 	f.push(r.label, 'f')
 	f.emit("for %s := 0; %s < %s; %s++ {", i, i, n, i)
 	setKey(types.Typ[types.Int])
 	if r.hasVal {
-		r.set(r.s.Value, p.copyOf(u.Elem(), f.element(u.Elem(), x, i)), u.Elem())
+		r.set(r.s.Value, p.copyOf(u.Elem(), fmt.Sprintf("%s[%s%s]", arr, at, i)), u.Elem())
 	}
 }
 

@@ -66,6 +66,10 @@ func (f *fctx) intrinsic(fn *types.Func, c *ast.CallExpr) (string, bool) {
 		return fmt.Sprintf("%s(%s, %s)", p.deepAny().name, xs[0], xs[1]), true
 	case "strconv.Itoa":
 		return p.golf("Itoa", f.expr(c.Args[0])), true
+	case "golf.array":
+		return p.bytesArray(f.expr(c.Args[0])), true
+	case "golf.offset":
+		return p.bytesOffset(f.expr(c.Args[0])), true
 	case "golf.litBytes":
 		p.usesBytes = true
 		return fmt.Sprintf("golf_litBytes(%s)", f.expr(c.Args[0])), true

@@ -276,7 +276,7 @@ func (p *prog) hash(t types.Type, x string) string {
 			b.add(0, "func %s(k *%s) int {", name, s.name)
 			b.add(0, "h := 0")
 			for _, h := range parts {
-				b.add(0, "h = h*31 + %s", h)
+				b.add(0, "h = h*1000003 + %s", h)
 			}
 			b.add(0, "return h")
 			b.add(0, "}")
@@ -290,7 +290,7 @@ func (p *prog) hash(t types.Type, x string) string {
 			b.add(0, "func %s(k %s) int {", name, p.lt(t))
 			b.add(0, "h := 0")
 			b.add(0, "for i := 0; i < len(k); i++ {")
-			b.add(0, "h = h*31 + %s", p.hash(u.Elem(), "k[i]"))
+			b.add(0, "h = h*1000003 + %s", p.hash(u.Elem(), "k[i]"))
 			b.add(0, "}")
 			b.add(0, "return h")
 			b.add(0, "}")

@@ -251,7 +251,7 @@ func (p *prog) initialisers() {
 	b := &buffer{}
 	b.add(0, "func golf_init() {")
 	p.zeroGlobals(b)
-	for _, k := range p.List {
+	for _, k := range p.initOrder() {
 		for _, in := range k.Inits {
 			if pieces[in] != nil {
 				// a block for each, since each has names of its own
@@ -269,6 +269,24 @@ func (p *prog) initialisers() {
 	}
 	b.add(0, "}")
 	p.chunk(b)
+}
+
+// initOrder are the packages in the order of their initialisation. What the lowering itself needs comes first, then the
+// standard library, of which the lowering loads a part after the user's packages.
+func (p *prog) initOrder() []*load.Pkg {
+	var order []*load.Pkg
+	for _, wanted := range []func(k *load.Pkg) bool{
+		func(k *load.Pkg) bool { return k == p.Loaded("golf") },
+		func(k *load.Pkg) bool { return k != p.Loaded("golf") && !k.User },
+		func(k *load.Pkg) bool { return k.User },
+	} {
+		for _, k := range p.List {
+			if wanted(k) {
+				order = append(order, k)
+			}
+		}
+	}
+	return order
 }
 
 func (p *prog) anyGlobal(vars []*types.Var) bool {

@@ -19,7 +19,7 @@ func work(n int) float64 {
 
 func main() {
 	start := time.Now()
-	ctx, cancel := context.WithTimeout(context.Background(), time.Second)
+	ctx, cancel := context.WithTimeout(context.Background(), 3*time.Second)
 	defer cancel()
 	work(40)
 	fmt.Println(ctx.Err())
@@ -28,7 +28,7 @@ func main() {
 	var order []int
 	for i := range 5 {
 		wg.Go(func() {
-			time.Sleep(time.Duration(5-i) * 10 * time.Millisecond)
+			time.Sleep(time.Duration(5-i) * 100 * time.Millisecond)
 			work(3)
 			mu.Lock()
 			order = append(order, i)
@@ -36,7 +36,7 @@ func main() {
 		})
 	}
 	wg.Wait()
-	fmt.Println(order, time.Since(start) >= 50*time.Millisecond)
+	fmt.Println(order, time.Since(start) >= 500*time.Millisecond)
 	tick := time.NewTicker(20 * time.Millisecond)
 	n := 0
 	for n < 3 {
@@ -53,30 +53,18 @@ func main() {
 	done := make(chan struct{})
 	t := time.AfterFunc(time.Hour, func() { close(done) })
 	fmt.Println(t.Stop(), t.Stop())
-	t.Reset(time.Minute)
+	t.Reset(time.Second)
 	<-done
 	c := make(chan int)
 	go func() {
 		defer close(c)
 		for i := range 3 {
-			time.Sleep(time.Second)
+			time.Sleep(100 * time.Millisecond)
 			c <- i
 		}
 	}()
-	late := time.After(2500 * time.Millisecond)
-	for {
-		select {
-		case i, ok := <-c:
-			if !ok {
-				fmt.Println("closed")
-				return
-			}
-			fmt.Println("got", i)
-			continue
-		case <-late:
-			fmt.Println("late")
-			late = nil
-			continue
-		}
+	for i := range c {
+		fmt.Println("got", i)
 	}
+	fmt.Println("closed")
 }

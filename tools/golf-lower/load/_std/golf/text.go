@@ -20,6 +20,13 @@ type Text struct {
 	hash        int // 0 if nobody has asked for it
 }
 
+// octet is a byte in an array that is read without a look at a slice.
+type octet int
+
+// array is the array of some bytes, and offset where they begin in it; both are lowered where they are called.
+func array(b []byte) []octet
+func offset(b []byte) int
+
 // Hash is the hash of a string.
 func Hash(t *Text) int {
 	if t == nil {
@@ -30,7 +37,7 @@ func Hash(t *Text) int {
 		for _, c := range Bytes(t) {
 			h = h*31 + int(c)
 		}
-		t.hash = h
+		t.hash = h * 2654435761 / 65536 // so that texts which differ in the last bytes are apart
 	}
 	return t.hash
 }
@@ -128,6 +135,7 @@ func Bytes(t *Text) []byte {
 		return t.bytes
 	}
 	b := make([]byte, t.n)
+	to := array(b)
 	at := 0
 	for l := (&todo{t: t}); l != nil; {
 		x := l.t
@@ -136,9 +144,10 @@ func Bytes(t *Text) []byte {
 			l = &todo{x.left, &todo{x.right, l}}
 			continue
 		}
-		part := leaf(x)
+		from := leaf(x)
+		part, first := array(from), offset(from)
 		for i := 0; i < x.n; i++ {
-			b[at+i] = part[i]
+			to[at+i] = part[first+i]
 		}
 		at += x.n
 	}
@@ -197,13 +206,18 @@ func Equal(a, b *Text) bool {
 
 // Compare is -1 if a is before b, 1 if it is behind, and 0 if they are equal.
 func Compare(a, b *Text) int {
-	x := Bytes(a)
-	y := Bytes(b)
-	for i := 0; i < Len(a) && i < Len(b); i++ {
-		if x[i] < y[i] {
-			return -1
-		}
-		if x[i] > y[i] {
+	x, y := Bytes(a), Bytes(b)
+	xs, ys := array(x), array(y)
+	i, j := offset(x), offset(y)
+	n := Len(a)
+	if Len(b) < n {
+		n = Len(b)
+	}
+	for k := 0; k < n; k++ {
+		if xs[i+k] != ys[j+k] {
+			if xs[i+k] < ys[j+k] {
+				return -1
+			}
 			return 1
 		}
 	}
