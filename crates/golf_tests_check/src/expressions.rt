@@ -8,69 +8,69 @@ fn names_are_known_values(rt: HostRuntime) {
     expect(
         &rt,
         r#"
---- 3 3
+---
 package main
 func main() {
-y := x
+y := x // rule: UNKNOWN_NAME
 }
---- 3 3
+---
 package main
 func main() {
-x := main
+x := main // rule: UNKNOWN_NAME
 }
---- 3 3
+---
 package main
 func main() {
-x := int
+x := int // rule: UNKNOWN_NAME
 }
---- 3 3
+---
 package main
 func main() {
-x := _
+x := _ // rule: UNKNOWN_NAME
 }
---- 3 3
+---
 package main
 func main() {
-fmt.Println(1)
+fmt.Println(1) // rule: UNKNOWN_NAME
 }
---- 4 3
-package main
-import "fmt"
-func main() {
-fmt.Print(1)
-}
---- 4 3
+---
 package main
 import "fmt"
 func main() {
-(fmt).Println(1)
+fmt.Print(1) // rule: UNKNOWN_NAME
 }
---- 0 0
+---
+package main
+import "fmt"
+func main() {
+(fmt).Println(1) // rule: UNKNOWN_NAME
+}
+---
 package main
 import "fmt"
 func main() {
 (fmt.Println)(1)
 }
---- 4 3
+---
 package main
 import "fmt"
 func main() {
-x := fmt
+x := fmt // rule: UNKNOWN_NAME
 }
---- 5 3
+---
 package main
 type T struct { a int }
 func main() {
 t := &T{}
-_ = t.b
+_ = t.b // rule: UNKNOWN_NAME
 }
---- 6 3
+---
 package main
 type T struct { a int }
 func (t *T) m() {}
 func main() {
 t := &T{}
-_ = t.m
+_ = t.m // rule: UNKNOWN_NAME
 }"#,
     );
 }
@@ -80,108 +80,108 @@ fn operands_have_their_types(rt: HostRuntime) {
     expect(
         &rt,
         r#"
---- 3 8
+---
 package main
 func main() {
-_ = 1 + true
+_ = 1 + true // rule: WRONG_OPERAND
 }
---- 3 8
+---
 package main
 func main() {
-_ = "a" + "b"
+_ = "a" + "b" // rule: WRONG_OPERAND
 }
---- 3 8
+---
 package main
 func main() {
-_ = -true
+_ = -true // rule: WRONG_OPERAND
 }
---- 3 8
+---
 package main
 func main() {
-_ = !1
+_ = !1 // rule: WRONG_OPERAND
 }
---- 3 8
+---
 package main
 func main() {
-_ = 1 && true
+_ = 1 && true // rule: WRONG_OPERAND
 }
---- 0 0
+---
 package main
 func main() {
 _ = "a" == "b" || 1 < 2
 }
---- 3 8
+---
 package main
 func main() {
-_ = nil == nil
+_ = nil == nil // rule: WRONG_OPERAND
 }
---- 5 8
+---
 package main
 func main() {
 var s []int
 _ = s == nil
-_ = s == s
+_ = s == s // rule: WRONG_OPERAND
 }
---- 7 8
+---
 package main
 func main() {
 var c chan int
 var d <-chan int
 _ = c == d
 _ = d != nil
-_ = 1 == nil
+_ = 1 == nil // rule: WRONG_OPERAND
 }
---- 0 0
+---
 package main
 func main() {
 _ = struct{}{} == struct{}{}
 }
---- 4 8
+---
 package main
 func main() {
 var s []int
-_ = s[true]
+_ = s[true] // rule: WRONG_OPERAND
 }
---- 3 8
+---
 package main
 func main() {
-_ = 1[0]
+_ = 1[0] // rule: WRONG_OPERAND
 }
---- 4 8
+---
 package main
 func main() {
 var s []int
-_ = s[0].x
+_ = s[0].x // rule: WRONG_OPERAND
 }
---- 3 8
+---
 package main
 func main() {
-_ = nil.x
+_ = nil.x // rule: WRONG_OPERAND
 }
---- 3 8
+---
 package main
 func main() {
-_ = len(1)
+_ = len(1) // rule: WRONG_OPERAND
 }
---- 3 8
+---
 package main
 func main() {
-_ = len(nil)
+_ = len(nil) // rule: WRONG_OPERAND
 }
---- 3 8
+---
 package main
 func main() {
-_ = len(1, 2)
+_ = len(1, 2) // rule: WRONG_OPERAND
 }
---- 3 11
+---
 package main
 func main() {
-_ = len()
+_ = len() // rule: WRONG_CALL
 }
---- 3 8
+---
 package main
 func main() {
-_ = make([]int, true)
+_ = make([]int, true) // rule: WRONG_OPERAND
 }"#,
     );
 }
@@ -191,113 +191,113 @@ fn literals_name_fields_once(rt: HostRuntime) {
     expect(
         &rt,
         r#"
---- 0 0
+---
 package main
 type T struct { a int; b bool }
 func main() {
 _ = &T{b: true, a: 1}
 }
---- 4 20
+---
 package main
 type T struct { a int; b bool }
 func main() {
-_ = &T{c: 1}
+_ = &T{c: 1} // rule: WRONG_LITERAL
 }
---- 4 20
+---
 package main
 type T struct { a int; b bool }
 func main() {
-_ = &T{a: 1, a: 2}
+_ = &T{a: 1, a: 2} // rule: WRONG_LITERAL
 }
---- 4 9
+---
 package main
 type T struct { a int; b bool }
 func main() {
-_ = &T{a: true, c: 2}
+_ = &T{a: true, c: 2} // rule: NOT_ASSIGNABLE
 }
---- 4 3
+---
 package main
 type T struct { a int; b bool }
 func main() {
-_ = &T{a: x, c: 2}
+_ = &T{a: x, c: 2} // rule: UNKNOWN_NAME
 }
---- 3 20
+---
 package main
 func main() {
-_ = &T{}
+_ = &T{} // rule: WRONG_LITERAL
 }
---- 5 20
+---
 package main
 type T struct {}
 func main() {
 T := 1
-_ = &T{}
+_ = &T{} // rule: WRONG_LITERAL
 }
---- 5 4
+---
 package main
 type T struct {}
 func main() {
 T := 1
-_ = new(T)
+_ = new(T) // rule: UNKNOWN_TYPE
 }
---- 5 4
+---
 package main
 type T struct {}
 func main() {
 T := 1
-var x *T
+var x *T // rule: UNKNOWN_TYPE
 }
---- 3 4
+---
 package main
 func main() {
-_ = new(int)
+_ = new(int) // rule: UNKNOWN_TYPE
 }
---- 3 9
+---
 package main
 func main() {
-_ = []int{1, true}
+_ = []int{1, true} // rule: NOT_ASSIGNABLE
 }
---- 3 4
+---
 package main
 func main() {
-_ = []float{1}
+_ = []float{1} // rule: UNKNOWN_TYPE
 }
---- 7 4
+---
 package main
 import "sync"
 func main() {
 _ = &sync.Mutex{}
 _ = new(sync.WaitGroup)
 _ = &sync.RWMutex{}
-_ = &sync.Cond{}
+_ = &sync.Cond{} // rule: UNKNOWN_TYPE
 }
---- 3 3
+---
 package main
 func main() {
-_ = new(sync.Mutex)
+_ = new(sync.Mutex) // rule: UNKNOWN_NAME
 }
---- 4 4
+---
 package main
 import "sync"
 func main() {
-_ = new(sync.Map)
+_ = new(sync.Map) // rule: UNKNOWN_TYPE
 }
---- 3 11
+---
 package main
 func main() {
-_ = make(int)
+_ = make(int) // rule: WRONG_CALL
 }
---- 3 11
+---
 package main
 func main() {
-_ = make([]int)
+_ = make([]int) // rule: WRONG_CALL
 }
---- 5 11
+---
 package main
 func main() {
 _ = make(chan int)
 _ = make([]int, 3)
-_ = make(int, 3)
+_ = make(int, 3) // rule: WRONG_CALL
 }"#,
     );
 }
@@ -307,126 +307,126 @@ fn calls_have_their_arguments(rt: HostRuntime) {
     expect(
         &rt,
         r#"
---- 0 0
+---
 package main
 func f(a int, b bool) {}
 func main() {
 f(1, true)
 (f)(1, false)
 }
---- 4 11
+---
 package main
 func f(a int, b bool) {}
 func main() {
-f(1)
+f(1) // rule: WRONG_CALL
 }
---- 4 9
+---
 package main
 func f(a int, b bool) {}
 func main() {
-f(1, 2, 3)
+f(1, 2, 3) // rule: NOT_ASSIGNABLE
 }
---- 4 3
+---
 package main
 func f(a int) {}
 func main() {
-f(true, x)
+f(true, x) // rule: UNKNOWN_NAME
 }
---- 4 11
+---
 package main
 func main() {
 x := 1
-x()
+x() // rule: WRONG_CALL
 }
---- 3 11
+---
 package main
 func main() {
-int(1)
+int(1) // rule: WRONG_CALL
 }
---- 4 11
-package main
-import "fmt"
-func main() {
-fmt()
-}
---- 3 3
-package main
-func main() {
-_()
-}
---- 4 18
-package main
-func f() {}
-func main() {
-x := f()
-}
---- 4 11
-package main
-func f() {}
-func main() {
-x := f(1)
-}
---- 4 18
+---
 package main
 import "fmt"
 func main() {
-x := fmt.Println(nil)
+fmt() // rule: WRONG_CALL
 }
---- 5 21
+---
+package main
+func main() {
+_() // rule: UNKNOWN_NAME
+}
+---
+package main
+func f() {}
+func main() {
+x := f() // rule: WRONG_USE
+}
+---
+package main
+func f() {}
+func main() {
+x := f(1) // rule: WRONG_CALL
+}
+---
+package main
+import "fmt"
+func main() {
+x := fmt.Println(nil) // rule: WRONG_USE
+}
+---
 package main
 import "fmt"
 func main() {
 fmt.Println(1, true, "a")
-fmt.Println(nil)
+fmt.Println(nil) // rule: NOT_PRINTABLE
 }
---- 4 21
+---
 package main
 import "fmt"
 func main() {
-fmt.Println(struct{}{})
+fmt.Println(struct{}{}) // rule: NOT_PRINTABLE
 }
---- 3 21
+---
 package main
 func main() {
-panic(1)
+panic(1) // rule: NOT_PRINTABLE
 }
---- 3 11
+---
 package main
 func main() {
-panic()
+panic() // rule: WRONG_CALL
 }
---- 4 16
+---
 package main
 func main() {
 var c <-chan int
-close(c)
+close(c) // rule: WRONG_CHANNEL
 }
---- 3 16
+---
 package main
 func main() {
-close(nil)
+close(nil) // rule: WRONG_CHANNEL
 }
---- 3 11
+---
 package main
 func main() {
-close(1, 2)
+close(1, 2) // rule: WRONG_CALL
 }
---- 3 16
+---
 package main
 func main() {
-_ = <-nil
+_ = <-nil // rule: WRONG_CHANNEL
 }
---- 4 16
+---
 package main
 func main() {
 var c chan<- int
-<-c
+<-c // rule: WRONG_CHANNEL
 }
---- 4 4
+---
 package main
 import "sync"
 func main() {
-var w sync
+var w sync // rule: UNKNOWN_TYPE
 }"#,
     );
 }
@@ -436,7 +436,7 @@ fn types_of_package_sync_have_their_methods(rt: HostRuntime) {
     expect(
         &rt,
         r#"
---- 0 0
+---
 package main
 import "sync"
 func main() {
@@ -458,70 +458,70 @@ c.Signal()
 c.Broadcast()
 c.L.Lock()
 }
---- 5 3
+---
 package main
 import "sync"
 func main() {
 m := &sync.Mutex{}
-m.RLock()
+m.RLock() // rule: UNKNOWN_NAME
 }
---- 5 3
+---
 package main
 import "sync"
 func main() {
 m := &sync.Mutex{}
-x := m.Lock
+x := m.Lock // rule: UNKNOWN_NAME
 }
---- 5 11
+---
 package main
 import "sync"
 func main() {
 m := &sync.Mutex{}
-m.Lock(1)
+m.Lock(1) // rule: WRONG_CALL
 }
---- 5 9
+---
 package main
 import "sync"
 func main() {
 w := &sync.WaitGroup{}
-w.Add("a")
+w.Add("a") // rule: NOT_ASSIGNABLE
 }
---- 5 9
+---
 package main
 import "sync"
 func main() {
 r := &sync.RWMutex{}
-_ = sync.NewCond(r)
+_ = sync.NewCond(r) // rule: NOT_ASSIGNABLE
 }
---- 5 18
+---
 package main
 import "sync"
 func main() {
 _ = sync.NewCond(nil)
-sync.NewCond(nil)
+sync.NewCond(nil) // rule: WRONG_USE
 }
---- 6 10
+---
 package main
 import "sync"
 func main() {
 m := &sync.Mutex{}
 c := sync.NewCond(m)
-c.L = m
+c.L = m // rule: NO_PLACE
 }
---- 6 9
+---
 package main
 import "sync"
 func main() {
 m := &sync.Mutex{}
 c := sync.NewCond(m)
-c.L = 1
+c.L = 1 // rule: NOT_ASSIGNABLE
 }
---- 5 3
+---
 package main
 import "sync"
 func main() {
 m := &sync.Mutex{}
-_ = m.L
+_ = m.L // rule: UNKNOWN_NAME
 }"#,
     );
 }
@@ -531,7 +531,7 @@ fn finalisers_take_a_pointer_to_a_struct(rt: HostRuntime) {
     expect(
         &rt,
         r#"
---- 0 0
+---
 package main
 import "runtime"
 type T struct {}
@@ -543,71 +543,71 @@ runtime.SetFinalizer(t, f)
 runtime.SetFinalizer(t, g)
 runtime.SetFinalizer(t, nil)
 }
---- 6 22
+---
 package main
 import "runtime"
 type T struct {}
 func f(t *T) {}
 func main() {
-runtime.SetFinalizer(1, f)
+runtime.SetFinalizer(1, f) // rule: WRONG_FINALISER
 }
---- 6 22
+---
 package main
 import "runtime"
 type T struct {}
 func f(t *T, n int) {}
 func main() {
-runtime.SetFinalizer(&T{}, f)
+runtime.SetFinalizer(&T{}, f) // rule: WRONG_FINALISER
 }
---- 7 22
+---
 package main
 import "runtime"
 type T struct {}
 type U struct {}
 func f(t *U) {}
 func main() {
-runtime.SetFinalizer(&T{}, f)
+runtime.SetFinalizer(&T{}, f) // rule: WRONG_FINALISER
 }
---- 7 22
+---
 package main
 import "runtime"
 type T struct {}
 func (t *T) f() {}
 func main() {
 t := &T{}
-runtime.SetFinalizer(t, t.f)
+runtime.SetFinalizer(t, t.f) // rule: WRONG_FINALISER
 }
---- 6 22
+---
 package main
 import "runtime"
 type T struct {}
 func main() {
 t := &T{}
-runtime.SetFinalizer(t, int)
+runtime.SetFinalizer(t, int) // rule: WRONG_FINALISER
 }
---- 6 11
+---
 package main
 import "runtime"
 type T struct {}
 func main() {
 t := &T{}
-runtime.SetFinalizer(t)
+runtime.SetFinalizer(t) // rule: WRONG_CALL
 }
---- 6 3
+---
 package main
 import "runtime"
 type T struct {}
 func main() {
 t := &T{}
-runtime.SetFinalizer(t, x)
+runtime.SetFinalizer(t, x) // rule: UNKNOWN_NAME
 }
---- 6 18
+---
 package main
 import "runtime"
 type T struct {}
 func f(t *T) {}
 func main() {
-x := runtime.SetFinalizer(1, f)
+x := runtime.SetFinalizer(1, f) // rule: WRONG_USE
 }"#,
     );
 }

@@ -10,33 +10,33 @@ fn imports_are_known_and_there_once(rt: HostRuntime) {
     expect(
         &rt,
         r#"
---- 0 0
+---
 package main
 import "fmt"
 import "sync"
 func main() {}
---- 0 0
+---
 package main
 import (
 "fmt"
 "runtime"
 )
 func main() {}
---- 2 1
+---
 package main
-import "os"
+import "os" // rule: WRONG_IMPORT
 func main() {}
---- 3 1
+---
 package main
 import "fmt"
-import (
+import ( // rule: WRONG_IMPORT
 "runtime"
 "fmt"
 )
 func main() {}
---- 2 1
+---
 package main
-import "os"
+import "os" // rule: WRONG_IMPORT
 var x = y"#,
     );
 }
@@ -46,41 +46,41 @@ fn names_of_a_file_are_declared_once(rt: HostRuntime) {
     expect(
         &rt,
         r#"
---- 3 2
+---
 package main
 var x int
-const x = 1
+const x = 1 // rule: NOT_DECLARABLE
 func main() {}
---- 2 2
+---
 package main
-var len int
+var len int // rule: NOT_DECLARABLE
 func main() {}
---- 2 2
+---
 package main
-var make int
+var make int // rule: NOT_DECLARABLE
 func main() {}
---- 2 2
+---
 package main
-func fmt() {}
+func fmt() {} // rule: NOT_DECLARABLE
 func main() {}
---- 2 2
+---
 package main
-var _ int
+var _ int // rule: NOT_DECLARABLE
 func main() {}
---- 2 2
+---
 package main
-func init() {}
+func init() {} // rule: NOT_DECLARABLE
 func main() {}
---- 0 0
+---
 package main
 var init int
 func main() {}
---- 0 0
+---
 package main
 type T struct { len, init, _ int }
 func (t *T) make() {}
 func main() {}
---- 0 0
+---
 package main
 func main() {}
 type T struct {}
@@ -93,46 +93,46 @@ fn members_differ_and_methods_have_structs(rt: HostRuntime) {
     expect(
         &rt,
         r#"
---- 2 5
+---
 package main
-type T struct {
+type T struct { // rule: WRONG_MEMBER
 a int
 a bool }
 func main() {}
---- 2 5
+---
 package main
-func (t *T) a() {}
+func (t *T) a() {} // rule: WRONG_MEMBER
 func main() {}
---- 3 5
+---
 package main
 var T int
-func (t *T) a() {}
+func (t *T) a() {} // rule: WRONG_MEMBER
 func main() {}
---- 2 5
+---
 package main
-func (t *T) a() {}
+func (t *T) a() {} // rule: WRONG_MEMBER
 type T struct { a int }
 func main() {}
---- 4 5
+---
 package main
 type T struct {}
 func (t *T) a() {}
-func (t *T) a() {}
+func (t *T) a() {} // rule: WRONG_MEMBER
 func main() {}
---- 0 0
+---
 package main
 type T struct {}
 type U struct {}
 func (t *T) a() {}
 func (t *U) a() {}
 func main() {}
---- 0 0
+---
 package main
 type T struct { a1,a2,a3,a4,a5,a6,a7,a8,a9,b1,b2,b3,b4,b5,b6,b7,b8,b9,c1,c2,c3,c4,c5,c6,c7,c8,c9,d1,d2,d3,d4,d5,d6,d7,d8,d9,e1,e2,e3,e4,e5,e6,e7,e8,e9,f1,f2,f3,f4,f5,f6,f7,f8,f9,g1,g2,g3,g4,g5,g6,g7,g8,g9,h1 int }
 func main() {}
---- 2 5
+---
 package main
-type T struct { a1,a2,a3,a4,a5,a6,a7,a8,a9,b1,b2,b3,b4,b5,b6,b7,b8,b9,c1,c2,c3,c4,c5,c6,c7,c8,c9,d1,d2,d3,d4,d5,d6,d7,d8,d9,e1,e2,e3,e4,e5,e6,e7,e8,e9,f1,f2,f3,f4,f5,f6,f7,f8,f9,g1,g2,g3,g4,g5,g6,g7,g8,g9,h1,h2 int }
+type T struct { a1,a2,a3,a4,a5,a6,a7,a8,a9,b1,b2,b3,b4,b5,b6,b7,b8,b9,c1,c2,c3,c4,c5,c6,c7,c8,c9,d1,d2,d3,d4,d5,d6,d7,d8,d9,e1,e2,e3,e4,e5,e6,e7,e8,e9,f1,f2,f3,f4,f5,f6,f7,f8,f9,g1,g2,g3,g4,g5,g6,g7,g8,g9,h1,h2 int } // rule: WRONG_MEMBER
 func main() {}"#,
     );
 }
@@ -142,45 +142,45 @@ fn written_types_are_known(rt: HostRuntime) {
     expect(
         &rt,
         r#"
---- 0 0
+---
 package main
 import "sync"
 type T struct { m *sync.Mutex; w *sync.WaitGroup; r *sync.RWMutex; c *sync.Cond }
 func main() {}
---- 2 3
+---
 package main
-type T struct { m *sync.Mutex }
+type T struct { m *sync.Mutex } // rule: UNKNOWN_NAME
 func main() {}
---- 3 4
+---
 package main
 import "sync"
-var m *sync.Map
+var m *sync.Map // rule: UNKNOWN_TYPE
 func main() {}
---- 2 3
+---
 package main
-var m *sync.Map
+var m *sync.Map // rule: UNKNOWN_NAME
 func main() {}
---- 0 0
+---
 package main
 type T struct { n *T; s []chan<- *T }
 func main() {}
---- 2 4
+---
 package main
-type T struct { n T }
+type T struct { n T } // rule: UNKNOWN_TYPE
 func main() {}
---- 2 4
+---
 package main
-func f(x *int) {}
+func f(x *int) {} // rule: UNKNOWN_TYPE
 func main() {}
---- 2 4
+---
 package main
-func f() float {
+func f() float { // rule: UNKNOWN_TYPE
 return 1 }
 func main() {}
---- 3 4
+---
 package main
 var T int
-var x *T
+var x *T // rule: UNKNOWN_TYPE
 func main() {}"#,
     );
 }
@@ -190,24 +190,24 @@ fn main_is_a_function_without_parameters_and_result(rt: HostRuntime) {
     expect(
         &rt,
         r#"
---- 1 6
+---
+package main // rule: NO_MAIN
+
+---
+package main
+var main int // rule: NO_MAIN
+---
+package main
+func main(x int) {} // rule: NO_MAIN
+---
 package main
 
---- 2 6
+func main() int { return 1 } // rule: NO_MAIN
+---
 package main
-var main int
---- 2 6
-package main
-func main(x int) {}
---- 3 6
-package main
-
-func main() int { return 1 }
---- 2 4
-package main
-var x float
---- 1 6
-package main
+var x float // rule: UNKNOWN_TYPE
+---
+package main // rule: NO_MAIN
 func f() { x }
 "#,
     );
@@ -218,7 +218,7 @@ fn initialisers_call_receive_and_read_nothing_below(rt: HostRuntime) {
     expect(
         &rt,
         r#"
---- 0 0
+---
 package main
 var s []int
 var n = len(s) + 1
@@ -226,53 +226,53 @@ var c = make(chan int)
 var p = new(T)
 type T struct {}
 func main() {}
---- 2 7
+---
 package main
-var x = y
+var x = y // rule: NOT_STEADY
 var y = 1
 func main() {}
---- 2 7
+---
 package main
-var x int = x
+var x int = x // rule: NOT_STEADY
 func main() {}
---- 0 0
+---
 package main
 var x = k
 const k = 1
 func main() {}
---- 2 7
+---
 package main
-var x = f()
+var x = f() // rule: NOT_STEADY
 func f() int { return 1 }
 func main() {}
---- 2 7
+---
 package main
-var x = f(true)
+var x = f(true) // rule: NOT_STEADY
 func f(a int) int { return 1 }
 func main() {}
---- 3 7
+---
 package main
 var c chan int
-var x = <-c
+var x = <-c // rule: NOT_STEADY
 func main() {}
---- 3 7
+---
 package main
 var c chan<- int
-var x = <-c
+var x = <-c // rule: NOT_STEADY
 func main() {}
---- 0 0
+---
 package main
 import "sync"
 var m = &sync.Mutex{}
 var c = sync.NewCond(m)
 func main() { c.L.Lock() }
---- 2 23
+---
 package main
-var x = nil
+var x = nil // rule: NIL_WITHOUT_TYPE
 func main() {}
---- 2 9
+---
 package main
-var x int = true
+var x int = true // rule: NOT_ASSIGNABLE
 func main() {}"#,
     );
 }
@@ -282,60 +282,60 @@ fn bodies_use_globals_below_by_their_forms(rt: HostRuntime) {
     expect(
         &rt,
         r#"
---- 3 9
+---
 package main
 func main() {
-var s string = x
+var s string = x // rule: NOT_ASSIGNABLE
 }
 var x = 1 + 2
---- 0 0
+---
 package main
 func main() {
 var s int = x
 }
 var x = 1 + 2
---- 5 7
+---
 package main
 func main() {
 var s string = x
 }
-var x = y
+var x = y // rule: NOT_STEADY
 var y = 1
---- 0 0
+---
 package main
 func main() {
 var s int = p.next.n
 }
 var p = &T{n: 1}
 type T struct { n int; next *T }
---- 3 9 // A form sees written types wherever they stand, and globals above it.
+--- // A form sees written types wherever they stand, and globals above it.
 package main
 func main() {
-var s string = x
+var s string = x // rule: NOT_ASSIGNABLE
 }
 var x = y
 var y int
---- 3 9
+---
 package main
 func main() {
-var s string = x
+var s string = x // rule: NOT_ASSIGNABLE
 }
 var y = 1
 var x = y
---- 3 9
+---
 package main
 func main() {
-var s string = x
+var s string = x // rule: NOT_ASSIGNABLE
 }
 var x = f()
 func f() int { return 1 }
---- 5 23
+---
 package main
 func main() {
 var s string = x
 }
-var x = nil
---- 9 7 // What is not known breaks nothing: the fault is that of the initialiser.
+var x = nil // rule: NIL_WITHOUT_TYPE
+--- // What is not known breaks nothing: the fault is that of the initialiser.
 package main
 func main() {
 x.y = 1
@@ -344,9 +344,9 @@ go x.m(2)
 _ = x.y.z[0].w + x.m()
 x.n++
 }
-var x = y
+var x = y // rule: NOT_STEADY
 var y = 1
---- 10 7
+---
 package main
 func main() {
 for a, b := range x { c := a == b }
@@ -356,28 +356,28 @@ close(x)
 _ = len(x)
 panic(x)
 }
-var x = y
+var x = y // rule: NOT_STEADY
 var y = 1
---- 3 18
+---
 package main
 func main() {
-x.y
+x.y // rule: WRONG_USE
 }
 var x = y
 var y = 1
---- 4 11
+---
 package main
 func main() {
 x.y = 1
-x()
+x() // rule: WRONG_CALL
 }
 var x = y
---- 5 7
+---
 package main
 func main() {
 var s string = x
 }
-var x = s[0]
+var x = s[0] // rule: NOT_STEADY
 var s = []int{1}"#,
     );
 }
@@ -387,22 +387,22 @@ fn integers_have_64_bits(rt: HostRuntime) {
     expect(
         &rt,
         r#"
---- 0 0
+---
 package main
 const k = 9223372036854775807
 func main() {}
---- 2 19
+---
 package main
-const k = 9223372036854775808
+const k = 9223372036854775808 // rule: TOO_LARGE
 func main() {}
---- 2 19
+---
 package main
-const k = -9223372036854775808
+const k = -9223372036854775808 // rule: TOO_LARGE
 func main() {}
---- 3 19
+---
 package main
 func main() {
-x := -9223372036854775808
+x := -9223372036854775808 // rule: TOO_LARGE
 _ = x }"#,
     );
 }
@@ -412,43 +412,43 @@ fn functions_with_a_result_end_in_a_terminating_statement(rt: HostRuntime) {
     expect(
         &rt,
         r#"
---- 2 14
+---
 package main
-func f() int {
+func f() int { // rule: NOT_TERMINATING
 }
 func main() {}
---- 0 0
+---
 package main
 func f() int {
 for { }
 }
 func main() {}
---- 2 14
+---
 package main
-func f() int {
+func f() int { // rule: NOT_TERMINATING
 for { break }
 }
 func main() {}
---- 0 0
+---
 package main
 func f() int {
 for {
 for { break } }
 }
 func main() {}
---- 0 0
+---
 package main
 func f(b bool) int {
 if b { return 1 } else { panic("x") }
 }
 func main() {}
---- 2 14
+---
 package main
-func f(b bool) int {
+func f(b bool) int { // rule: NOT_TERMINATING
 if b { return 1 }
 }
 func main() {}
---- 0 0
+---
 package main
 func f(c chan int) int {
 select {
@@ -456,18 +456,18 @@ case <-c: return 1
 default: (panic("x")) }
 }
 func main() {}
---- 2 14
+---
 package main
-func f(c chan int) int {
+func f(c chan int) int { // rule: NOT_TERMINATING
 select {
 case <-c: break
 default: return 1 }
 }
 func main() {}
---- 3 3
+---
 package main
 func f() int {
-x
+x // rule: UNKNOWN_NAME
 }
 func main() {}"#,
     );

@@ -9,35 +9,35 @@ fn a_send_on_what_is_no_channel_breaks_16_and_not_9(rt: HostRuntime) {
     expect_in_main(
         &rt,
         r#"
---- 4 16
+---
 var s []int
-s <- true
---- 4 16
+s <- true // rule: WRONG_CHANNEL
+---
 var s []int
-s <- 1
---- 4 16
+s <- 1 // rule: WRONG_CHANNEL
+---
 var s []chan int
-s <- s
---- 4 16
+s <- s // rule: WRONG_CHANNEL
+---
 var n int
-n <- true
---- 3 16
-nil <- 1
---- 4 16 // In a clause of `select` too, on the line of `select`.
+n <- true // rule: WRONG_CHANNEL
+---
+nil <- 1 // rule: WRONG_CHANNEL
+--- // In a clause of `select` too, on the line of `select`.
 var s []int
-select {
+select { // rule: WRONG_CHANNEL
 
 case s <- true:
 }
---- 4 9 // What is received from alone is a channel, and carries something.
+--- // What is received from alone is a channel, and carries something.
 var c <-chan int
-c <- true
---- 4 16
+c <- true // rule: NOT_ASSIGNABLE
+---
 var c <-chan int
-c <- 1
---- 4 9
+c <- 1 // rule: WRONG_CHANNEL
+---
 var c chan int
-select {
+select { // rule: NOT_ASSIGNABLE
 
 case c <- true:
 }"#,
@@ -49,89 +49,89 @@ fn a_type_of_a_package_is_judged_like_the_name_of_a_struct(rt: HostRuntime) {
     expect(
         &rt,
         r#"
---- 5 11
+---
 package main
 import "sync"
 type T struct {}
 func main() {
-sync.Cond()
+sync.Cond() // rule: WRONG_CALL
 }
---- 5 11
+---
 package main
 import "sync"
 type T struct {}
 func main() {
-T()
+T() // rule: WRONG_CALL
 }
---- 4 11
+---
 package main
 import "sync"
 func main() {
-go sync.Mutex()
+go sync.Mutex() // rule: WRONG_CALL
 }
---- 4 11
+---
 package main
 import "sync"
 func main() {
-(sync.RWMutex)(1)
+(sync.RWMutex)(1) // rule: WRONG_CALL
 }
---- 5 10
+---
 package main
 import "sync"
 func main() {
 x := 1
-sync.Cond = x
+sync.Cond = x // rule: NO_PLACE
 }
---- 4 10
+---
 package main
 import "sync"
 func main() {
-sync.Cond++
+sync.Cond++ // rule: NO_PLACE
 }
---- 4 10
+---
 package main
 import "sync"
 func main() {
-sync.WaitGroup += 1
+sync.WaitGroup += 1 // rule: NO_PLACE
 }
---- 6 22
+---
 package main
 import ("runtime"; "sync")
 type T struct {}
 func main() {
 t := &T{}
-runtime.SetFinalizer(t, sync.Mutex)
+runtime.SetFinalizer(t, sync.Mutex) // rule: WRONG_FINALISER
 }
---- 6 22
+---
 package main
 import ("runtime"; "sync")
 type T struct {}
 func main() {
 t := &T{}
-runtime.SetFinalizer(t, T)
+runtime.SetFinalizer(t, T) // rule: WRONG_FINALISER
 }
---- 4 3
+---
 package main
 import "sync"
 func main() {
-x := sync.Mutex
+x := sync.Mutex // rule: UNKNOWN_NAME
 }
---- 4 3
+---
 package main
 import "sync"
 func main() {
-sync.Mutex
+sync.Mutex // rule: UNKNOWN_NAME
 }
---- 4 3
+---
 package main
 import "sync"
 func main() {
-sync.Mutex.Lock()
+sync.Mutex.Lock() // rule: UNKNOWN_NAME
 }
---- 3 7
+---
 package main
 import "sync"
-var x = sync.Mutex()
+var x = sync.Mutex() // rule: NOT_STEADY
 func main() {}"#,
     );
 }
@@ -141,34 +141,34 @@ fn what_a_package_lacks_is_unknown(rt: HostRuntime) {
     expect(
         &rt,
         r#"
---- 4 3
+---
 package main
 import "sync"
 func main() {
-sync.Map()
+sync.Map() // rule: UNKNOWN_NAME
 }
---- 4 3
+---
 package main
 import "sync"
 func main() {
-sync.Once = 1
+sync.Once = 1 // rule: UNKNOWN_NAME
 }
---- 3 3
+---
 package main
 func main() {
-sync.Mutex()
+sync.Mutex() // rule: UNKNOWN_NAME
 }
---- 4 3
+---
 package main
 import ("fmt"; "sync")
 func main() {
-fmt.Mutex()
+fmt.Mutex() // rule: UNKNOWN_NAME
 }
---- 4 3
+---
 package main
 import ("runtime"; "sync")
 func main() {
-runtime.Cond++
+runtime.Cond++ // rule: UNKNOWN_NAME
 }"#,
     );
 }
@@ -178,33 +178,33 @@ fn make_and_new_left_of_an_assignment_are_judged_like_len(rt: HostRuntime) {
     expect_in_main(
         &rt,
         r#"
---- 5 10
+---
 var c chan int
 var v int
-v, len = <-c
---- 5 10
+v, len = <-c // rule: NO_PLACE
+---
 var c chan int
 var v int
-v, make = <-c
---- 5 10
+v, make = <-c // rule: NO_PLACE
+---
 var c chan int
 var v int
-v, new = <-c
---- 5 10
+v, new = <-c // rule: NO_PLACE
+---
 var c chan int
 var ok bool
-make, ok = <-c
---- 6 10
+make, ok = <-c // rule: NO_PLACE
+---
 var c chan int
 select {
 
-case new = <-c:
+case new = <-c: // rule: NO_PLACE
 }
---- 4 2
+---
 var c chan int
-v, make := <-c
---- 3 2
-var new int"#,
+v, make := <-c // rule: NOT_DECLARABLE
+---
+var new int // rule: NOT_DECLARABLE"#,
     );
 }
 
@@ -213,26 +213,26 @@ fn channels_are_compared_where_either_is_assignable_to_the_other(rt: HostRuntime
     expect_in_main(
         &rt,
         r#"
---- 0 0
+---
 var c chan int
 var d <-chan int
 _ = c == d
---- 0 0
+---
 var c chan int
 var d <-chan int
 _ = d == c
---- 0 0
+---
 var c chan int
 var d chan<- int
 _ = d != c
---- 5 8
+---
 var c chan<- int
 var d <-chan int
-_ = d == c
---- 5 8
+_ = d == c // rule: WRONG_OPERAND
+---
 var c chan bool
 var d <-chan int
-_ = d == c"#,
+_ = d == c // rule: WRONG_OPERAND"#,
     );
 }
 
@@ -241,7 +241,7 @@ fn a_name_of_an_outer_block_is_new_in_an_inner_one(rt: HostRuntime) {
     expect_in_main(
         &rt,
         r#"
---- 0 0
+---
 c := make(chan int)
 x := true
 {
@@ -249,15 +249,15 @@ x, y := <-c
 _ = x + 1
 _ = y
 }
---- 5 9
+---
 c := make(chan int)
 x := true
-x, y := <-c
---- 6 9
+x, y := <-c // rule: NOT_ASSIGNABLE
+---
 c := make(chan int)
 y := 1
 { y := 2
-x, y := <-c
+x, y := <-c // rule: NOT_ASSIGNABLE
 }"#,
     );
 }
@@ -267,7 +267,7 @@ fn nil_is_a_value_of_each_pointer_of_sync(rt: HostRuntime) {
     expect(
         &rt,
         r#"
---- 0 0
+---
 package main
 import "sync"
 type T struct { c *sync.Cond; w *sync.WaitGroup; r *sync.RWMutex; m *sync.Mutex }

@@ -8,86 +8,86 @@ fn each_rule_of_declarations_is_broken_and_nearly_so(rt: HostRuntime) {
     expect(
         &rt,
         r#"
---- 2 1
+---
 package main
-import "time"
+import "time" // rule: WRONG_IMPORT
 func main() {}
---- 0 0
+---
 package main
 import "sync"
 func main() {}
---- 3 2
+---
 package main
 var a int
-func a() {}
+func a() {} // rule: NOT_DECLARABLE
 func main() {}
---- 0 0
+---
 package main
 var a int
 func b() {}
 func main() {}
---- 2 3
+---
 package main
-var m *sync.Cond
+var m *sync.Cond // rule: UNKNOWN_NAME
 func main() {}
---- 0 0
+---
 package main
 import "sync"
 var m *sync.Cond
 func main() {}
---- 2 4
+---
 package main
-type T struct { t T }
+type T struct { t T } // rule: UNKNOWN_TYPE
 func main() {}
---- 0 0
+---
 package main
 type T struct { t *T }
 func main() {}
---- 2 5
+---
 package main
-type T struct { a, a int }
+type T struct { a, a int } // rule: WRONG_MEMBER
 func main() {}
---- 0 0
+---
 package main
 type T struct { a, b int }
 func main() {}
---- 2 6
+---
 package main
-func main() int { return 1 }
---- 0 0
+func main() int { return 1 } // rule: NO_MAIN
+---
 package main
 func main() { return }
---- 2 7
+---
 package main
-var a = b
+var a = b // rule: NOT_STEADY
 var b = 1
 func main() {}
---- 0 0
+---
 package main
 var b = 1
 var a = b
 func main() {}
---- 2 13
+---
 package main
-func f() int { return }
+func f() int { return } // rule: WRONG_RETURN
 func main() {}
---- 0 0
+---
 package main
 func f() { return }
 func main() {}
---- 2 14
+---
 package main
-func f() int { for true { } }
+func f() int { for true { } } // rule: NOT_TERMINATING
 func main() {}
---- 0 0
+---
 package main
 func f() int { for { } }
 func main() {}
---- 2 19
+---
 package main
-const k = 9223372036854775808
+const k = 9223372036854775808 // rule: TOO_LARGE
 func main() {}
---- 0 0
+---
 package main
 const k = -9223372036854775807
 func main() {}"#,
@@ -99,75 +99,75 @@ fn each_rule_of_bodies_is_broken_and_nearly_so(rt: HostRuntime) {
     expect_in_main(
         &rt,
         r#"
---- 3 8
-_ = 1 < true
---- 0 0
+---
+_ = 1 < true // rule: WRONG_OPERAND
+---
 _ = 1 < 2
---- 3 9
-var s []int = 1
---- 0 0
+---
+var s []int = 1 // rule: NOT_ASSIGNABLE
+---
 var s []int = nil
---- 4 10
+---
 x := 1
--x = 2
---- 0 0
+-x = 2 // rule: NO_PLACE
+---
 x := 1
 (x) = 2
---- 3 11
-s := make([]int)
---- 0 0
+---
+s := make([]int) // rule: WRONG_CALL
+---
 s := make([]int, 0)
---- 4 12
+---
 c := make(chan int)
-go panic("a")
---- 0 0
+go panic("a") // rule: NOT_BEGUN
+---
 c := make(chan int)
 go close(c)
---- 3 13
-return nil
---- 0 0
+---
+return nil // rule: WRONG_RETURN
+---
 return
---- 4 15
+---
 select {
-default: continue }
---- 0 0
+default: continue } // rule: NOTHING_TO_LEAVE
+---
 select {
 default: break }
---- 4 16
+---
 var c <-chan int
-c <- 1
---- 0 0
+c <- 1 // rule: WRONG_CHANNEL
+---
 var c chan<- int
 c <- 1
---- 4 17
+---
 var c chan int
-for a, b := range c { }
---- 0 0
+for a, b := range c { } // rule: WRONG_RANGE
+---
 var c []int
 for a, b := range c { }
---- 4 18
+---
 var s []int
-len(s)
---- 0 0
+len(s) // rule: WRONG_USE
+---
 var s []int
 _ = len(s)
---- 3 19
-_ = 9223372036854775808
---- 0 0
+---
+_ = 9223372036854775808 // rule: TOO_LARGE
+---
 _ = 9223372036854775807
---- 3 21
-panic(1)
---- 0 0
+---
+panic(1) // rule: NOT_PRINTABLE
+---
 panic("1")
---- 3 23
-var x = nil
---- 0 0
+---
+var x = nil // rule: NIL_WITHOUT_TYPE
+---
 var x []int = nil
---- 5 24
+---
 var c chan int
 a, b := <-c
-a, b := <-c
---- 0 0
+a, b := <-c // rule: NOTHING_NEW
+---
 var c chan int
 a, b := <-c
 a, d := <-c"#,
@@ -175,21 +175,21 @@ a, d := <-c"#,
     expect(
         &rt,
         r#"
---- 3 20
+---
 package main
 type T struct { a int }
-func main() { _ = &T{b: 1} }
---- 0 0
+func main() { _ = &T{b: 1} } // rule: WRONG_LITERAL
+---
 package main
 type T struct { a int }
 func main() { _ = &T{a: 1} }
---- 5 22
+---
 package main
 import "runtime"
 type T struct {}
 func f(n int) {}
-func main() { runtime.SetFinalizer(&T{}, f) }
---- 0 0
+func main() { runtime.SetFinalizer(&T{}, f) } // rule: WRONG_FINALISER
+---
 package main
 import "runtime"
 type T struct {}

@@ -13,94 +13,94 @@ fn passes_follow_one_another(rt: HostRuntime) {
     expect(
         &rt,
         r#"
---- 3 2 // Imports, then names.
+--- // Imports, then names.
 package main
+var x int
+var x int // rule: NOT_DECLARABLE
+
+---
+package main
+import "os" // rule: WRONG_IMPORT
 var x int
 var x int
 
---- 2 1
-package main
-import "os"
-var x int
-var x int
-
---- 4 2 // Names and members in source order, then written types.
+--- // Names and members in source order, then written types.
 package main
 var a float
 var b int
-var b int
---- 3 5
+var b int // rule: NOT_DECLARABLE
+---
 package main
 var a float
-func (t *T) m() {}
---- 2 5
+func (t *T) m() {} // rule: WRONG_MEMBER
+---
 package main
-type T struct { a, a int }
+type T struct { a, a int } // rule: WRONG_MEMBER
 var len int
---- 2 2
+---
 package main
-var len int
+var len int // rule: NOT_DECLARABLE
 type T struct { a, a int }
---- 3 2
+---
 package main
 type T struct {}
-type T struct { a, a int }
---- 2 4 // Written types in source order, then `main`.
+type T struct { a, a int } // rule: NOT_DECLARABLE
+--- // Written types in source order, then `main`.
 package main
-func f(a float) {}
---- 2 4
+func f(a float) {} // rule: UNKNOWN_TYPE
+---
 package main
-func f(a float) *sync.Map {}
+func f(a float) *sync.Map {} // rule: UNKNOWN_TYPE
 var m *sync.Map
---- 2 3
+---
 package main
-var m *sync.Map
+var m *sync.Map // rule: UNKNOWN_NAME
 func f(a float) {}
---- 3 6 // `main`, then constants, initialisers and bodies in source order.
+--- // `main`, then constants, initialisers and bodies in source order.
 package main
 const k = 9223372036854775808
-var main int
---- 2 3
+var main int // rule: NO_MAIN
+---
 package main
-func f() { x }
+func f() { x } // rule: UNKNOWN_NAME
 const k = 9223372036854775808
 func main() {}
---- 2 9
+---
 package main
-var a int = true
+var a int = true // rule: NOT_ASSIGNABLE
 func f() { x }
 func main() {}
---- 2 2 // The names of a head, then the body, then its end.
+--- // The names of a head, then the body, then its end.
 package main
-func f(a, a int) int { x }
+func f(a, a int) int { x } // rule: NOT_DECLARABLE
 func main() {}
---- 3 3
+---
 package main
 func f(a int) int {
-x }
+x } // rule: UNKNOWN_NAME
 func main() {}
---- 2 1 // Fields, imports in a group and parameters have the line of their declaration.
+--- // Fields, imports in a group and parameters have the line of their declaration.
 package main
-import (
+import ( // rule: WRONG_IMPORT
 "fmt"
 "os"
 )
 func main() {}
---- 2 4
+---
 package main
-type T struct {
+type T struct { // rule: UNKNOWN_TYPE
 a int
 b float
 }
 func main() {}
---- 2 4
+---
 package main
-func f(a int,
+func f(a int, // rule: UNKNOWN_TYPE
 b float) {}
 func main() {}
---- 2 2
+---
 package main
-func f(a int,
+func f(a int, // rule: NOT_DECLARABLE
 a int) {}
 func main() {}"#,
     );
@@ -111,119 +111,119 @@ fn rules_of_initialisers_and_calls_follow_one_another(rt: HostRuntime) {
     expect(
         &rt,
         r#"
---- 2 3 // The parts of a call, then rule 7, then those on its arguments.
+--- // The parts of a call, then rule 7, then those on its arguments.
 package main
-var a = f(x)
+var a = f(x) // rule: UNKNOWN_NAME
 func f(n int) int { return n }
 func main() {}
---- 2 7
+---
 package main
-var a = f(true)
+var a = f(true) // rule: NOT_STEADY
 func f(n int) int { return n }
 func main() {}
---- 2 7
+---
 package main
-var a = f()
+var a = f() // rule: NOT_STEADY
 func f(n int) int { return n }
 func main() {}
---- 2 7
+---
 package main
-var a = f()
+var a = f() // rule: NOT_STEADY
 func f() {}
 func main() {}
---- 3 7
+---
 package main
 var a int
-var b = a()
+var b = a() // rule: NOT_STEADY
 func main() {}
---- 2 7
+---
 package main
-var a = <-1
+var a = <-1 // rule: NOT_STEADY
 func main() {}
---- 2 7
+---
 package main
-var a = len(b)
+var a = len(b) // rule: NOT_STEADY
 var b = 1
 func main() {}
---- 2 8
+---
 package main
-var a bool = len(1)
+var a bool = len(1) // rule: WRONG_OPERAND
 func main() {}
---- 4 9 // Leading pairs, then the number of arguments.
+--- // Leading pairs, then the number of arguments.
 package main
 func f(n int) {}
 func main() {
-f(true, 2) }
---- 4 9
+f(true, 2) } // rule: NOT_ASSIGNABLE
+---
 package main
 func f(n int, b bool) {}
 func main() {
-f(true) }
---- 4 3
+f(true) } // rule: NOT_ASSIGNABLE
+---
 package main
 func f(n int, b bool) {}
 func main() {
-f(1, x) }
---- 4 9
+f(1, x) } // rule: UNKNOWN_NAME
+---
 package main
 func f(n int) {}
 func main() {
-go f(true, 2) }
---- 4 11 // A call without a result is no value: after its own rules, before those of what it prints.
+go f(true, 2) } // rule: NOT_ASSIGNABLE
+--- // A call without a result is no value: after its own rules, before those of what it prints.
 package main
 func f() {}
 func main() {
-_ = f(1) }
---- 4 18
+_ = f(1) } // rule: WRONG_CALL
+---
 package main
 func f() {}
 func g() int {
-return f() }
+return f() } // rule: WRONG_USE
 func main() {}
---- 4 18
+---
 package main
 func f() {}
 func main() {
-return f() }
---- 4 3
+return f() } // rule: WRONG_USE
+---
 package main
 import "fmt"
 func main() {
-_ = fmt.Println(main) }
---- 4 18
+_ = fmt.Println(main) } // rule: UNKNOWN_NAME
+---
 package main
 import "fmt"
 func main() {
-_ = fmt.Println(nil) }
---- 4 11
+_ = fmt.Println(nil) } // rule: WRONG_USE
+---
 package main
 import "runtime"
 func main() {
-runtime.SetFinalizer(1, main, 2) }
---- 4 18
+runtime.SetFinalizer(1, main, 2) } // rule: WRONG_CALL
+---
 package main
 import "runtime"
 func main() {
-_ = runtime.SetFinalizer(1, main) }
---- 4 21
+_ = runtime.SetFinalizer(1, main) } // rule: WRONG_USE
+---
 package main
 import "fmt"
 func main() {
-go fmt.Println(nil) }
---- 4 3 // What stands in a struct literal: the values, rule 9 of the fields that are known, then rule 20.
+go fmt.Println(nil) } // rule: NOT_PRINTABLE
+--- // What stands in a struct literal: the values, rule 9 of the fields that are known, then rule 20.
 package main
 type T struct { a int }
 func main() {
-_ = &T{a: true, a: x} }
---- 4 9
+_ = &T{a: true, a: x} } // rule: UNKNOWN_NAME
+---
 package main
 type T struct { a int }
 func main() {
-_ = &T{b: 1, a: true} }
---- 3 3
+_ = &T{b: 1, a: true} } // rule: NOT_ASSIGNABLE
+---
 package main
 func main() {
-_ = &T{a: x} }"#,
+_ = &T{a: x} } // rule: UNKNOWN_NAME"#,
     );
 }
 
@@ -232,183 +232,183 @@ fn rules_of_a_statement_follow_one_another(rt: HostRuntime) {
     expect_in_main(
         &rt,
         r#"
---- 3 8 // Parts from left to right, then the whole.
-_ = (1 + true) < x
---- 3 3
-_ = x < (1 + true)
---- 3 3
-x = 1 + true
---- 3 8
-panic(-true, x)
---- 3 4 // A value without a type, then a name.
-var len float = x
---- 3 3
-var len int = x
---- 3 2
-var len int = true
---- 3 2
-var len = nil
---- 3 2
-len := nil
---- 4 23
+--- // Parts from left to right, then the whole.
+_ = (1 + true) < x // rule: WRONG_OPERAND
+---
+_ = x < (1 + true) // rule: UNKNOWN_NAME
+---
+x = 1 + true // rule: UNKNOWN_NAME
+---
+panic(-true, x) // rule: WRONG_OPERAND
+--- // A value without a type, then a name.
+var len float = x // rule: UNKNOWN_TYPE
+---
+var len int = x // rule: UNKNOWN_NAME
+---
+var len int = true // rule: NOT_DECLARABLE
+---
+var len = nil // rule: NOT_DECLARABLE
+---
+len := nil // rule: NOT_DECLARABLE
+---
 x := 1
-x := nil
---- 4 3
+x := nil // rule: NIL_WITHOUT_TYPE
+---
 x := 1
-x := y
---- 3 8 // 8 before 10 and 11, 9 before 10, 10 alone.
-nil++
---- 3 8
-1 += true
---- 3 10
-1 += 1
---- 3 9
-true = 1
---- 3 10
-true = false
---- 3 10
-nil = 1
---- 3 8
-_ = make(int, true)
---- 3 11
-_ = make(int, 1)
---- 3 4
-_ = make(float, true)
---- 3 8
-_ = len(1, 2)
---- 4 9 // 9 before 16, 11 before 16, 16 before 18, 11 before 21.
+x := y // rule: UNKNOWN_NAME
+--- // 8 before 10 and 11, 9 before 10, 10 alone.
+nil++ // rule: WRONG_OPERAND
+---
+1 += true // rule: WRONG_OPERAND
+---
+1 += 1 // rule: NO_PLACE
+---
+true = 1 // rule: NOT_ASSIGNABLE
+---
+true = false // rule: NO_PLACE
+---
+nil = 1 // rule: NO_PLACE
+---
+_ = make(int, true) // rule: WRONG_OPERAND
+---
+_ = make(int, 1) // rule: WRONG_CALL
+---
+_ = make(float, true) // rule: UNKNOWN_TYPE
+---
+_ = len(1, 2) // rule: WRONG_OPERAND
+--- // 9 before 16, 11 before 16, 16 before 18, 11 before 21.
 var c <-chan int
-c <- true
---- 3 11
-close(nil, 1)
---- 3 16
-_ = close(nil)
---- 3 11
-panic(1, 2)
---- 3 18
-_ = panic(1)
---- 3 11 // What is called, then 12.
-go nil()
---- 4 11
+c <- true // rule: NOT_ASSIGNABLE
+---
+close(nil, 1) // rule: WRONG_CALL
+---
+_ = close(nil) // rule: WRONG_CHANNEL
+---
+panic(1, 2) // rule: WRONG_CALL
+---
+_ = panic(1) // rule: WRONG_USE
+--- // What is called, then 12.
+go nil() // rule: WRONG_CALL
+---
 x := 1
-defer x()
---- 3 21
-defer panic(1)
---- 3 8
-go len(1)
---- 4 16 // Two names beside a receive: 16, then 2, then 9, then 24; 3, then 9, then 10.
+defer x() // rule: WRONG_CALL
+---
+defer panic(1) // rule: NOT_PRINTABLE
+---
+go len(1) // rule: WRONG_OPERAND
+--- // Two names beside a receive: 16, then 2, then 9, then 24; 3, then 9, then 10.
 var c chan<- int
-len, ok := <-c
---- 5 2
+len, ok := <-c // rule: WRONG_CHANNEL
+---
 var c chan int
 ok := 1
-len, ok := <-c
---- 5 24
+len, ok := <-c // rule: NOT_DECLARABLE
+---
 var c chan int
 v := 1
-v, v := <-c
---- 5 24
+v, v := <-c // rule: NOTHING_NEW
+---
 var c chan int
 v := "a"
-v, v := <-c
---- 5 9
+v, v := <-c // rule: NOTHING_NEW
+---
 var c chan int
 v := "a"
-v, w := <-c
---- 5 24
+v, w := <-c // rule: NOT_ASSIGNABLE
+---
 var c chan int
 v := 1
-v, _ := <-c
---- 4 3
+v, _ := <-c // rule: NOTHING_NEW
+---
 var c chan int
-x, true = <-c
---- 4 10
+x, true = <-c // rule: UNKNOWN_NAME
+---
 var c chan int
-nil, main = <-c
---- 4 10
+nil, main = <-c // rule: NO_PLACE
+---
 var c chan int
-_, nil = <-c
---- 3 23 // `for`: before, condition, after, body.
-for i := nil; 1; x++ { 2 }
---- 3 8
-for i := 0; 1; x++ { 2 }
---- 3 3
-for i := 0; true; x++ { 2 }
---- 3 18
-for i := 0; true; i++ { 2 }
---- 3 3 // `range`: the expression, 2, 16, 17, the body.
-for len, len := range x { y }
---- 4 2
+_, nil = <-c // rule: NO_PLACE
+--- // `for`: before, condition, after, body.
+for i := nil; 1; x++ { 2 } // rule: NIL_WITHOUT_TYPE
+---
+for i := 0; 1; x++ { 2 } // rule: WRONG_OPERAND
+---
+for i := 0; true; x++ { 2 } // rule: UNKNOWN_NAME
+---
+for i := 0; true; i++ { 2 } // rule: WRONG_USE
+--- // `range`: the expression, 2, 16, 17, the body.
+for len, len := range x { y } // rule: UNKNOWN_NAME
+---
 var c chan<- int
-for len, v := range c { y }
---- 4 16
+for len, v := range c { y } // rule: NOT_DECLARABLE
+---
 var c chan<- int
-for i, v := range c { y }
---- 4 17
+for i, v := range c { y } // rule: WRONG_CHANNEL
+---
 var c chan int
-for i, v := range c { y }
---- 5 3
+for i, v := range c { y } // rule: WRONG_RANGE
+---
 var c chan int
 for i := range c {
-y }
---- 3 23 // `if`: before, condition, branches.
-if x := nil; 1 { 2 }
---- 3 8
-if x := 1; x { 2 } else { y }
---- 3 18
-if true { 2 } else { y }
---- 4 8
+y } // rule: UNKNOWN_NAME
+--- // `if`: before, condition, branches.
+if x := nil; 1 { 2 } // rule: NIL_WITHOUT_TYPE
+---
+if x := 1; x { 2 } else { y } // rule: WRONG_OPERAND
+---
+if true { 2 } else { y } // rule: WRONG_USE
+---
 if true {
-} else if 1 {
+} else if 1 { // rule: WRONG_OPERAND
 y }
---- 3 3 // `select`: clause by clause, its operands on its own line, its names on that of `case`.
-select {
+--- // `select`: clause by clause, its operands on its own line, its names on that of `case`.
+select { // rule: UNKNOWN_NAME
 
 case <-x:
 y
 }
---- 5 2
+---
 var c chan int
 select {
-case len := <-c:
+case len := <-c: // rule: NOT_DECLARABLE
 y
 case <-x:
 }
---- 5 10
+---
 var c chan int
 select {
-case main = <-c:
+case main = <-c: // rule: NO_PLACE
 }
---- 6 18
+---
 var c chan int
 select {
 case <-c:
-1
+1 // rule: WRONG_USE
 case x <- 1:
 }
---- 4 9
+---
 var c chan bool
-select {
+select { // rule: NOT_ASSIGNABLE
 
 case c <- 1:
 }
---- 4 16
+---
 var c <-chan int
-select {
+select { // rule: WRONG_CHANNEL
 
 case c <- 1:
 }
---- 4 16
+---
 var c chan<- int
-select {
+select { // rule: WRONG_CHANNEL
 
 case v, ok := <-c:
 }
---- 6 2
+---
 var c chan int
 select {
 
-case v, v := <-c:
+case v, v := <-c: // rule: NOT_DECLARABLE
 }"#,
     );
 }

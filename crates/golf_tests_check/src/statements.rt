@@ -8,80 +8,80 @@ fn locals_are_declared_once_in_a_scope(rt: HostRuntime) {
     expect(
         &rt,
         r#"
---- 4 2
+---
 package main
 func main() {
 var x int
-var x int
+var x int // rule: NOT_DECLARABLE
 }
---- 3 2
+---
 package main
 func f(x int) {
-var x int
+var x int // rule: NOT_DECLARABLE
 }
 func main() {}
---- 2 2
+---
 package main
-func f(x, x int) {
+func f(x, x int) { // rule: NOT_DECLARABLE
 }
 func main() {}
---- 3 2
+---
 package main
 type T struct {}
-func (x *T) f(x int) {
+func (x *T) f(x int) { // rule: NOT_DECLARABLE
 }
 func main() {}
---- 2 2
+---
 package main
-func f(_ int) {
+func f(_ int) { // rule: NOT_DECLARABLE
 }
 func main() {}
---- 4 24
+---
 package main
 func main() {
 x := 1
-x := 2
+x := 2 // rule: NOTHING_NEW
 }
---- 3 24
+---
 package main
 func f(x int) {
-x := 2
+x := 2 // rule: NOTHING_NEW
 }
 func main() {}
---- 3 2
+---
 package main
 func main() {
-_ := 1
+_ := 1 // rule: NOT_DECLARABLE
 }
---- 3 2
+---
 package main
 func main() {
-len := 1
+len := 1 // rule: NOT_DECLARABLE
 }
---- 0 0
+---
 package main
 func main() {
 init := 1
 _ = init }
---- 3 23
+---
 package main
 func main() {
-x := nil
+x := nil // rule: NIL_WITHOUT_TYPE
 }
---- 3 23
+---
 package main
 func main() {
-var x = nil
+var x = nil // rule: NIL_WITHOUT_TYPE
 }
---- 3 4
+---
 package main
 func main() {
-var x float = true
+var x float = true // rule: UNKNOWN_TYPE
 }
---- 3 3
+---
 package main
 func main() {
-var x int = y
+var x int = y // rule: UNKNOWN_NAME
 var x int }"#,
     );
 }
@@ -91,7 +91,7 @@ fn each_kind_of_scope_shadows_and_ends(rt: HostRuntime) {
     expect(
         &rt,
         r#"
---- 0 0
+---
 package main
 var x int
 func main() {
@@ -102,15 +102,15 @@ _ = x == "b" }
 _ = !x
 }
 func f() int { return x }
---- 6 3
+---
 package main
 func main() {
 {
 x := 1
 _ = x }
-_ = x
+_ = x // rule: UNKNOWN_NAME
 }
---- 0 0
+---
 package main
 func main() {
 x := 1
@@ -120,30 +120,30 @@ _ = x == "b" } else {
 _ = !x }
 _ = x + 1
 }
---- 4 3
+---
 package main
 func main() {
 if x := 1; x == 1 { }
-_ = x
+_ = x // rule: UNKNOWN_NAME
 }
---- 6 3
+---
 package main
 func main() {
 for i := 0; i < 2; i++ {
 i := true
 _ = !i }
-_ = i
+_ = i // rule: UNKNOWN_NAME
 }
---- 7 3
+---
 package main
 func main() {
 var s []bool
 for i, v := range s {
 v := i + 1
 _ = v }
-_ = v
+_ = v // rule: UNKNOWN_NAME
 }
---- 8 3
+---
 package main
 func main() {
 var c chan int
@@ -151,23 +151,23 @@ select {
 case v := <-c:
 _ = v + 1
 default:
-_ = v }
+_ = v } // rule: UNKNOWN_NAME
 }
---- 6 24
+---
 package main
 func main() {
 var c chan int
 select {
 case v := <-c:
-v := 2
+v := 2 // rule: NOTHING_NEW
 _ = v }
 }
---- 3 3
+---
 package main
 func main() {
-x := x
+x := x // rule: UNKNOWN_NAME
 }
---- 0 0
+---
 package main
 func main() {
 if a := 1; a == 1 {
@@ -182,7 +182,7 @@ fn values_are_assigned_to_places(rt: HostRuntime) {
     expect(
         &rt,
         r#"
---- 0 0
+---
 package main
 type T struct { a int }
 var g bool
@@ -196,81 +196,81 @@ s[0] = 4
 g = true
 _ = nil
 }
---- 4 9
+---
 package main
 func main() {
 x := 1
-x = true
+x = true // rule: NOT_ASSIGNABLE
 }
---- 4 10
+---
 package main
 const k = 1
 func main() {
-k = 2
+k = 2 // rule: NO_PLACE
 }
---- 4 9
+---
 package main
 const k = 1
 func main() {
-k = true
+k = true // rule: NOT_ASSIGNABLE
 }
---- 3 10
+---
 package main
 func main() {
-main = 1
+main = 1 // rule: NO_PLACE
 }
---- 4 18
+---
 package main
 func f() {}
 func main() {
-f() = 1
+f() = 1 // rule: WRONG_USE
 }
---- 4 10
+---
 package main
 func f() int { return 1 }
 func main() {
-f() = 1
+f() = 1 // rule: NO_PLACE
 }
---- 3 3
+---
 package main
 func main() {
-_ += 1
+_ += 1 // rule: UNKNOWN_NAME
 }
---- 3 3
+---
 package main
 func main() {
-_++
+_++ // rule: UNKNOWN_NAME
 }
---- 4 8
+---
 package main
 func main() {
 x := true
-x++
+x++ // rule: WRONG_OPERAND
 }
---- 3 10
+---
 package main
 func main() {
-5++
+5++ // rule: NO_PLACE
 }
---- 4 8
+---
 package main
 func main() {
 x := 1
-x += true
+x += true // rule: WRONG_OPERAND
 }
---- 6 9
+---
 package main
 func main() {
 var c chan int
 var d <-chan int = c
 var e chan<- int = c
-c = d
+c = d // rule: NOT_ASSIGNABLE
 }
---- 4 9
+---
 package main
 func main() {
 var s []chan int
-var t []<-chan int = s
+var t []<-chan int = s // rule: NOT_ASSIGNABLE
 }"#,
     );
 }
@@ -280,7 +280,7 @@ fn two_names_receive_a_value_and_a_truth_value(rt: HostRuntime) {
     expect(
         &rt,
         r#"
---- 0 0
+---
 package main
 func main() {
 var c chan int
@@ -293,63 +293,63 @@ _ = !z
 v, ok = <-c
 _, _ = <-c
 }
---- 4 24
+---
 package main
 func main() {
 var c chan int
-_, _ := <-c
+_, _ := <-c // rule: NOTHING_NEW
 }
---- 4 2
+---
 package main
 func main() {
 var c chan int
-v, v := <-c
+v, v := <-c // rule: NOT_DECLARABLE
 }
---- 5 24
+---
 package main
 func main() {
 var c chan bool
 v := true
-v, v := <-c
+v, v := <-c // rule: NOTHING_NEW
 }
---- 5 9
+---
 package main
 func main() {
 var c chan int
 ok := 1
-v, ok := <-c
+v, ok := <-c // rule: NOT_ASSIGNABLE
 }
---- 4 2
+---
 package main
 func main() {
 var c chan int
-v, len := <-c
+v, len := <-c // rule: NOT_DECLARABLE
 }
---- 4 16
+---
 package main
 func main() {
 var c chan<- int
-v, ok := <-c
+v, ok := <-c // rule: WRONG_CHANNEL
 }
---- 4 3
+---
 package main
 func main() {
 var c chan int
-v, ok = <-c
+v, ok = <-c // rule: UNKNOWN_NAME
 }
---- 5 10
+---
 package main
 const k = true
 func main() {
 var c chan int
-_, k = <-c
+_, k = <-c // rule: NO_PLACE
 }
---- 5 9
+---
 package main
 func main() {
 var c chan int
 ok := 1
-_, ok = <-c
+_, ok = <-c // rule: NOT_ASSIGNABLE
 }"#,
     );
 }
@@ -359,7 +359,7 @@ fn calls_and_receives_stand_as_statements(rt: HostRuntime) {
     expect(
         &rt,
         r#"
---- 0 0
+---
 package main
 func f() int { return 1 }
 func main() {
@@ -369,43 +369,43 @@ f()
 <-c
 (<-c)
 }
---- 3 18
+---
 package main
 func main() {
-1
+1 // rule: WRONG_USE
 }
---- 3 18
+---
 package main
 func main() {
-nil
+nil // rule: WRONG_USE
 }
---- 3 3
+---
 package main
 func main() {
-main
+main // rule: UNKNOWN_NAME
 }
---- 4 18
+---
 package main
 func main() {
 var s []int
-len(s)
+len(s) // rule: WRONG_USE
 }
---- 3 18
+---
 package main
 func main() {
-make(chan int)
+make(chan int) // rule: WRONG_USE
 }
---- 4 18
+---
 package main
 type T struct {}
 func main() {
-new(T)
+new(T) // rule: WRONG_USE
 }
---- 4 18
+---
 package main
 func main() {
 var c chan int
--<-c
+-<-c // rule: WRONG_USE
 }"#,
     );
 }
@@ -415,7 +415,7 @@ fn go_and_defer_begin_calls(rt: HostRuntime) {
     expect(
         &rt,
         r#"
---- 0 0
+---
 package main
 import "sync"
 type T struct {}
@@ -429,39 +429,39 @@ defer close(c)
 w := &sync.WaitGroup{}
 go w.Done()
 }
---- 3 12
+---
 package main
 func main() {
-go panic("a")
+go panic("a") // rule: NOT_BEGUN
 }
---- 3 21
+---
 package main
 func main() {
-go panic(1)
+go panic(1) // rule: NOT_PRINTABLE
 }
---- 4 12
+---
 package main
 import "fmt"
 func main() {
-defer fmt.Println(1)
+defer fmt.Println(1) // rule: NOT_BEGUN
 }
---- 4 11
+---
 package main
 import "runtime"
 func main() {
-defer runtime.GC(1)
+defer runtime.GC(1) // rule: WRONG_CALL
 }
---- 4 12
+---
 package main
 func main() {
 var s []int
-go len(s)
+go len(s) // rule: NOT_BEGUN
 }
---- 4 9
+---
 package main
 func f(n int) {}
 func main() {
-go f(true)
+go f(true) // rule: NOT_ASSIGNABLE
 }"#,
     );
 }
@@ -471,31 +471,31 @@ fn returns_give_the_result(rt: HostRuntime) {
     expect(
         &rt,
         r#"
---- 3 9
+---
 package main
 func f() int {
-return true
+return true // rule: NOT_ASSIGNABLE
 }
 func main() {
 return
 }
---- 3 13
+---
 package main
 func f() int {
-return
+return // rule: WRONG_RETURN
 }
 func main() {}
---- 3 13
+---
 package main
 func main() {
-return 1
+return 1 // rule: WRONG_RETURN
 }
---- 3 18
+---
 package main
 func main() {
-return main()
+return main() // rule: WRONG_USE
 }
---- 0 0
+---
 package main
 func f() []int {
 return nil
@@ -509,7 +509,7 @@ fn break_and_continue_stand_in_what_they_leave(rt: HostRuntime) {
     expect(
         &rt,
         r#"
---- 0 0
+---
 package main
 func main() {
 for {
@@ -520,23 +520,23 @@ default: continue }
 select {
 default: break }
 }
---- 3 15
+---
 package main
 func main() {
-break
+break // rule: NOTHING_TO_LEAVE
 }
---- 5 15
+---
 package main
 func main() {
 select {
 default:
-continue }
+continue } // rule: NOTHING_TO_LEAVE
 }
---- 4 15
+---
 package main
 func main() {
 for { }
-continue
+continue // rule: NOTHING_TO_LEAVE
 }"#,
     );
 }
@@ -546,38 +546,38 @@ fn conditions_come_before_bodies(rt: HostRuntime) {
     expect(
         &rt,
         r#"
---- 3 8
+---
 package main
 func main() {
-if 1 {
+if 1 { // rule: WRONG_OPERAND
 x
 }
 }
---- 3 8
+---
 package main
 func main() {
-for 1 {
+for 1 { // rule: WRONG_OPERAND
 x
 }
 }
---- 3 8
+---
 package main
 func main() {
-for i := 0; i; i++ {
+for i := 0; i; i++ { // rule: WRONG_OPERAND
 x
 }
 }
---- 3 3
+---
 package main
 func main() {
-for i := 0; i < 1; x++ {
+for i := 0; i < 1; x++ { // rule: UNKNOWN_NAME
 y
 }
 }
---- 3 3
+---
 package main
 func main() {
-if x := y; z {
+if x := y; z { // rule: UNKNOWN_NAME
 }
 }"#,
     );
@@ -588,7 +588,7 @@ fn ranges_go_over_slices_and_channels(rt: HostRuntime) {
     expect(
         &rt,
         r#"
---- 0 0
+---
 package main
 func main() {
 var s []bool
@@ -600,50 +600,50 @@ for _, _ := range s { }
 for v := range c { _ = v + 1 }
 for _ := range c { }
 }
---- 4 17
+---
 package main
 func main() {
 var c chan int
-for i, v := range c {
+for i, v := range c { // rule: WRONG_RANGE
 }
 }
---- 3 17
+---
 package main
 func main() {
-for i := range 3 {
+for i := range 3 { // rule: WRONG_RANGE
 }
 }
---- 3 17
+---
 package main
 func main() {
-for i := range nil {
+for i := range nil { // rule: WRONG_RANGE
 }
 }
---- 4 16
+---
 package main
 func main() {
 var c chan<- int
-for i, v := range c {
+for i, v := range c { // rule: WRONG_CHANNEL
 }
 }
---- 4 2
+---
 package main
 func main() {
 var s []int
-for i, i := range s {
+for i, i := range s { // rule: NOT_DECLARABLE
 }
 }
---- 4 2
+---
 package main
 func main() {
 var c chan<- int
-for len := range c {
+for len := range c { // rule: NOT_DECLARABLE
 }
 }
---- 3 3
+---
 package main
 func main() {
-for len := range x {
+for len := range x { // rule: UNKNOWN_NAME
 }
 }"#,
     );
@@ -654,94 +654,94 @@ fn sends_and_clauses_have_their_lines(rt: HostRuntime) {
     expect(
         &rt,
         r#"
---- 4 16
+---
 package main
 func main() {
 c := make(<-chan int)
-c <- 1
+c <- 1 // rule: WRONG_CHANNEL
 }
---- 4 9
+---
 package main
 func main() {
 c := make(<-chan int)
-c <- true
+c <- true // rule: NOT_ASSIGNABLE
 }
---- 3 16
+---
 package main
 func main() {
-nil <- 1
+nil <- 1 // rule: WRONG_CHANNEL
 }
---- 4 9
+---
 package main
 func main() {
 var c chan int
-select {
+select { // rule: NOT_ASSIGNABLE
 
 case c <- true:
 }
 }
---- 4 16
+---
 package main
 func main() {
 var c chan<- int
-select {
+select { // rule: WRONG_CHANNEL
 
 case <-c:
 }
 }
---- 6 2
+---
 package main
 func main() {
 var c chan int
 select {
 
-case len := <-c:
+case len := <-c: // rule: NOT_DECLARABLE
 }
 }
---- 6 2
+---
 package main
 func main() {
 var c chan int
 select {
 
-case _ := <-c:
+case _ := <-c: // rule: NOT_DECLARABLE
 }
 }
---- 6 3
+---
 package main
 func main() {
 var c chan int
 select {
 
-case x = <-c:
+case x = <-c: // rule: UNKNOWN_NAME
 }
 }
---- 7 9
+---
 package main
 func main() {
 var c chan int
 var b bool
 select {
 
-case b = <-c:
+case b = <-c: // rule: NOT_ASSIGNABLE
 }
 }
---- 6 24
+---
 package main
 func main() {
 var c chan int
 select {
 
-case _, _ := <-c:
+case _, _ := <-c: // rule: NOTHING_NEW
 }
 }
---- 6 3
+---
 package main
 func main() {
 var c chan int
 select {
 case <-c:
-x
+x // rule: UNKNOWN_NAME
 case <-y:
 }
 }"#,

@@ -1,7 +1,7 @@
 //! The verdict of the checker on a text.
 
 use golf_check::{Checked, check};
-use golf_check_types::{Base, GoType, TypeFault};
+use golf_check_types::{Base, GoType, TypeFault, rules};
 use std::alloc::Global;
 use std::process::Abort;
 use std::test::Fail;
@@ -19,42 +19,65 @@ fn checked(rt: &impl Abort, alloc: Global, source: &str) -> Result<Checked, Type
 }
 
 // The line and the rule that a file breaks first, or zeros if it breaks none.
-fn verdict(rt: &impl Abort, alloc: Global, source: &str) -> (u32, u32) {
+fn verdict(rt: &impl Abort, alloc: Global, source: &str) -> (usize, u32) {
     match checked(rt, alloc, source) {
         Ok(_) => (0, 0),
-        Err(TypeFault::At { line, rule }) => (line, rule),
+        Err(TypeFault::At { line, rule }) => (line as usize, rule),
         Err(TypeFault::Memory) => panic!(rt; "out of memory"),
     }
 }
 
-// The number that a word of a head writes.
-fn number(rt: &impl Abort, word: Option<&str>) -> u32 {
-    match word {
-        None => panic!(rt; "a head without its line and rule"),
-        Some(word) => match word.parse::<u32>() {
-            Ok(number) => number,
-            Err(_) => panic!(rt; "no number: {word}"),
-        },
+// The number of a rule.
+fn rule_of(rt: &impl Abort, name: &str) -> u32 {
+    match name {
+        "WRONG_IMPORT" => rules::WRONG_IMPORT,
+        "NOT_DECLARABLE" => rules::NOT_DECLARABLE,
+        "UNKNOWN_NAME" => rules::UNKNOWN_NAME,
+        "UNKNOWN_TYPE" => rules::UNKNOWN_TYPE,
+        "WRONG_MEMBER" => rules::WRONG_MEMBER,
+        "NO_MAIN" => rules::NO_MAIN,
+        "NOT_STEADY" => rules::NOT_STEADY,
+        "WRONG_OPERAND" => rules::WRONG_OPERAND,
+        "NOT_ASSIGNABLE" => rules::NOT_ASSIGNABLE,
+        "NO_PLACE" => rules::NO_PLACE,
+        "WRONG_CALL" => rules::WRONG_CALL,
+        "NOT_BEGUN" => rules::NOT_BEGUN,
+        "WRONG_RETURN" => rules::WRONG_RETURN,
+        "NOT_TERMINATING" => rules::NOT_TERMINATING,
+        "NOTHING_TO_LEAVE" => rules::NOTHING_TO_LEAVE,
+        "WRONG_CHANNEL" => rules::WRONG_CHANNEL,
+        "WRONG_RANGE" => rules::WRONG_RANGE,
+        "WRONG_USE" => rules::WRONG_USE,
+        "TOO_LARGE" => rules::TOO_LARGE,
+        "WRONG_LITERAL" => rules::WRONG_LITERAL,
+        "NOT_PRINTABLE" => rules::NOT_PRINTABLE,
+        "WRONG_FINALISER" => rules::WRONG_FINALISER,
+        "NIL_WITHOUT_TYPE" => rules::NIL_WITHOUT_TYPE,
+        "NOTHING_NEW" => rules::NOTHING_NEW,
+        _ => panic!(rt; "no rule has this name: {name}"),
     }
 }
 
-// The line and the rule of a head. The words behind them are a remark.
-fn line_and_rule(rt: &impl Abort, head: &str) -> (u32, u32) {
-    let mut words = head.split_whitespace();
-    let line = number(rt, words.next());
-    let rule = number(rt, words.next());
-    (line, rule)
+// The line and the rule of the comment of a text, or zeros if it has none.
+fn wanted(rt: &impl Abort, source: &str) -> (usize, u32) {
+    match source.split_once("// rule: ") {
+        None => (0, 0),
+        Some((before, after)) => {
+            let (name, _) = after.split_once('\n').unwrap_or((after, ""));
+            (before.lines().count(), rule_of(rt, name))
+        }
+    }
 }
 
-/// Fails the test unless each text first breaks the rule of its head, on that line. If both numbers are 0,
-/// the text breaks no rule. A head is `\n--- LINE RULE`. Its text is on the lines after it, up to the next
-/// head or the end.
+/// Fails the test unless each text first breaks the rule that its comment names, on the line of the comment:
+/// `// rule: NOT_DECLARABLE`. A text without such a comment breaks no rule. A head is `\n---`, and may have a
+/// remark. Its text is on the lines after it, up to the next head or the end.
 pub(crate) fn expect<R: AllocGlobal + Abort>(rt: &R, rows: &str) {
-    for row in rows.split("\n--- ") {
+    for row in rows.split("\n---") {
         match row.split_once('\n') {
             None => assert!(rt; row.is_empty(), "a head without a text: {row}"),
-            Some((head, source)) => {
-                let expected = line_and_rule(rt, head);
+            Some((_, source)) => {
+                let expected = wanted(rt, source);
                 assert_eq!(rt; verdict(rt, rt.alloc(), source), expected, "in {source}");
             }
         }
@@ -69,14 +92,14 @@ fn file_of(rt: &impl Abort, alloc: Global, body: &str) -> String {
     }
 }
 
-/// Does the same as `expect` for bodies of `main`, whose first line is line 3.
+/// Does the same as `expect` for bodies of `main`.
 pub(crate) fn expect_in_main<R: AllocGlobal + Abort>(rt: &R, rows: &str) {
-    for row in rows.split("\n--- ") {
+    for row in rows.split("\n---") {
         match row.split_once('\n') {
             None => assert!(rt; row.is_empty(), "a head without a text: {row}"),
-            Some((head, body)) => {
-                let expected = line_and_rule(rt, head);
+            Some((_, body)) => {
                 let text = file_of(rt, rt.alloc(), body);
+                let expected = wanted(rt, text.as_str());
                 assert_eq!(rt;
                     verdict(rt, rt.alloc(), text.as_str()),
                     expected,
