@@ -1,14 +1,14 @@
 -- A turn that touches the innermost frame alone, of any goroutine that can run.
 -- For: `HasGoneOn` (golf_machine/specs/Batches.antt) and `go_on_among` (src/inner_batches.rt)
 -- By: computing; no induction
-use Rattle.std.proofs.Common.{◌≡◌, ℕ, ◌+◌, ◌/◌, true, false, List, [], ◌∷◌, length, Some, None, refl, sym, ap, ◌∙◌}
+use Rattle.std.proofs.Common.{◌≡◌, ℕ, ◌+◌, ◌/◌, false, List, [], ◌∷◌, length, Some, None, refl, sym, ap, ◌∙◌}
 use Rattle.golf_data.specs.declared.code.Code.{Code}
 use Rattle.golf_model.specs.State.{State, runnable, ending}
 use Rattle.golf_model.specs.Turn.{step, whose_turn, wants_collection}
 use Rattle.golf_model.specs.Runs.{Event}
 use Rattle.golf_machine.specs.InnermostTurns.{HasTakenTurn}
 use Rattle.golf_machine.specs.declared.innermost_turns.InnerTurn.{InnerTurn}
-use Rattle.golf_machine.specs.Batches.{stops_after, HasGoneOn, HasAsked}
+use Rattle.golf_machine.specs.Batches.{stops_after, HasGoneOn}
 use Rattle.golf_machine.proofs.Sequence.{one-more}
 use Rattle.golf_machine.proofs.TurnLaws.{step-taken, wants-is}
 

@@ -18,9 +18,9 @@ use Rattle.golf_model.specs.Turn.{step, whose_turn, wants_collection}
 use Rattle.golf_model.specs.Runs.{Event}
 use Rattle.golf_state.specs.Looked.{reframed, frames_of, frames_in, runs}
 use Rattle.golf_state.specs.ActorChanges.{Runs}
-use Rattle.golf_machine.specs.InnermostTurns.{MovesOnTop, MoveEach, HasTurnedOnTop}
+use Rattle.golf_machine.specs.InnermostTurns.{MovesFrame, MovesOnTop, MoveEach, MoveInside, HasTurnedInside}
 use Rattle.golf_machine.specs.declared.innermost_turns.InnerTurn.{InnerTurn}
-use Rattle.golf_machine.specs.Batches.{stops_after, steps, GoOn, HasGoneOn, HasKeptOn}
+use Rattle.golf_machine.specs.Batches.{stops_after, steps, GoOn, HasGoneOn, HasKeptInside, HasKeptOn}
 use Rattle.golf_machine.specs.Batches.{HasAsked, IsLone}
 use Rattle.golf_machine.proofs.Moves.{found, runnable-same, ending-same, reframed-is, turn-taken, collects-not}
 use Rattle.golf_machine.proofs.Sequence.{events-after}
@@ -28,24 +28,54 @@ use Rattle.golf_machine.proofs.TurnLaws.{step-taken as taken-is, wants-is, frame
 
 -- ---- the frames
 
-moves-more : (code : Code) (globals : List Value) (cs : List ℕ) (c : ℕ) (fs ks hs : List FrameView)
-    → MoveEach code globals cs fs ks → MovesOnTop code globals ks hs → MoveEach code globals (cs ++ c ∷ []) fs hs
-moves-more code globals [] c fs ks hs e p = (hs, rw (← e) p, refl)
-moves-more code globals (d ∷ cs) c fs ks hs e p = (e.0, e.1, moves-more code globals cs c e.0 ks hs e.2 p)
+-- ---- one frame
 
-pub one-kept : {passed : InnerTurn} {code : Code} {globals : List Value} {fs ks hs : List FrameView}
-    {es later rest : List Event} {n k m c : ℕ} → passed ≡ InnerTurn.Over → HasKeptOn code globals fs ks es later n k
-    → later ≡ Event.Turn c ∷ rest → m ≡ k + 1 → HasTurnedOnTop passed code globals ks hs
-    → HasKeptOn code globals fs hs es rest n m
-one-kept {code = code} {globals} {fs} {ks} {hs} {rest = rest} {c = c} t w next more p =
+inside-more : (code : Code) (globals : List Value) (cs : List ℕ) (c : ℕ) (f k h : FrameView)
+    → MoveInside code globals cs f k → MovesFrame code globals k h → MoveInside code globals (cs ++ c ∷ []) f h
+inside-more code globals [] c f k h e p = (h, rw (← e) p, refl)
+inside-more code globals (d ∷ cs) c f k h e p = (e.0, e.1, inside-more code globals cs c e.0 k h e.2 p)
+
+pub one-inside : {tried : InnerTurn} {code : Code} {globals : List Value} {f k h : FrameView}
+    {es later rest : List Event} {n j m c : ℕ} → tried ≡ InnerTurn.Over → HasKeptInside code globals f k es later n j
+    → later ≡ Event.Turn c ∷ rest → m ≡ j + 1 → HasTurnedInside tried code globals k h
+    → HasKeptInside code globals f h es rest n m
+one-inside {code = code} {globals} {f} {k} {h} {rest = rest} {c = c} t w next more p =
     let size = length-append w.taken (c ∷ []) in
     let count = w.count in
     record {
       taken = w.taken ++ c ∷ [];
       order = rw (w.order, next) (events-after w.taken (c ∷ []) rest);
       count = omega (arith, size, count, more);
-      moves = moves-more code globals w.taken c fs ks hs w.moves (rw t at p);
+      moves = inside-more code globals w.taken c f k h w.moves (rw t at p);
     }
+
+-- the frame is the innermost one
+on-top : (code : Code) (globals : List Value) (cs : List ℕ) (f h : FrameView) (callers : List FrameView)
+    → MoveInside code globals cs f h → MoveEach code globals cs (f ∷ callers) (h ∷ callers)
+on-top code globals [] f h callers e = ap (λ (x : FrameView). x ∷ callers) e
+on-top code globals (c ∷ cs) f h callers e = (
+  e.0 ∷ callers,
+  record { first = f; next = e.0; callers = callers; were = refl; are = refl; moves = e.1 },
+  on-top code globals cs e.0 h callers e.2,
+)
+
+kept-on-top : {code : Code} {globals : List Value} {f h : FrameView} (callers : List FrameView) {es later : List Event}
+    {n k : ℕ} → HasKeptInside code globals f h es later n k
+    → HasKeptOn code globals (f ∷ callers) (h ∷ callers) es later n k
+kept-on-top {code} {globals} {f} {h} callers w = record {
+  taken = w.taken;
+  order = w.order;
+  count = w.count;
+  moves = on-top code globals w.taken f h callers w.moves;
+}
+
+pub asked-on-top : (code : Code) (globals : List Value) {f h : FrameView} (callers fs hs : List FrameView)
+    (o : Option ℕ) (before after : List Event) (given now : ℕ) → fs ≡ f ∷ callers → hs ≡ h ∷ callers
+    → HasAsked o (λ es n. HasKeptInside code globals f h before es given n) after now
+    → HasAsked o (λ es n. HasKeptOn code globals fs hs before es given n) after now
+asked-on-top code globals callers fs hs None before after given now were are a = (rw (were, are) (kept-on-top callers a.0), a.1)
+asked-on-top code globals callers fs hs (Some c) before after given now were are a =
+    (a.0, rw (were, are) (kept-on-top callers a.1), a.2)
 
 -- ---- the state
 

@@ -7,7 +7,7 @@ use Rattle.golf_model.specs.State.{State, runnable, ending, not_empty}
 use Rattle.golf_model.specs.Turn.{step, wants_collection}
 use Rattle.golf_model.specs.Runs.{Event}
 use Rattle.golf_machine.specs.Turns.{turned_of}
-use Rattle.golf_machine.specs.InnermostTurns.{MoveEach}
+use Rattle.golf_machine.specs.InnermostTurns.{MoveEach, MoveInside}
 use Rattle.golf_machine.specs.declared.turns.Turned.{Turned}
 
 -- whether the next event is a turn
@@ -49,6 +49,15 @@ pub record HasGoneOn (code : Code) (old new : State) (before after : List Event)
   pub count : now ≡ given + length taken
   pub silent : GoOn code old taken
   pub state : new ≡ steps code old taken
+
+-- with this frame and these globals, exactly the turns of the numbers that were given were taken, and each touched only
+-- the frame
+pub record HasKeptInside (code : Code) (globals : List Value) (f h : FrameView) (before after : List Event)
+    (given now : ℕ) : Type 0 where
+  pub taken : List ℕ
+  pub order : before ≡ turn_events taken ++ after
+  pub count : now ≡ given + length taken
+  pub moves : MoveInside code globals taken f h
 
 -- with these frames and globals, exactly the turns of the numbers that were given were taken, and each touched only the
 -- innermost frame

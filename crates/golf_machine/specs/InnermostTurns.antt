@@ -69,6 +69,11 @@ HasTurnedOnTop InnerTurn.Over code globals fs hs = MovesOnTop code globals fs hs
 HasTurnedOnTop (InnerTurn.At line after) code globals fs hs = (hs ≡ fs) × IsAtTop code fs line.now after
 HasTurnedOnTop InnerTurn.Nowhere code globals fs hs = (hs ≡ fs) × IsNowhereOnTop code fs
 
+-- a frame takes its turn so once for each of these numbers
+abbrev pub MoveInside : Code → List Value → List ℕ → FrameView → FrameView → Type 0
+MoveInside code globals [] f h = h ≡ f
+MoveInside code globals (c ∷ cs) f h = (k : FrameView) × MovesFrame code globals f k × MoveInside code globals cs k h
+
 -- the innermost frame takes its turn so once for each of these numbers
 abbrev pub MoveEach : Code → List Value → List ℕ → List FrameView → List FrameView → Type 0
 MoveEach code globals [] fs hs = hs ≡ fs

@@ -6,15 +6,42 @@ ghost use Rattle.std.specs.Prelude.{◌≡◌, ℕ, [], Some, None, IfOk, OnErr,
 ghost use Rattle.golf_theory.specs.Maps.{IsRising};
 ghost use Rattle.golf_data.specs.Places.{HasPlaces};
 ghost use Rattle.golf_model.specs.State.{ending};
-ghost use Rattle.golf_model.specs.Views.{frame_views};
-ghost use Rattle.golf_machine.specs.Batches.{HasGoneOn, HasKeptOn, HasAsked, IsLone};
+ghost use Rattle.golf_model.specs.Views.{frame_view, frame_views};
+ghost use Rattle.golf_machine.specs.Batches.{HasGoneOn, HasKeptInside, HasKeptOn, HasAsked, IsLone};
 
-use crate::innermost_turns::{InnerTurn, inner_turn, turn_on_top};
+use crate::innermost_turns::{InnerTurn, function_of, inner_turn, turn_in};
 use crate::numbers::Numbers;
 use crate::turns::shared_out;
 use golf_base::{GoroutineId, List, Memory};
 use golf_data::{Code, Frame, Value};
 use golf_state::State;
+
+// Takes turns of a frame with these globals, one for each number, as long as each touches only the frame. Returns the
+// number of the first other turn, which is still to be taken, or `None` if no turn comes next. On `Memory` the frame is
+// that before the turn of the last number.
+#[inline(always)]
+fn keep_on_inside<N: Numbers>(
+    code: &Code,
+    globals: &[Value],
+    frame: &mut Frame,
+    numbers: &mut N,
+) -> Result<Option<u64>, Memory>
+    requires places { HasPlaces code.now }
+    ensures ok { IfOk result (λ next. HasAsked next (λ es n. HasKeptInside code.now globals.now (frame_view frame.old) (frame_view frame.new) (N.left numbers.old) es (N.given numbers.old) n) (N.left numbers.new) (N.given numbers.new)) }
+    ensures err { OnErr result ((c : ℕ) × HasAsked (Some c) (λ es n. HasKeptInside code.now globals.now (frame_view frame.old) (frame_view frame.new) (N.left numbers.old) es (N.given numbers.old) n) (N.left numbers.new) (N.given numbers.new)) }
+{
+    let Some(function) = function_of(code, frame) else {
+        return Ok(numbers.next());
+    };
+    while let Some(number) = numbers.next() {
+        match turn_in(code, function, globals, frame)? {
+            InnerTurn::Over => {}
+            InnerTurn::At(_, _) => return Ok(Some(number)),
+            InnerTurn::Nowhere => return Ok(Some(number)),
+        }
+    }
+    Ok(None)
+}
 
 // Takes turns with these frames and globals, one for each number, as long as each touches only the
 // innermost frame. Returns the number of the first other turn, which is still to be taken, or `None` if no
@@ -29,14 +56,12 @@ fn keep_on<N: Numbers>(
     ensures ok { IfOk result (λ next. HasAsked next (λ es n. HasKeptOn code.now globals.now (frame_views frames.old) (frame_views frames.new) (N.left numbers.old) es (N.given numbers.old) n) (N.left numbers.new) (N.given numbers.new)) }
     ensures err { OnErr result ((c : ℕ) × HasAsked (Some c) (λ es n. HasKeptOn code.now globals.now (frame_views frames.old) (frame_views frames.new) (N.left numbers.old) es (N.given numbers.old) n) (N.left numbers.new) (N.given numbers.new)) }
 {
-    while let Some(number) = numbers.next() {
-        match turn_on_top(code, globals, frames)? {
-            InnerTurn::Over => {}
-            InnerTurn::At(_, _) => return Ok(Some(number)),
-            InnerTurn::Nowhere => return Ok(Some(number)),
-        }
+    let count = frames.len();
+    if count == 0 {
+        return Ok(numbers.next());
     }
-    Ok(None)
+    let next = keep_on_inside(code, globals, frames.item_mut(count - 1), numbers)?;
+    Ok(next)
 }
 
 // The only goroutine that can run, or `None` if several can, or if the output is not empty. If three run,

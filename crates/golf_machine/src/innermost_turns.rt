@@ -2,11 +2,12 @@
 //!
 //! Such a turn needs neither the other goroutines nor the wait queues.
 
-ghost use Rattle.std.specs.Prelude.{◌≡◌, IfOk, OnErr, option_map, slice_get};
+ghost use Rattle.std.specs.Prelude.{◌≡◌, Some, IfOk, IfSome, IfNone, OnErr, option_map, slice_get};
+ghost use Rattle.golf_data.specs.declared.goroutine.Leaving.{Leaving};
 ghost use Rattle.golf_data.specs.Places.{HasPlaces};
 ghost use Rattle.golf_model.specs.Views.{frame_view, frame_views};
 ghost use Rattle.golf_state.specs.ActorChanges.{Runs};
-ghost use Rattle.golf_machine.specs.InnermostTurns.{cleared_in, HasTurnedInside, HasTurnedOnTop, HasTakenTurn};
+ghost use Rattle.golf_machine.specs.InnermostTurns.{cleared_in, IsNowhere, HasTurnedInside, HasTurnedOnTop, HasTakenTurn};
 
 use crate::within::{Within, perform_within};
 use golf_base::{GoroutineId, List, Memory};
@@ -58,25 +59,23 @@ fn clear_in(function: &Function, frame: &mut Frame)
     }
 }
 
-// Takes the turn of a frame, with these globals, if its instruction touches only the frame, a rule fits,
-// and it does not panic.
+/// Takes the turn of a frame of this function that is not leaving, with these globals, if its instruction touches only
+/// the frame, a rule fits, and it does not panic.
 #[inline(always)]
-fn turn_inside<'c>(
+pub(crate) fn turn_in<'c>(
     code: &'c Code,
+    function: &'c Function,
     globals: &[Value],
     frame: &mut Frame,
 ) -> Result<InnerTurn<'c>, Memory>
     requires places { HasPlaces code.now }
+    requires function { Some function.now ≡ slice_get code.now.functions frame.old.function }
+    requires stays { frame.old.leaving ≡ Leaving.No }
     ensures ok { IfOk result (λ tried. HasTurnedInside tried code.now globals.now (frame_view frame.old) (frame_view frame.new)) }
+    ensures function { IfOk result (λ tried. frame.new.function ≡ frame.old.function) }
+    ensures stays { IfOk result (λ tried. frame.new.leaving ≡ Leaving.No) }
     ensures err { OnErr result (frame_view frame.new ≡ frame_view frame.old) }
 {
-    match frame.leaving {
-        Leaving::No => {}
-        Leaving::Returning(_) | Leaving::Unwinding(_) => return Ok(InnerTurn::Nowhere),
-    }
-    let Some(function) = function_at(code, frame.function) else {
-        return Ok(InnerTurn::Nowhere);
-    };
     let Some(line) = line_in(function, frame.at) else {
         return Ok(InnerTurn::Nowhere);
     };
@@ -88,6 +87,36 @@ fn turn_inside<'c>(
     }
     clear_in(function, frame);
     Ok(InnerTurn::Over)
+}
+
+/// Returns the function of a frame, or `None` if the frame is leaving, or if there is no such function.
+#[inline(always)]
+pub(crate) fn function_of<'c>(code: &'c Code, frame: &Frame) -> Option<&'c Function>
+    ensures some { IfSome result (λ f. (Some f.now ≡ slice_get code.now.functions frame.now.function) × (frame.now.leaving ≡ Leaving.No)) }
+    ensures none { IfNone result (IsNowhere code.now (frame_view frame.now)) }
+{
+    match frame.leaving {
+        Leaving::No => function_at(code, frame.function),
+        Leaving::Returning(_) | Leaving::Unwinding(_) => None,
+    }
+}
+
+// Takes the turn of a frame, with these globals, as `turn_in` does, if it is not leaving.
+#[inline(always)]
+fn turn_inside<'c>(
+    code: &'c Code,
+    globals: &[Value],
+    frame: &mut Frame,
+) -> Result<InnerTurn<'c>, Memory>
+    requires places { HasPlaces code.now }
+    ensures ok { IfOk result (λ tried. HasTurnedInside tried code.now globals.now (frame_view frame.old) (frame_view frame.new)) }
+    ensures err { OnErr result (frame_view frame.new ≡ frame_view frame.old) }
+{
+    let Some(function) = function_of(code, frame) else {
+        return Ok(InnerTurn::Nowhere);
+    };
+    let tried = turn_in(code, function, globals, frame)?;
+    Ok(tried)
 }
 
 /// Takes the turn of the innermost frame, if there is one, as `turn_inside` does.

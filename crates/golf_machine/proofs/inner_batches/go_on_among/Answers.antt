@@ -1,5 +1,3 @@
-use Rattle.std.proofs.Common.{◌≡◌, Some}
-use Rattle.golf_model.specs.Turn.{whose_turn}
 use Rattle.golf_machine.proofs.Among.{one-among}
 use Rattle.golf_machine.proofs.TurnLaws.{turn-runs, whose}
 use Rattle.golf_machine.proofs.inner_batches.go_on_among.Goals as goal
