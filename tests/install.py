@@ -1,9 +1,10 @@
 #!/usr/bin/env python3
 """Tries ./install: into a new folder, from a copy of the clone that is gone afterwards, and away again.
 
-What is installed must do what the released programs do, with an empty environment and as another user. After
-`--remove` nothing may be left. The man pages and completions must have each option that docs/USAGE.md names. golf-go
-is tried if Go 1.24 is there. It needs Linux, and root for what another user does.
+What is installed must do what the released programs do, with an empty environment and as another user. The front end
+and the page must find the programs beside themselves. After `--remove` nothing may be left. The man pages and
+completions must have each option that docs/USAGE.md names. golf-go is tried if Go 1.24 is there. It needs Linux, and
+root for what another user does.
 """
 
 import os
@@ -26,6 +27,11 @@ def end_of(command, text=b"", env=None):
     """Returns status, output and errors of a command, with an empty environment if none is given."""
     done = subprocess.run(command, input=text, env=env or {}, capture_output=True, timeout=900)
     return done.returncode, done.stdout, done.stderr
+
+
+def can_be_another():
+    """Whether a command can be run as another user."""
+    return os.geteuid() == 0 and shutil.which("setpriv") is not None
 
 
 class Trial:
@@ -59,18 +65,34 @@ class Trial:
             self.expect(f"the bytes of {name}", (prefix / "bin" / name).read_bytes(), released(name).read_bytes())
         status, output, errors = end_of([*user, str(prefix / "bin" / "golf-page"), str(LEAK)])
         self.expect("golf-page", (status, output[:15], errors), (0, b"<!doctype html>", b""))
-        status, output, errors = end_of([*user, str(prefix / "bin" / "golf-page"), "--version"])
-        number = text_of(ROOT / "VERSION").strip().encode()
-        self.expect("golf-page --version", (status, output.split(b"\n")[0], errors), (0, b"golf-page " + number, b""))
+        self.version(prefix, "golf-page", user)
+        self.front_end(prefix, user)
 
-    def front_end(self, prefix):
-        """golf-go finds the others on the path."""
+    def version(self, prefix, name, user):
+        """The version is that of the release, with what BUILD says of the programs."""
+        status, output, errors = end_of([*user, str(prefix / "bin" / name), "--version"])
+        lines = output.decode().splitlines()
+        number = text_of(ROOT / "VERSION").strip()
+        self.expect(f"{name} --version", (status, lines[:1], errors), (0, [f"{name} {number}"], b""))
+        noted = re.findall(r"(?:program|sources|day|toolchain) (.*)", text_of(ROOT / "release" / "BUILD"))
+        self.expect(f"{name} --version, BUILD", [one for one in noted if one not in output.decode()], [])
+
+    def front_end(self, prefix, user=()):
+        """golf-go finds the others beside itself, with an empty environment, and through a link."""
         if not (prefix / "bin" / "golf-go").exists():
             print("install: golf-go: left out, since Go 1.24 is not installed")
             return
-        env = {"PATH": f"{prefix / 'bin'}:/usr/bin:/bin"}
-        status, _, errors = end_of([str(prefix / "bin" / "golf-go"), str(LEAK)], env=env)
-        self.expect("golf-go", (status, b"goroutine 2: chan receive at line 5 in recv" in errors), (1, True))
+        self.version(prefix, "golf-go", user)
+        link = self.folder / "a link to golf-go"
+        link.unlink(missing_ok=True)
+        link.symlink_to(prefix / "bin" / "golf-go")
+        for program in (prefix / "bin" / "golf-go", link):
+            for words, status, part in (([LEAK], 1, b"goroutine 2: chan receive at line 5 in recv"),
+                                        (["explore", LEAK], 1, b"goroutine 2: chan receive at line 5 in recv"),
+                                        (["page", LEAK], 0, b"<!doctype html>"),
+                                        (["--help"], 0, b"golf-go run PACKAGE")):
+                found, output, errors = end_of([*user, str(program), *map(str, words)])
+                self.expect(f"{program.name} {words[0]}", (found, part in output + errors), (status, True))
 
     def odd_words(self):
         """Wrong words have status 2, what cannot be done has status 1, and one line says why."""
@@ -88,7 +110,7 @@ class Trial:
 
     def another_user(self):
         """Another user installs from a clone that cannot be written to."""
-        if os.geteuid() != 0 or not shutil.which("setpriv"):
+        if not can_be_another():
             print("install: another user: left out, since that takes root and setpriv")
             return
         home = self.folder / "home"
@@ -112,7 +134,9 @@ class Trial:
         (prefix / "bin" / "mine").write_text("mine", encoding="utf-8")
         self.clone.rename(self.folder / "moved")
         self.programs(prefix)
-        self.front_end(prefix)
+        if can_be_another():
+            self.folder.chmod(0o755)
+            self.programs(prefix, ["env", "-i", *NOBODY])
         (self.folder / "moved").rename(self.clone)
         self.expect("remove", self.install("--remove", prefix)[0], 0)
         left = sorted(str(path.relative_to(prefix)) for path in prefix.rglob("*"))

@@ -12,12 +12,13 @@ Makes one page of a run, which needs nothing else. An answer of golf-explore is 
     --source ORIGINAL   a file from which it was lowered, once for each
     --command TEXT      the command that the page shows
 
-The status is 0 if there is a page, 5 if the words are wrong, else 1.
+The status is 0 if there is a page, 5 if the words are wrong, else 1. When golf-page is ended, the programs end too.
 """
 
 import html
 import os
 import re
+import signal
 import sys
 
 import home
@@ -185,5 +186,16 @@ def put(text):
     return 0
 
 
+def whole(words):
+    """Does what the words ask for, unless a signal ends it. Returns the status."""
+    for number in (signal.SIGTERM, signal.SIGHUP):
+        signal.signal(number, signal.default_int_handler)
+    try:
+        return main(words)
+    except KeyboardInterrupt:
+        print("golf-page: ended", file=sys.stderr)
+        return 1
+
+
 if __name__ == "__main__":
-    sys.exit(main(sys.argv[1:]))
+    sys.exit(whole(sys.argv[1:]))

@@ -6,6 +6,7 @@ program are datagram sockets that are connected to one receiver. Each write is o
 order of the writes, and the address of the sender tells the stream.
 """
 
+import contextlib
 import os
 import secrets
 import socket
@@ -88,10 +89,21 @@ def in_order(command, source):
             except OSError as fault:
                 raise Failure(f"{command[0]}: {fault.strerror}") from fault
             # When the command has ended, all its messages are in the queue of the receiver.
-            threading.Thread(target=lambda: (process.wait(), end.send(b"")), daemon=True).start()
+            threading.Thread(target=tell_end, args=(process, end), daemon=True).start()
             streams = {output.getsockname(): OUTPUT, errors.getsockname(): ERRORS}
-            writes = received(receiver, streams, os.path.basename(command[0]))
+            try:
+                writes = received(receiver, streams, os.path.basename(command[0]))
+            except BaseException:
+                process.kill()  # a signal ends golf-page, and nothing is left of it
+                raise
         return Written(writes, process.wait(), True)
+
+
+def tell_end(process, end):
+    """Sends an empty message when a process has ended."""
+    process.wait()
+    with contextlib.suppress(OSError):
+        end.send(b"")
 
 
 def fresh_name():

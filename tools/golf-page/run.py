@@ -2,6 +2,7 @@
 
 import re
 
+from asleep import sleepers_of
 from program import ERRORS, Failure
 from story import Story
 from traced import Trace
@@ -15,7 +16,8 @@ USAGE = 5
 
 class Run:
     """A run: its trace, the story of its goroutines, what the file printed, its last line with the places of the
-    page, and its status. `how` says where the reasons are from."""
+    page, and its status. `how` says where the reasons are from. `kinds` and `holders` tell by goroutine how it waits
+    where all are asleep, and which operation of the holder has locked what it waits for."""
 
     def __init__(self, programs, places, words):
         self.programs, self.places = programs, places
@@ -28,7 +30,10 @@ class Run:
         self.exits = self.printed.exit is not None and bool(self.trace.tail)
         self.status = self.printed.exit if self.exits else self.trace.status
         self.how = ""
+        self.kinds, self.holders = {}, {}
         if self.accepted:
+            if not places.finalisers:
+                self.kinds, self.holders = sleepers_of(programs, self.trace, self.repeated)
             self.how = add_ways(self.story, self.trace, programs, self.repeated, places.finalisers)
 
     @property

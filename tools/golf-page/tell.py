@@ -3,7 +3,7 @@
 import html
 import re
 
-from story import FINALISERS
+from story import FINALISERS, MAIN
 from traced import COLLECTION, DEAD, REACHED, STOPPED
 
 STATUS = {
@@ -160,16 +160,26 @@ def report_lines(run):
 
 
 def asleep_lines(run):
-    """Returns a line for each blocked goroutine of a run that ended asleep: how and where it waits, and its start. Of
-    the last wait it is not known how: no collection follows it."""
+    """Returns a line for each blocked goroutine of a run that ended asleep: how and where it waits, its start, and who
+    holds the lock that it waits for. If the run could not be repeated, it is not known how the last one waits."""
     lines, told = [], run.places.told
     for number, goroutine in sorted(run.story.goroutines.items()):
         wait = goroutine.waits[-1] if goroutine.waits else None
         if number != FINALISERS and wait and wait.end is None and goroutine.end is None and goroutine.removed is None:
-            started = f", started at {told(goroutine.started)}" if goroutine.started else ""
-            line = f"goroutine {number}: {wait.kind or 'blocked'} at {told(wait.line)}{started}"
+            started = f", started at {told(goroutine.started)}" if goroutine.started and number != MAIN else ""
+            kind = run.kinds.get(number) or wait.kind or "blocked"
+            holder = held(run.holders.get(number), number, told)
+            line = f"goroutine {number}: {kind} at {told(wait.line)}{started}{holder}"
             lines.append((run.story.last, line, "asleep", number))
     return lines
+
+
+def held(lock, waiter, told):
+    """Returns the words for the operation of the holder of a lock, if it is known."""
+    if lock is None:
+        return ""
+    by = "itself" if lock.goroutine == waiter else f"goroutine {lock.goroutine}"
+    return f", locked by {by} at {told(lock.line)}"
 
 
 def kind_of(line):

@@ -20,12 +20,12 @@ func Package(l *load.Loader, k *load.Pkg) {
 	k.Desugared = true
 	for _, f := range k.Files {
 		for _, d := range f.Decls {
-			declaration(l, k, d)
+			declaration(l, k, d, l.OldLoops(f))
 		}
 	}
 }
 
-func declaration(l *load.Loader, k *load.Pkg, d ast.Decl) {
+func declaration(l *load.Loader, k *load.Pkg, d ast.Decl, old bool) {
 	defer func() {
 		switch e := recover().(type) {
 		case nil:
@@ -37,7 +37,7 @@ func declaration(l *load.Loader, k *load.Pkg, d ast.Decl) {
 			panic(e)
 		}
 	}()
-	s := &desugarer{loader: l, info: l.Info, pkg: k.Types, old: k.Old}
+	s := &desugarer{loader: l, info: l.Info, pkg: k.Types, old: old}
 	if fd, ok := d.(*ast.FuncDecl); ok {
 		if fn, ok := l.Info.Defs[fd.Name].(*types.Func); ok && fd.Body != nil {
 			s.body(fn.Signature(), fd.Body)

@@ -21,7 +21,6 @@ type Pkg struct {
 	Files []*ast.File
 	Inits []*types.Initializer
 	User  bool // it is of the user's module, or of a module that it needs
-	Old   bool // of a version of Go in which a loop has its variables once
 
 	Desugared bool // package desugar has changed it
 }
@@ -38,9 +37,13 @@ type Loader struct {
 	InGeneric map[*types.TypeName]bool
 	// Faulty has declarations that are refused once they are reached, since they name what the models lack.
 	Faulty map[ast.Decl]error
+	// More has the other errors of such a declaration that are no consequence of the first.
+	More map[ast.Decl][]error
 
 	pkgs    map[string]*Pkg
 	program *Program
+	parsed  map[string][]*ast.File // the packages that are parsed and not checked yet
+	genuine map[*ast.File]bool     // files of GOROOT
 }
 
 // New loads a program.
@@ -54,13 +57,19 @@ func New(program *Program) (*Loader, error) {
 			Implicits:  map[ast.Node]types.Object{},
 			Selections: map[*ast.SelectorExpr]*types.Selection{},
 			Instances:  map[*ast.Ident]types.Instance{},
+
+			FileVersions: map[*ast.File]string{},
 		},
 		Context:   types.NewContext(),
 		InGeneric: map[*types.TypeName]bool{},
 		Faulty:    map[ast.Decl]error{},
+		More:      map[ast.Decl][]error{},
 		pkgs:      map[string]*Pkg{},
 		program:   program,
+		parsed:    map[string][]*ast.File{},
+		genuine:   map[*ast.File]bool{},
 	}
+	l.prune(program.Roots)
 	for _, name := range program.Roots {
 		if _, err := l.Import(name); err != nil {
 			return nil, first(err)
@@ -95,9 +104,12 @@ func (l *Loader) Import(name string) (*types.Package, error) {
 	if user := l.program.Packages[name]; user != nil {
 		return l.user(name, user)
 	}
-	files, err := l.standard(name)
-	if err != nil {
-		return nil, err
+	files := l.parsed[name]
+	if files == nil {
+		var err error
+		if files, err = l.standard(name); err != nil {
+			return nil, err
+		}
 	}
 	if files == nil {
 		// nothing of the package is there: what is reached of it is refused
@@ -112,21 +124,28 @@ func (l *Loader) Import(name string) (*types.Package, error) {
 // installed is the version of the language of the Go that built this program.
 var installed = version.Lang(runtime.Version())
 
+// Since: the Go that is installed is of this version or a newer one.
+func Since(lang string) bool { return version.Compare(installed, lang) >= 0 }
+
 // user parses and checks a package of the user's.
 func (l *Loader) user(name string, p *Package) (*types.Package, error) {
 	if len(p.Files) == 0 {
 		return nil, &Error{Msg: "no Go file"}
 	}
-	var files []*ast.File
-	for _, s := range p.Files {
-		f, err := parser.ParseFile(l.Fset, s.Name, s.Text, parser.SkipObjectResolution|parser.ParseComments)
-		if err != nil {
-			return nil, err
+	files := l.parsed[name]
+	if files == nil {
+		for _, s := range p.Files {
+			f, err := parser.ParseFile(l.Fset, s.Name, s.Text, parser.SkipObjectResolution|parser.ParseComments)
+			if err != nil {
+				return nil, err
+			}
+			files = append(files, f)
 		}
+	}
+	for _, f := range files {
 		if pos := cgo(f); pos.IsValid() {
 			return nil, &Error{l.Fset.Position(pos), "import \"C\": not supported"}
 		}
-		files = append(files, f)
 		if a, b := files[0].Name.Name, f.Name.Name; a != b {
 			return nil, &Error{l.Fset.Position(f.Name.Pos()), fmt.Sprintf("package %s beside package %s: not supported", b, a)}
 		}
@@ -138,7 +157,14 @@ func (l *Loader) user(name string, p *Package) (*types.Package, error) {
 			return nil, fmt.Errorf("package %s needs %s, and %s is installed", name, lang, runtime.Version())
 		}
 	}
-	return l.check(name, files, &Pkg{User: true, Old: version.Compare(lang, "go1.22") < 0}, lang)
+	return l.check(name, files, &Pkg{User: true}, lang)
+}
+
+// OldLoops: the file is of a version of Go in which a loop has its variables once. A build line may name another version
+// than that of the package.
+func (l *Loader) OldLoops(f *ast.File) bool {
+	lang := version.Lang(l.Info.FileVersions[f])
+	return lang != "" && version.Compare(lang, "go1.22") < 0
 }
 
 // cgo is the place where a file imports C.
@@ -190,6 +216,9 @@ func (l *Loader) check(name string, files []*ast.File, p *Pkg, lang string) (*ty
 func (l *Loader) judge(p *Pkg, te types.Error) error {
 	d := declAt(p.Files, te.Pos)
 	if d != nil && l.Faulty[d] != nil {
+		if strings.HasPrefix(te.Msg, "undefined: ") && lacking(te.Msg) {
+			l.More[d] = append(l.More[d], first(te))
+		}
 		return nil
 	}
 	if p.User && !lacking(te.Msg) {

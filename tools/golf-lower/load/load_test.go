@@ -4,6 +4,8 @@ import (
 	"go/ast"
 	"go/parser"
 	"go/token"
+	"os"
+	"path/filepath"
 	"slices"
 	"strings"
 	"testing"
@@ -114,6 +116,32 @@ func TestModelsHaveAReason(t *testing.T) {
 	for name, why := range only {
 		if why == "" || strings.Contains(why, ".") {
 			t.Errorf("%s: %q", name, why)
+		}
+	}
+}
+
+func TestLanguageOfAFolder(t *testing.T) {
+	dir := t.TempDir()
+	inside := filepath.Join(dir, "inside")
+	if err := os.Mkdir(inside, 0o777); err != nil {
+		t.Fatal(err)
+	}
+	if got := Language(dir); got != "" {
+		t.Errorf("without go.mod %q", got)
+	}
+	for text, want := range map[string]string{
+		"module m\n\ngo 1.20\n":             "go1.20",
+		"module m\ngo\t1.18 // as it was\n": "go1.18",
+		"module m\n\ngo 1.23.4\n":           "go1.23.4",
+		"module m\n":                        "go1.16",
+	} {
+		if err := os.WriteFile(filepath.Join(dir, "go.mod"), []byte(text), 0o666); err != nil {
+			t.Fatal(err)
+		}
+		for path, want := range map[string]string{dir: want, inside: want, filepath.Join(dir, "go.mod"): ""} {
+			if got := Language(path); got != want {
+				t.Errorf("%q, %s: %q, want %q", text, path, got, want)
+			}
 		}
 	}
 }

@@ -4,6 +4,7 @@ package load
 
 import (
 	"fmt"
+	"go/build"
 	"go/token"
 	"os"
 	"path/filepath"
@@ -42,9 +43,35 @@ type Program struct {
 	Roots    []string // the main package, or those whose tests are called
 }
 
-// Single returns the program of the files of one package.
-func Single(files []Source) *Program {
-	return &Program{Packages: map[string]*Package{"main": {Files: files}}, Roots: []string{"main"}}
+// Single returns the program of the files of one package, by the language of the Go that is installed.
+func Single(files []Source) *Program { return Versioned(files, "") }
+
+// Versioned returns the program of the files of one package that is written in a version of the language.
+func Versioned(files []Source, version string) *Program {
+	return &Program{Packages: map[string]*Package{"main": {Files: files, Version: version}}, Roots: []string{"main"}}
+}
+
+// Language returns the version that the go.mod of a folder, or above it, names. It is "" if there is none, and for a file:
+// the command go takes files that are named by the language of the Go that is installed.
+func Language(path string) string {
+	if info, err := os.Stat(path); err != nil || !info.IsDir() {
+		return ""
+	}
+	dir, err := filepath.Abs(path)
+	for ; err == nil; dir = filepath.Dir(dir) {
+		if text, err := os.ReadFile(filepath.Join(dir, "go.mod")); err == nil {
+			for _, line := range strings.Split(string(text), "\n") {
+				if words := strings.Fields(line); len(words) >= 2 && words[0] == "go" {
+					return "go" + words[1]
+				}
+			}
+			return "go1.16" // as the command go has it for a go.mod without a version
+		}
+		if dir == filepath.Dir(dir) {
+			break
+		}
+	}
+	return ""
 }
 
 // Sources returns all files of the user's packages, in the order of their names.
@@ -57,7 +84,8 @@ func (p *Program) Sources() []Source {
 	return all
 }
 
-// Files reads Go files, and the files without _test.go of folders. tests: one of the named files is a _test.go file.
+// Files reads Go files, and of folders the files without _test.go whose build constraints hold. tests: one of the named files
+// is a _test.go file.
 func Files(paths []string) (sources []Source, tests bool, err error) {
 	var names []string
 	for _, path := range paths {
@@ -76,7 +104,8 @@ func Files(paths []string) (sources []Source, tests bool, err error) {
 		}
 		sort.Strings(found)
 		for _, n := range found {
-			if !strings.HasSuffix(n, "_test.go") {
+			matches, err := build.Default.MatchFile(path, filepath.Base(n))
+			if !strings.HasSuffix(n, "_test.go") && (matches || err != nil) { // what is wrong is told when it is loaded
 				names = append(names, n)
 			}
 		}

@@ -160,6 +160,7 @@ func (l *Loader) rootFiles(name string, names []string) ([]*ast.File, error) {
 		if err != nil {
 			return nil, err
 		}
+		l.genuine[f] = true
 		files = append(files, f)
 	}
 	return files, nil

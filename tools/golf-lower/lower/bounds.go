@@ -70,7 +70,8 @@ func (f *fctx) assertError(x string, from, to types.Type) {
 		f.failConversion(p.golf("Join", p.golf("Join", p.textConst("interface conversion: "), p.typeName(x, from)), missing))
 	} else {
 		is = p.golf("Join", is, p.dynamicName(x, from))
-		f.failConversion(p.golf("Join", is, p.textConst(", not "+typeText(to))))
+		is = p.golf("Join", is, p.textConst(", not "+typeText(to)))
+		f.failConversion(p.golf("Join", is, p.namesake(to)+"("+x+")"))
 	}
 	f.emit("}")
 }
@@ -91,6 +92,56 @@ func (p *prog) dynamicName(x string, from types.Type) string {
 		b.add(0, "}")
 	})
 	return fn + "(" + x + ")"
+}
+
+// namesake is the function that says where another type with the name of this one comes from, if an interface holds such a
+// type.
+func (p *prog) namesake(t types.Type) string {
+	k := typeKey(t)
+	n := p.namesakes[k]
+	if n == nil {
+		n = &namesake{p.fresh("golf_namesake"), t}
+		p.namesakes[k] = n
+		p.sakeList = append(p.sakeList, n)
+		p.stdFunc("golf", "Const")
+	}
+	return n.name
+}
+
+// namesake is a type with the function of namesake.
+type namesake struct {
+	name string
+	t    types.Type
+}
+
+// namesakeTables writes the functions.
+func (p *prog) namesakeTables() {
+	b := &p.decls
+	for _, n := range p.sakeList {
+		b.add(0, "func %s(x *golf_any) *%s {", n.name, p.structName(p.textType()))
+		for _, d := range p.dynList {
+			if typeText(d.t) != typeText(n.t) || types.Identical(d.t, n.t) {
+				continue
+			}
+			where := " (types from different scopes)"
+			if packageOf(d.t) != packageOf(n.t) {
+				where = " (types from different packages)"
+			}
+			b.add(0, "if x != nil && x.tag == %d {", d.tag)
+			b.add(0, "return %s", p.textConst(where))
+			b.add(0, "}")
+		}
+		b.add(0, "return nil")
+		b.add(0, "}")
+	}
+}
+
+// packageOf is the package that declares a type, or nil.
+func packageOf(t types.Type) *types.Package {
+	if n, ok := types.Unalias(t).(*types.Named); ok {
+		return n.Obj().Pkg()
+	}
+	return nil
 }
 
 // missing is the function that names the first method of an interface which the type in another one lacks.

@@ -4,7 +4,6 @@ import (
 	"fmt"
 	"go/ast"
 	"go/types"
-	"strings"
 )
 
 // builtin is a call of a built-in function.
@@ -44,7 +43,10 @@ func (f *fctx) builtin(b string, c *ast.CallExpr) string {
 	case "delete":
 		m := under(f.typeOf(c.Args[0])).(*types.Map)
 		xs := f.ordered(func() string { return f.expr(c.Args[0]) }, func() string { return f.rval(c.Args[1], m.Key()) })
-		return fmt.Sprintf("%s(%s, %s)", p.mapFunc(m, "delete"), xs[0], xs[1])
+		if holdsIface(m.Key()) {
+			xs[0] = f.pin(xs[0])
+		}
+		return fmt.Sprintf("%s(%s, %s)", p.mapFunc(m, "delete"), xs[0], f.hashable(m, xs[1], xs[0]))
 	case "clear":
 		if m, ok := under(f.typeOf(c.Args[0])).(*types.Map); ok {
 			return fmt.Sprintf("%s(%s)", p.mapFunc(m, "clear"), f.expr(c.Args[0]))
@@ -52,11 +54,8 @@ func (f *fctx) builtin(b string, c *ast.CallExpr) string {
 		if s, ok := under(f.typeOf(c.Args[0])).(*types.Slice); ok {
 			elem := s.Elem()
 			l := p.lt(s)
-			fn := p.aux("clear", l+suffix(elem), func(name string, b *buffer) {
-				at := "s[i]"
-				if p.grows(elem) {
-					at = "s.a[s.off+i]"
-				}
+			fn := p.aux("clear", l+p.suffix(elem), func(name string, b *buffer) {
+				at := p.at(elem, "s", "i")
 				b.add(0, "func %s(s %s) {", name, l)
 				b.add(0, "for i := 0; i < %s; i++ {", p.sliceLen(elem, "s"))
 				b.add(0, "%s = %s", at, p.zero(elem))
@@ -122,18 +121,16 @@ func (f *fctx) makeCall(c *ast.CallExpr) string {
 	t := f.typeOf(c)
 	switch u := under(t).(type) {
 	case *types.Chan:
-		if u.Dir() != types.SendRecv {
-			p.refuse("make of a channel with a direction")
-		}
+		both := p.lt(types.NewChan(types.SendRecv, u.Elem()))
 		if len(c.Args) == 1 {
-			return fmt.Sprintf("make(%s)", p.lt(u))
+			return fmt.Sprintf("make(%s)", both)
 		}
 		n := f.expr(c.Args[1])
 		if p.Info.Types[c.Args[1]].Value == nil && f.unwinds() {
 			n = f.pin(n)
 			f.runtimeError(n+" < 0", "makechan: size out of range")
 		}
-		return fmt.Sprintf("make(%s, %s)", p.lt(u), n)
+		return fmt.Sprintf("make(%s, %s)", both, n)
 	case *types.Map:
 		if len(c.Args) == 2 {
 			f.discard(f.expr(c.Args[1]))
@@ -184,7 +181,7 @@ func (f *fctx) appendCall(c *ast.CallExpr) string {
 	case len(xs) == 2:
 		return fmt.Sprintf("%s_add(%s, %s)", n, xs[0], xs[1])
 	}
-	return fmt.Sprintf("%s_join(%s, %s_of([]%s{%s}))", n, xs[0], n, p.lt(s.Elem()), strings.Join(xs[1:], ", "))
+	return fmt.Sprintf("%s_join(%s, %s_of(%s))", n, xs[0], n, p.arrayOf(s.Elem(), xs[1:]))
 }
 
 // sliceOfCopy has the bytes of a string as a slice of the element type.
@@ -204,8 +201,6 @@ func (f *fctx) minCall(b string, c *ast.CallExpr) string {
 		name += "Text"
 	} else if isWide(t) {
 		name = "U" + name
-	} else if p.lt(t) != "int" || isFloat(t) {
-		p.refuse("%s of type %s", b, t)
 	}
 	var gs []func() string
 	for _, a := range c.Args {
@@ -214,7 +209,11 @@ func (f *fctx) minCall(b string, c *ast.CallExpr) string {
 	xs := f.ordered(gs...)
 	r := xs[0]
 	for _, x := range xs[1:] {
-		r = p.golf(name, r, x)
+		if isFloat(t) {
+			r = fmt.Sprintf("%s(%s, %s)", p.floatFunc(t, "f"+b+"%d"), r, x)
+		} else {
+			r = p.golf(name, r, x)
+		}
 	}
 	return r
 }
@@ -223,13 +222,8 @@ func (f *fctx) minCall(b string, c *ast.CallExpr) string {
 func (f *fctx) copySlices(elem types.Type, c *ast.CallExpr) string {
 	p := f.p
 	l := p.lt(types.NewSlice(elem))
-	at := func(s, i string) string {
-		if p.grows(elem) {
-			return fmt.Sprintf("%s.a[%s.off+%s]", s, s, i)
-		}
-		return s + "[" + i + "]"
-	}
-	fn := p.aux("copyslice", l+suffix(elem), func(name string, b *buffer) {
+	at := func(s, i string) string { return p.at(elem, s, i) }
+	fn := p.aux("copyslice", l+p.suffix(elem), func(name string, b *buffer) {
 		mv := at("d", "i") + " = " + at("s", "i")
 		if isRef(elem) {
 			mv = p.set2(elem, at("d", "i"), at("s", "i"))

@@ -5,20 +5,12 @@ import (
 	"go/ast"
 	"go/types"
 	"strings"
+
+	"golflower/analyse"
 )
 
 // callee is the function that a call names, nil if it calls a value.
-func (p *prog) callee(c *ast.CallExpr) *types.Func {
-	switch x := generic(c.Fun).(type) {
-	case *ast.Ident:
-		fn, _ := p.Info.Uses[x].(*types.Func)
-		return fn
-	case *ast.SelectorExpr:
-		fn, _ := p.Info.Uses[x.Sel].(*types.Func)
-		return fn
-	}
-	return nil
-}
+func (p *prog) callee(c *ast.CallExpr) *types.Func { return analyse.Callee(p.Info, c) }
 
 // isBuiltin is the name of the built-in function that a call names, "" if it names none.
 func (p *prog) isBuiltin(c *ast.CallExpr) string {
@@ -50,6 +42,7 @@ func (f *fctx) callText(c *ast.CallExpr) string {
 	if p.Info.Types[c.Fun].IsType() {
 		return f.conversion(c)
 	}
+	f.early(append([]ast.Expr{c.Fun}, c.Args...)...)
 	if b := p.isBuiltin(c); b != "" {
 		return f.builtin(b, c)
 	}
@@ -130,7 +123,7 @@ func (f *fctx) args(sig *types.Signature, c *ast.CallExpr) []string {
 						parts[i] = f.convert(parts[i], ts[i], elem)
 					}
 				}
-				rest := f.p.sliceOf(elem, fmt.Sprintf("[]%s{%s}", f.p.lt(elem), strings.Join(parts[n-1:], ", ")), 0)
+				rest := f.p.sliceOf(elem, f.p.arrayOf(elem, parts[n-1:]), 0)
 				return append(append([]string(nil), parts[:n-1]...), rest)
 			}
 			for i := range parts {
@@ -158,7 +151,7 @@ func (f *fctx) args(sig *types.Signature, c *ast.CallExpr) []string {
 		elem := under(sig.Params().At(n - 1).Type()).(*types.Slice).Elem()
 		v := "nil"
 		if len(rest) > 0 {
-			v = f.p.sliceOf(elem, fmt.Sprintf("[]%s{%s}", f.p.lt(elem), strings.Join(rest, ", ")), len(rest))
+			v = f.p.sliceOf(elem, f.p.arrayOf(elem, rest), len(rest))
 		}
 		xs = append(append([]string(nil), xs[:n-1]...), v)
 	}
@@ -211,13 +204,13 @@ func (f *fctx) boundMethod(e *ast.SelectorExpr, s *selection) (string, string, f
 	} else if isRef(t) && !(len(path) == 1 && f.isFresh(e.X)) {
 		x = p.copyOf(t, x)
 	}
-	return x, p.lt(recv), call(p.funcRef(fn, nil))
+	return x, p.lt(recv), call(p.funcRef(fn, p.methodArgs(fn, e)))
 }
 
 // nativeCall is a method of a type of sync.
 func (p *prog) nativeCall(x string, t types.Type, name string, args []string) string {
 	n := native(t)
-	if n == "sync.Cond" && p.genericCond {
+	if n == "sync.Cond" && p.GenericCond {
 		return p.condCall(x, name)
 	}
 	ok := map[string]string{

@@ -5,6 +5,8 @@ import (
 	"go/ast"
 	"go/types"
 	"strings"
+
+	"golflower/analyse"
 )
 
 // fnInfo is the struct of the function values of one signature (defunctionalization):
@@ -63,26 +65,29 @@ func (fi *fnInfo) value(m *fnMember, env string) string {
 }
 
 // lift gives the name of the function that a literal becomes.
-func (f *fctx) lift(lit *ast.FuncLit) (string, *litInfo) {
+func (f *fctx) lift(lit *ast.FuncLit) (string, *analyse.Lit) {
 	p := f.p
-	li := p.lits[lit]
-	name, ok := li.names[p.subKey]
+	li := p.Lits[lit]
+	name, ok := p.lifted[lit][p.subKey]
 	if !ok {
 		name = p.fresh(f.name + "_func")
-		li.names[p.subKey] = name
+		if p.lifted[lit] == nil {
+			p.lifted[lit] = map[string]string{}
+		}
+		p.lifted[lit][p.subKey] = name
 		sig := under(p.Info.TypeOf(lit)).(*types.Signature)
-		for _, v := range li.free {
+		for _, v := range li.Free {
 			f.varName(v)
 		}
-		fn := &function{name: name, caps: li.free, sig: sig, body: lit.Body, pos: lit.Pos(), test: li.test}
-		p.later(func() { p.function(fn) })
+		fn := &function{name: name, caps: li.Free, sig: sig, body: lit.Body, pos: lit.Pos(), test: li.Test}
+		p.later(func() { p.try(func() { p.function(fn) }) })
 	}
 	return name, li
 }
 
-func (p *prog) capNames(li *litInfo) []string {
+func (p *prog) capNames(li *analyse.Lit) []string {
 	var r []string
-	for _, v := range li.free {
+	for _, v := range li.Free {
 		r = append(r, p.captured(v))
 	}
 	return r
@@ -100,7 +105,7 @@ func (f *fctx) closure(lit *ast.FuncLit) string {
 			m.env = p.fresh("env_" + name)
 			b := &buffer{}
 			b.add(0, "type %s struct {", m.env)
-			for i, v := range li.free {
+			for i, v := range li.Free {
 				b.add(0, "%s %s", caps[i], p.varType(v))
 			}
 			b.add(0, "}")
@@ -136,9 +141,8 @@ func (f *fctx) funcValue(fn *types.Func, args []types.Type, sig *types.Signature
 }
 
 // methodValue is x.m as a value: the receiver is evaluated now.
-func (f *fctx) methodValue(e *ast.SelectorExpr, s *selection) string {
+func (f *fctx) methodValue(e *ast.SelectorExpr, s *selection, sig *types.Signature) string {
 	p := f.p
-	sig := p.typ(e).(*types.Signature)
 	fi := p.fnStruct(sig)
 	recv, lt, call := f.boundMethod(e, s)
 	// a method with a value receiver has a copy of its own at each call
@@ -159,20 +163,20 @@ func (f *fctx) methodValue(e *ast.SelectorExpr, s *selection) string {
 }
 
 // methodExpr is T.m as a value: the receiver is the first argument.
-func (f *fctx) methodExpr(e *ast.SelectorExpr, s *selection) string {
+func (f *fctx) methodExpr(e *ast.SelectorExpr, s *selection, sig *types.Signature) string {
 	p := f.p
-	sig := p.typ(e).(*types.Signature)
 	fi := p.fnStruct(sig)
-	m := fi.member("expr "+typeKey(s.recv)+" "+s.obj.Name(), func() *fnMember {
-		sel := methodSelection(s)
+	key := "expr " + typeKey(s.recv) + " " + s.obj.Name()
+	for _, a := range p.typeArgs(e) {
+		key += "[" + typeKey(a) + "]"
+	}
+	m := fi.member(key, func() *fnMember {
+		sel := &method{fn: s.obj.(*types.Func), index: s.index, args: p.methodArgs(s.obj.(*types.Func), e)}
 		p.callOn("x", s.recv, sel, nil) // what it needs is lowered now
 		return &fnMember{call: func(_ string, args []string) string { return p.callOn(args[0], s.recv, sel, args[1:]) }}
 	})
 	return fi.value(m, "")
 }
-
-// methodSelection is the selection of a method, as callOn wants it.
-func methodSelection(s *selection) *method { return &method{s.obj.(*types.Func), s.index} }
 
 // applies writes the structs of the signatures and the functions that call them by the tag.
 func (p *prog) applies() {

@@ -76,9 +76,9 @@ func N_grow(s *N, k int) *N {
 	REF }
 	return &N{a: a, n: m + k, c: c}
 }
-func N_add(s *N, x E) *N {
+func N_add(s *N, x V) *N {
 	t := N_grow(s, 1)
-	MOVE t.a[t.off+t.n-1] <- x
+	SET t.a[t.off+t.n-1] <- x
 	return t
 }
 func N_join(s *N, x *N) *N {
@@ -117,28 +117,38 @@ func N_slice3(s *N, lo int, hi int, top int) *N {
 
 func (p *prog) sliceStruct(elem types.Type) string {
 	l := p.lt(elem)
-	return p.aux("slice", valueKey(l, elem), func(n string, b *buffer) {
-		zero := p.zero(elem)
+	return p.aux("slice", p.valueKey(l, elem), func(n string, b *buffer) {
+		zero := p.newCell(elem, p.zero(elem))
 		for _, t := range strings.Split(strings.TrimPrefix(sliceText, "\n"), "\n") {
 			t = strings.TrimLeft(t, "\t")
 			t, ref := strings.CutPrefix(t, "REF ")
-			if ref && !isRef(elem) {
+			if ref && !isRef(elem) && !p.boxes(elem) {
 				continue
 			}
-			if x, ok := strings.CutPrefix(t, "MOVE "); ok {
-				dst, src, _ := strings.Cut(x, " <- ")
-				t = dst + " = " + src
-				if isRef(elem) {
-					t = p.set2(elem, dst, src)
+			for _, word := range []string{"MOVE ", "SET "} {
+				if x, ok := strings.CutPrefix(t, word); ok {
+					t = p.moveText(elem, word, x)
 				}
 			}
 			if dst, src, ok := strings.Cut(t, " = COPY "); ok {
-				t = dst + " = " + p.copyOf2(elem, src)
+				t = dst + " = " + p.newCell(elem, p.copyOf2(elem, p.slot(elem, src)))
 			}
 			t = strings.Replace(t, "= ZERO", "= "+zero, 1)
-			b.add(0, "%s", fill(t, n, map[string]string{"E": l}))
+			b.add(0, "%s", fill(t, n, map[string]string{"E": p.cell(elem), "V": l}))
 		}
 	})
+}
+
+// moveText is an assignment to an element in a template, of another element or of a value.
+func (p *prog) moveText(elem types.Type, word, text string) string {
+	dst, src, _ := strings.Cut(text, " <- ")
+	if isRef(elem) {
+		return p.set2(elem, dst, src)
+	}
+	if word == "MOVE " {
+		src = p.slot(elem, src)
+	}
+	return p.slot(elem, dst) + " = " + src
 }
 
 // fill puts names in place of those that stand for others in a template: name for N, and others for the words.
@@ -158,7 +168,7 @@ func fill(t, name string, others map[string]string) string {
 // Those of golf.octet never are.
 func (p *prog) grows(elem types.Type) bool {
 	key := typeKey(elem)
-	return key != "golf.octet" && (p.growAll || p.growing[key])
+	return key != "golf.octet" && (p.GrowAll || p.Growing[key])
 }
 
 // bytesArray is the array of a slice of bytes, and bytesOffset where the slice begins in it.
@@ -209,23 +219,23 @@ func (p *prog) hasNative(t types.Type) bool {
 	return false
 }
 
-// suffix keeps structs and pointers to them apart, which are alike in the subset.
-func suffix(t types.Type) string {
-	if isRef(t) {
+// suffix keeps structs and pointers to them apart, which are alike in the subset, and so elements in boxes.
+func (p *prog) suffix(t types.Type) string {
+	if isRef(t) || p.boxes(t) {
 		return " value"
 	}
 	return ""
 }
 
 // valueKey is the key of a type of elements: a struct and a pointer to it are alike in the subset.
-func valueKey(l string, t types.Type) string {
+func (p *prog) valueKey(l string, t types.Type) string {
 	if isArray(t) {
 		return typeKey(t)
 	}
 	if isRef(t) && strings.HasPrefix(l, "*") {
 		return l[1:]
 	}
-	return l + suffix(t)
+	return l + p.suffix(t)
 }
 
 // sliceOf makes a slice of an array of the subset.

@@ -214,6 +214,7 @@ func (f *fctx) switchStmt(s *ast.SwitchStmt, label string) {
 	var tt types.Type
 	if s.Tag != nil {
 		tt = types.Default(f.typeOf(s.Tag))
+		f.early(s.Tag)
 		x := f.rval(s.Tag, tt)
 		if isName(x) && !strings.Contains(x, ".") && !isNil(p, s.Tag) && f.stable(s.Tag) {
 			tag = x
@@ -248,7 +249,10 @@ func (f *fctx) switchStmt(s *ast.SwitchStmt, label string) {
 		f.at(clauses[i].Pos())
 		cond := ""
 		for _, e := range clauses[i].List {
-			cond = f.orElse(cond, func() string { return f.caseCond(s, e, tag, tt) })
+			cond = f.orElse(cond, func() string {
+				f.early(e)
+				return f.caseCond(s, e, tag, tt)
+			})
 		}
 		return cond
 	}, deflt, body)
@@ -429,7 +433,10 @@ func (f *fctx) forStmt(s *ast.ForStmt, label string) {
 	cb := &buffer{}
 	if s.Cond != nil {
 		f.at(s.Cond.Pos())
-		cb = f.capture(func() { cond = f.expr(s.Cond) })
+		cb = f.capture(func() {
+			f.early(s.Cond)
+			cond = f.expr(s.Cond)
+		})
 	}
 	pb := &buffer{}
 	if s.Post != nil {
@@ -546,6 +553,7 @@ func (f *fctx) simpleFor(s *ast.ForStmt, ib *buffer, cond string, pb *buffer, la
 func (f *fctx) rangeStmt(s *ast.RangeStmt, label string) {
 	p := f.p
 	t := f.typeOf(s.X)
+	f.early(s.X)
 	r := &ranger{f: f, s: s, label: label, hasVal: s.Value != nil && !isBlank(s.Value)}
 	switch u := under(deref(t)).(type) {
 	case *types.Basic:
@@ -616,8 +624,8 @@ func (r *ranger) plain(e ast.Expr, other string) (name string, isPlain bool) {
 		return f.fresh(other), false
 	}
 	v := f.p.Info.Defs[e.(*ast.Ident)].(*types.Var)
-	i := f.p.vars[v]
-	if i == nil || !i.used || i.assigned || f.p.isBoxed(v) || isRef(f.p.vtype(v)) {
+	i := f.p.Vars[v]
+	if i == nil || !i.Used || i.Assigned || f.p.isBoxed(v) || isRef(f.p.vtype(v)) {
 		return f.fresh(other), false
 	}
 	return f.varName(v), true
@@ -652,7 +660,7 @@ func (r *ranger) slice(u *types.Slice) {
 	if r.hasVal {
 		v, plain = r.plain(r.s.Value, "x")
 	}
-	if !p.grows(u.Elem()) && (!r.hasVal || plain) {
+	if !p.grows(u.Elem()) && (!r.hasVal || plain && !p.boxes(u.Elem())) {
 		// the loop of the subset
 		i, plainKey := "_", true
 		if r.s.Key != nil && !isBlank(r.s.Key) {
@@ -686,23 +694,29 @@ func (r *ranger) slice(u *types.Slice) {
 	f.emit("for %s := 0; %s < %s; %s++ {", i, i, n, i)
 	setKey(types.Typ[types.Int])
 	if r.hasVal {
-		r.set(r.s.Value, p.copyOf(u.Elem(), fmt.Sprintf("%s[%s%s]", arr, at, i)), u.Elem())
+		r.set(r.s.Value, p.copyOf(u.Elem(), p.slot(u.Elem(), fmt.Sprintf("%s[%s%s]", arr, at, i))), u.Elem())
 	}
 }
 
 func (r *ranger) array(t types.Type, u *types.Array) {
 	f, p := r.f, r.f.p
-	x := f.expr(r.s.X)
-	if r.hasVal && !isPtr(t) {
-		x = p.copyOf(t, x)
+	x := ""
+	if r.hasVal || f.hasCall(r.s.X) { // else Go does not evaluate it
+		x = f.expr(r.s.X)
+		switch {
+		case r.hasVal && !isPtr(t):
+			x = p.copyOf(t, x)
+		case r.hasVal && u.Len() > 0:
+			x = f.notNil(x)
+		}
+		x = f.temp(x)
 	}
-	x = f.temp(x)
 	i, setKey := r.key()
 	f.push(r.label, 'f')
 	f.emit("for %s := 0; %s < %d; %s++ {", i, i, u.Len(), i)
 	setKey(types.Typ[types.Int])
 	if r.hasVal {
-		r.set(r.s.Value, p.copyOf(u.Elem(), x+"["+i+"]"), u.Elem())
+		r.set(r.s.Value, p.copyOf(u.Elem(), p.slot(u.Elem(), x+"["+i+"]")), u.Elem())
 	}
 }
 
@@ -779,6 +793,6 @@ func (f *fctx) stable(e ast.Expr) bool {
 	if !ok || v.Pkg() != nil && v.Parent() == v.Pkg().Scope() {
 		return false
 	}
-	i := f.p.vars[v]
-	return i != nil && !i.assigned && !i.addr
+	i := f.p.Vars[v]
+	return i != nil && !i.Assigned && !i.Addr
 }

@@ -58,12 +58,7 @@ func (p *prog) deep(t types.Type, a, b string) string {
 			w("if %s != %s {", p.sliceLen(u.Elem(), "a"), p.sliceLen(u.Elem(), "b"))
 			w("return false")
 			w("}")
-			at := func(s string) string {
-				if p.grows(u.Elem()) {
-					return s + ".a[" + s + ".off+i]"
-				}
-				return s + "[i]"
-			}
+			at := func(s string) string { return p.at(u.Elem(), s, "i") }
 			w("for i := 0; i < %s; i++ {", p.sliceLen(u.Elem(), "a"))
 			w("if !(%s) {", p.deep(u.Elem(), at("a"), at("b")))
 			w("return false")
@@ -74,7 +69,7 @@ func (p *prog) deep(t types.Type, a, b string) string {
 	case *types.Array:
 		return fn(func(w func(string, ...any)) {
 			w("for i := 0; i < %d; i++ {", u.Len())
-			w("if !(%s) {", p.deep(u.Elem(), "a[i]", "b[i]"))
+			w("if !(%s) {", p.deep(u.Elem(), p.slot(u.Elem(), "a[i]"), p.slot(u.Elem(), "b[i]")))
 			w("return false")
 			w("}")
 			w("}")

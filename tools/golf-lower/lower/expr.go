@@ -6,6 +6,7 @@ import (
 	"go/constant"
 	"go/token"
 	"go/types"
+	"sort"
 	"strconv"
 	"strings"
 )
@@ -91,9 +92,13 @@ func (f *fctx) convert(x string, from, to types.Type) string {
 // expr is the value of e; a struct or array is a reference to its storage.
 func (f *fctx) expr(e ast.Expr) string {
 	p := f.p
+	if x, ok := f.hoisted[e]; ok {
+		delete(f.hoisted, e)
+		return x
+	}
 	tv := p.Info.Types[e]
 	if tv.Value != nil {
-		return p.constant(tv.Value, tv.Type)
+		return p.constant(tv.Value, p.subst(tv.Type))
 	}
 	switch e := e.(type) {
 	case *ast.ParenExpr:
@@ -108,12 +113,12 @@ func (f *fctx) expr(e ast.Expr) string {
 		return f.selector(e)
 	case *ast.IndexExpr:
 		if fn, ok := p.Info.Uses[identOf(generic(e))].(*types.Func); ok {
-			return f.funcValue(fn, p.typeArgs(e), f.typeOf(e).(*types.Signature))
+			return f.instanceValue(e, fn)
 		}
 		return f.index(e)
 	case *ast.IndexListExpr:
 		if fn, ok := p.Info.Uses[identOf(generic(e))].(*types.Func); ok {
-			return f.funcValue(fn, p.typeArgs(e), f.typeOf(e).(*types.Signature))
+			return f.instanceValue(e, fn)
 		}
 	case *ast.SliceExpr:
 		return f.sliceExpr(e)
@@ -144,6 +149,19 @@ func (f *fctx) expr(e ast.Expr) string {
 	}
 	p.refuse("expression")
 	return ""
+}
+
+// instanceValue is a function or a method with type arguments as a value.
+func (f *fctx) instanceValue(e ast.Expr, fn *types.Func) string {
+	sig := f.typeOf(e).(*types.Signature)
+	if sel, ok := generic(e).(*ast.SelectorExpr); ok {
+		if s := f.p.selectionOf(sel); s != nil && s.kind == types.MethodVal {
+			return f.methodValue(sel, s, sig)
+		} else if s != nil {
+			return f.methodExpr(sel, s, sig)
+		}
+	}
+	return f.funcValue(fn, f.p.typeArgs(e), sig)
 }
 
 // identOf is the identifier that names something, maybe behind a package.
@@ -184,9 +202,9 @@ func (f *fctx) selector(e *ast.SelectorExpr) string {
 	}
 	switch s.kind {
 	case types.MethodVal:
-		return f.methodValue(e, s)
+		return f.methodValue(e, s, f.typeOf(e).(*types.Signature))
 	case types.MethodExpr:
-		return f.methodExpr(e, s)
+		return f.methodExpr(e, s, f.typeOf(e).(*types.Signature))
 	}
 	if native(deref(f.typeOf(e.X))) == "sync.Cond" {
 		return f.expr(e.X) + ".L"
@@ -309,7 +327,7 @@ func (f *fctx) arith(op token.Token, t types.Type, x, y string) string {
 	if isFloat(t) {
 		return p.floatArith(op, t, x, y)
 	}
-	if (op == token.QUO || op == token.REM) && !isLiteral(y) && f.unwinds() {
+	if (op == token.QUO || op == token.REM) && (y == "0" || !isLiteral(y)) && f.unwinds() {
 		y = f.pin(y)
 		f.runtimeError(y+" == 0", "runtime error: integer divide by zero")
 	}
@@ -363,9 +381,13 @@ func isNil(p *prog, e ast.Expr) bool { return p.Info.Types[e].IsNil() }
 func (f *fctx) binary(e *ast.BinaryExpr) string {
 	switch e.Op {
 	case token.LAND, token.LOR:
+		f.early(e.X)
 		x := f.expr(e.X)
 		var y string
-		b := f.capture(func() { y = f.expr(e.Y) })
+		b := f.capture(func() {
+			f.early(e.Y)
+			y = f.expr(e.Y)
+		})
 		if len(b.lines) == 0 {
 			return fmt.Sprintf("(%s %s %s)", x, e.Op, y)
 		}
@@ -445,6 +467,7 @@ func (f *fctx) compare(e *ast.BinaryExpr) string {
 	}
 	xy := f.ordered(func() string { return f.convert(f.expr(e.X), tx, t) }, func() string { return f.convert(f.expr(e.Y), ty, t) })
 	if e.Op == token.EQL || e.Op == token.NEQ {
+		f.comparable(t, xy)
 		if !isIface(t) && !isRef(t) && p.lt(t) != "struct{}" && !p.isText(t) && !isFloat(t) {
 			return fmt.Sprintf("(%s %s %s)", xy[0], e.Op, xy[1])
 		}
@@ -531,13 +554,15 @@ func (f *fctx) composite(e *ast.CompositeLit) string {
 		return p.newStruct(t, given, idx...)
 	case *types.Slice:
 		xs := f.elements(e, u.Elem(), -1)
-		lit := fmt.Sprintf("[]%s{%s}", p.lt(u.Elem()), strings.Join(xs, ", "))
-		return p.sliceOf(u.Elem(), lit, len(xs))
+		return p.sliceOf(u.Elem(), p.arrayOf(u.Elem(), xs), len(xs))
 	case *types.Array:
 		xs := f.elements(e, u.Elem(), int(u.Len()))
-		return fmt.Sprintf("[]%s{%s}", p.lt(u.Elem()), strings.Join(xs, ", "))
+		return p.arrayOf(u.Elem(), xs)
 	case *types.Map:
 		x := p.mapFunc(u, "new") + "()"
+		if f.hasCall(e) {
+			return f.mapInTurn(e, u, f.temp(x))
+		}
 		var gs []func() string
 		for _, el := range e.Elts {
 			kv := el.(*ast.KeyValueExpr)
@@ -545,12 +570,25 @@ func (f *fctx) composite(e *ast.CompositeLit) string {
 		}
 		xs := f.ordered(gs...)
 		for i := 0; i < len(xs); i += 2 {
+			xs[i] = f.hashable(u, xs[i], "")
 			x = fmt.Sprintf("%s(%s, %s, %s)", p.mapFunc(u, "with"), x, xs[i], xs[i+1])
 		}
 		return x
 	}
 	p.refuse("composite literal of type %s", t)
 	return ""
+}
+
+// mapInTurn stores the elements of a literal one by one.
+func (f *fctx) mapInTurn(e *ast.CompositeLit, u *types.Map, m string) string {
+	for _, el := range e.Elts {
+		kv := el.(*ast.KeyValueExpr)
+		f.early(kv.Key, kv.Value)
+		kx := f.ordered(func() string { return f.rval(kv.Key, u.Key()) }, func() string { return f.rval(kv.Value, u.Elem()) })
+		key := f.hashable(u, kx[0], "")
+		f.emit("%s(%s, %s, %s)", f.p.mapFunc(u, "put"), m, key, kx[1])
+	}
+	return m
 }
 
 // elements are the elements of a literal, with zero values in the gaps.
@@ -579,8 +617,16 @@ func (f *fctx) elements(e *ast.CompositeLit, elem types.Type, n int) []string {
 	if max > 4096 {
 		p.refuse("so long a literal")
 	}
+	given := f.ordered(gs...)
+	if !sort.IntsAreSorted(at) { // they are evaluated in the order of the source
+		for k, x := range given {
+			if !isLiteral(x) {
+				given[k] = f.temp(x)
+			}
+		}
+	}
 	xs := make([]string, max)
-	for k, x := range f.ordered(gs...) {
+	for k, x := range given {
 		xs[at[k]] = x
 	}
 	for k := range xs {
@@ -601,7 +647,10 @@ func (f *fctx) index(e *ast.IndexExpr) string {
 	switch u := under(deref(xt)).(type) {
 	case *types.Map:
 		xk := f.ordered(func() string { return f.expr(e.X) }, func() string { return f.rval(e.Index, u.Key()) })
-		return fmt.Sprintf("%s(%s, %s)", p.mapFunc(u, "get"), xk[0], xk[1])
+		if holdsIface(u.Key()) {
+			xk[0] = f.pin(xk[0])
+		}
+		return fmt.Sprintf("%s(%s, %s)", p.mapFunc(u, "get"), xk[0], f.hashable(u, xk[1], xk[0]))
 	case *types.Slice:
 		xi := f.ordered(func() string { return f.expr(e.X) }, func() string { return f.expr(e.Index) })
 		return f.element(u.Elem(), xi[0], xi[1])
@@ -624,7 +673,7 @@ func (f *fctx) arrayElement(e *ast.IndexExpr, u *types.Array, a, i string) strin
 			f.indexError(i, fmt.Sprint(u.Len()))
 		}
 	}
-	return fmt.Sprintf("%s[%s]", a, i)
+	return f.p.slot(u.Elem(), fmt.Sprintf("%s[%s]", a, i))
 }
 
 // element is s[i] of a slice.
@@ -635,11 +684,11 @@ func (f *fctx) element(elem types.Type, s, i string) string {
 		f.indexError(i, p.sliceLen(elem, s))
 	}
 	if !p.grows(elem) {
-		return fmt.Sprintf("%s[%s]", s, i)
+		return p.slot(elem, fmt.Sprintf("%s[%s]", s, i))
 	}
 	s = f.pin(s)
 	n := p.sliceStruct(elem)
-	return fmt.Sprintf("%s_arr(%s)[%s_ix(%s, %s)]", n, s, n, s, i)
+	return p.slot(elem, fmt.Sprintf("%s_arr(%s)[%s_ix(%s, %s)]", n, s, n, s, i))
 }
 
 // assert is x.(t), x a simple text of the interface type from.

@@ -2,6 +2,7 @@ package lower
 
 import (
 	"fmt"
+	"go/token"
 	"go/types"
 	"strings"
 
@@ -73,7 +74,7 @@ func (p *prog) format(x string, t types.Type, v *verb, depth int, methods bool) 
 // textMethod calls Error or String; of a nil pointer fmt writes <nil> if the method would fail, which is not told here.
 func (p *prog) textMethod(x string, t types.Type, name string) string {
 	sel := types.NewMethodSet(t).Lookup(nil, name)
-	return p.callOn(x, t, &method{sel.Obj().(*types.Func), sel.Index()}, nil)
+	return p.callOn(x, t, &method{fn: sel.Obj().(*types.Func), index: sel.Index()}, nil)
 }
 
 // formatString is the text of a string.
@@ -115,9 +116,34 @@ func (p *prog) formatBasic(x string, t types.Type, b *types.Basic, v *verb) stri
 		text = p.formatInteger(x, t, v)
 	}
 	if text == "" {
-		p.refuse("%%%c of a value of type %s", v.char, t)
+		return p.wrongVerb(x, t, b, v)
 	}
 	return text
+}
+
+// verbsOf are the verbs that a value of a kind has.
+func verbsOf(b *types.Basic) string {
+	switch info := b.Info(); {
+	case info&types.IsBoolean != 0:
+		return "tv"
+	case info&types.IsString != 0:
+		return "vsxXq"
+	case info&types.IsFloat != 0:
+		return "vbgGxXfFeE"
+	}
+	return "vdboOxXcqU"
+}
+
+// wrongVerb is the text of a value with a verb that its type has not.
+func (p *prog) wrongVerb(x string, t types.Type, b *types.Basic, v *verb) string {
+	if !p.texts || strings.IndexByte(verbsOf(b), v.char) >= 0 || v.plus || v.sharp || v.space || b.Info()&types.IsComplex != 0 ||
+		hasTextMethod(t) != "" {
+		p.refuse("%%%c of a value of type %s", v.char, t)
+	}
+	with := *v
+	with.char = 'v'
+	head := p.textConst("%!" + string(v.char) + "(" + typeText(t) + "=")
+	return p.golf("Join", p.golf("Join", head, p.formatBasic(x, t, b, &with)), p.textConst(")"))
 }
 
 // formatFloat is the text of a float, "" if the verb has none.
@@ -248,12 +274,9 @@ func (p *prog) formatList(x string, t, elem types.Type, v *verb, methods bool) s
 	l := p.lt(t)
 	key := fmt.Sprint("list ", p.verbKey(v), methods, typeKey(t))
 	fn := p.aux("format", key, func(name string, b *buffer) {
-		length, at := "len(s)", "s[i]"
+		length, at := "len(s)", p.slot(elem, "s[i]")
 		if !isArray(t) {
-			length = p.sliceLen(elem, "s")
-			if p.grows(elem) {
-				at = "s.a[s.off+i]"
-			}
+			length, at = p.sliceLen(elem, "s"), p.at(elem, "s", "i")
 		}
 		text := p.format(at, elem, v, 1, methods)
 		b.add(0, "func %s(s %s) *%s {", name, l, p.structName(p.textType()))
@@ -273,14 +296,11 @@ func (p *prog) formatList(x string, t, elem types.Type, v *verb, methods bool) s
 // formatMap is map[..], in the order of the keys.
 func (p *prog) formatMap(x string, u *types.Map, v *verb, methods bool) string {
 	b, ok := under(u.Key()).(*types.Basic)
-	if !ok || b.Info()&(types.IsString|types.IsInteger) == 0 {
+	if !ok || b.Info()&(types.IsString|types.IsInteger|types.IsFloat|types.IsBoolean) == 0 {
 		p.refuse("printing a map with keys of type %s", u.Key())
 	}
 	fn := p.aux("format", fmt.Sprint("map ", p.verbKey(v), methods, typeKey(u)), func(name string, b *buffer) {
-		less := func(x, y string) string { return fmt.Sprintf("%s < %s", x, y) }
-		if p.isText(u.Key()) {
-			less = func(x, y string) string { return p.golf("Compare", x, y) + " < 0" }
-		}
+		less := p.keyLess(u.Key())
 		key := p.format("ks[i]", u.Key(), v, 1, methods)
 		val := p.format(fmt.Sprintf("%s(m, ks[i])", p.mapFunc(u, "get")), u.Elem(), v, 1, methods)
 		w := func(format string, args ...any) { b.add(0, format, args...) }
@@ -306,6 +326,24 @@ func (p *prog) formatMap(x string, u *types.Map, v *verb, methods bool) string {
 	return fmt.Sprintf("%s(%s)", fn, x)
 }
 
+// keyLess is the comparison by which fmt orders the keys of a map: false before true, NaN before all other floats.
+func (p *prog) keyLess(t types.Type) func(x, y string) string {
+	return func(x, y string) string {
+		switch {
+		case p.isText(t):
+			return p.golf("Compare", x, y) + " < 0"
+		case isFloat(t):
+			isNaN := func(x string) string { return "!" + p.equal(t, x, x) }
+			return fmt.Sprintf("(%s || %s && !(%s))", p.lessOf(t, token.LSS, x, y), isNaN(x), isNaN(y))
+		case isWide(t):
+			return p.lessOf(t, token.LSS, x, y)
+		case p.lt(t) == "bool":
+			return fmt.Sprintf("!%s && %s", x, y)
+		}
+		return fmt.Sprintf("%s < %s", x, y)
+	}
+}
+
 // formatter is the function that makes the text of an interface by a verb.
 type formatter struct {
 	name  string
@@ -319,7 +357,7 @@ func (p *prog) formatterOf(v *verb) *formatter {
 	key := p.verbKey(v)
 	f := p.formats[key]
 	if f == nil {
-		names := map[byte]string{'v': "value", 's': "string", 'T': "type"}
+		names := map[byte]string{'v': "value", 's': "string", 'T': "type", 'P': "panic"}
 		n := names[v.char]
 		if n == "" {
 			n = string(v.char)
@@ -366,6 +404,9 @@ func (p *prog) formatCase(f *formatter, d *dyn) (stmt string) {
 		}
 		return "return nil"
 	}
+	if f.verb.char == 'P' {
+		return "return " + p.told("x."+d.field(), d.t)
+	}
 	if f.verb.char == 'T' {
 		return "return " + p.padded(p.textConst(typeText(d.t)), f.verb)
 	}
@@ -380,6 +421,8 @@ func (p *prog) formatTables() {
 		b.add(0, "if x == nil {")
 		if f.verb.char == 'K' {
 			b.add(0, "return nil")
+		} else if f.verb.char == 'P' {
+			b.add(0, "return %s", p.textConst("nil"))
 		} else if f.verb.char == 'T' || f.verb.char == 'v' {
 			b.add(0, "return %s", p.padded(p.textConst("<nil>"), f.verb))
 		} else {

@@ -25,6 +25,8 @@ type fctx struct {
 	testVar *types.Var      // the testing.T of a test
 	wrapped *string         // gets the operand of %w
 	hard    bool            // on the left of a, b = ..: a variable may change before it is used
+
+	hoisted map[ast.Expr]string // what has been evaluated before its statement (order.go)
 }
 
 func (p *prog) newFctx(name string) *fctx {
@@ -152,6 +154,16 @@ func (p *prog) varType(v *types.Var) string {
 	return l
 }
 
+// isBoxed: the variable lives in a box on the heap, since Go shares it by reference.
+// A variable that nobody assigns to after its declaration is captured by value.
+func (p *prog) isBoxed(v *types.Var) bool {
+	if isRef(p.vtype(v)) {
+		return false
+	}
+	i := p.Vars[v]
+	return i != nil && (i.Addr || i.Captured && i.Assigned)
+}
+
 // function is a function that is to be lowered. What it captures (lambda lifting) comes first among its parameters.
 type function struct {
 	name string
@@ -237,7 +249,7 @@ func (f *fctx) params(fn *function, entry *buffer) (params, args []string) {
 			box := f.varName(v)
 			n = f.fresh(ascii(v.Name()) + "In")
 			entry.add(f.ln, "%s := &%s{v: %s}", box, p.box(l), n)
-			if i := p.vars[v]; i == nil || !i.used {
+			if i := p.Vars[v]; i == nil || !i.Used {
 				entry.lines = entry.lines[:len(entry.lines)-1]
 			}
 		default:
@@ -259,8 +271,8 @@ func (f *fctx) outer(fn *function, header string, params, args []string) string 
 	p.inner[fn.name] = innerName
 	outer.add(f.ln, "%s {", header)
 	for _, r := range f.named {
-		i := p.vars[r]
-		i.captured, i.assigned = true, true
+		i := p.Vars[r]
+		i.Captured, i.Assigned = true, true
 		if r.Name() == "_" {
 			p.refuse("a result named _ beside one that a function literal changes")
 		}
@@ -292,8 +304,8 @@ func (f *fctx) declareResults(body *ast.BlockStmt, entry *buffer) {
 		if r.Name() == "_" {
 			continue
 		}
-		if i := p.vars[r]; i != nil && stored {
-			i.used = true
+		if i := p.Vars[r]; i != nil && stored {
+			i.Used = true
 		}
 		old := f.out
 		f.out = entry
@@ -359,7 +371,7 @@ func hasBareReturn(b *ast.BlockStmt) bool {
 func (f *fctx) declare(v *types.Var, value string) {
 	p := f.p
 	l := p.lt(p.vtype(v))
-	if i := p.vars[v]; i == nil || !i.used {
+	if i := p.Vars[v]; i == nil || !i.Used {
 		if !isSmall(value) {
 			f.discard(value)
 		}

@@ -116,21 +116,41 @@ func (p *prog) dispatchRound() bool {
 			for k := 0; k < sig.Params().Len(); k++ {
 				args = append(args, fmt.Sprintf("a%d", k))
 			}
-			c := p.callOn("x."+t.field(), t.t, &method{sel.Obj().(*types.Func), sel.Index()}, args)
+			c := p.callOn("x."+t.field(), t.t, &method{fn: sel.Obj().(*types.Func), index: sel.Index()}, args)
 			ret := ""
 			if p.result(sig) != "" {
 				ret = "return "
 			}
-			d.cases = append(d.cases, fmt.Sprintf("%d %s%s", t.tag, ret, c))
+			d.cases = append(d.cases, fmt.Sprintf("%d %s%s%s", t.tag, p.wrapped(t, sel, sig), ret, c))
 		}
 	}
 	return progress
+}
+
+// wrapped is what comes before the call of a method with a value receiver on a pointer: the error of a nil pointer, as Go
+// tells it. Each line ends.
+func (p *prog) wrapped(d *dyn, sel *types.Selection, sig *types.Signature) string {
+	fn := sel.Obj().(*types.Func)
+	recv := fn.Signature().Recv()
+	if !isPtr(d.t) || len(sel.Index()) > 1 || recv == nil || isPtr(recv.Type()) || isIface(recv.Type()) {
+		return ""
+	}
+	name := typeText(deref(d.t))
+	short := name[strings.LastIndex(name, ".")+1:]
+	text := fmt.Sprintf("value method %s.%s called using nil *%s pointer", name, fn.Name(), short)
+	raise := fmt.Sprintf("panic(%s)", quoted(text))
+	if p.unwind {
+		raise = fmt.Sprintf("golf_raise(%s(%s), 0)\n%s", p.stdFunc("runtime", "failure"), p.textConst(text),
+			strings.TrimSpace("return "+p.nothing(p.result(sig))))
+	}
+	return fmt.Sprintf("if x.%s == nil {\n%s\n}\n", d.field(), raise)
 }
 
 // method is a method with the way to it through embedded fields.
 type method struct {
 	fn    *types.Func
 	index []int
+	args  []types.Type // its type arguments, nil for those of the receiver
 }
 
 // callOn is the call of a method (maybe promoted) on a value of type t.
@@ -153,7 +173,7 @@ func (p *prog) callOn(x string, t types.Type, sel *method, args []string) string
 	} else if !isPtr(t) && !isRef(t) {
 		p.refuse("method with a pointer receiver on a type that is no struct")
 	}
-	return fmt.Sprintf("%s(%s)", p.funcRef(fn, nil), strings.Join(append([]string{x}, args...), ", "))
+	return fmt.Sprintf("%s(%s)", p.funcRef(fn, sel.args), strings.Join(append([]string{x}, args...), ", "))
 }
 
 // walkPath goes through embedded fields.
@@ -221,6 +241,12 @@ func (p *prog) tables() {
 			params = append(params, fmt.Sprintf("a%d %s", k, p.lt(sig.Params().At(k).Type())))
 		}
 		b.add(0, "%s {", strings.TrimSpace(fmt.Sprintf("func %s(%s) %s", d.name, strings.Join(params, ", "), p.result(sig))))
+		if p.unwind {
+			b.add(0, "if x == nil {")
+			b.add(0, "golf_raise(%s, 0)", p.nilError())
+			b.add(0, "%s", strings.TrimSpace("return "+p.nothing(p.result(sig))))
+			b.add(0, "}")
+		}
 		if len(d.cases) == 0 {
 			b.add(0, "_ = x.tag")
 		} else {
@@ -229,7 +255,9 @@ func (p *prog) tables() {
 		for _, c := range d.cases {
 			tag, call, _ := strings.Cut(c, " ")
 			b.add(0, "if tag == %s {", tag)
-			b.add(0, "%s", call)
+			for l := range strings.SplitSeq(call, "\n") {
+				b.add(0, "%s", l)
+			}
 			if p.result(sig) == "" {
 				b.add(0, "return")
 			}
@@ -238,11 +266,13 @@ func (p *prog) tables() {
 		b.add(0, "panic(\"no such method\")")
 		b.add(0, "}")
 	}
+	p.namesakeTables()
 	p.formatTables()
 	for _, c := range p.comparisons() {
 		c.table(p)
 	}
 	p.comparableTable()
+	p.incomparableTables()
 	if p.usesAny {
 		eb := &buffer{}
 		eb.add(0, "type golf_any struct {")

@@ -22,6 +22,14 @@ func (f *fctx) intrinsic(fn *types.Func, c *ast.CallExpr) (string, bool) {
 	if v := valueVerbs[fn.FullName()]; v != nil {
 		return fmt.Sprintf("%s(%s)", p.formatterOf(v).name, f.expr(c.Args[0])), true
 	}
+	if what := p.lacks(fn); what != "" && f.user() {
+		p.need(&p.texts)
+		f.emit("if true {")
+		f.emit("%s", p.golf("Say", p.textConst("lowering: "+what)))
+		f.emit("panic(%s)", quoted(tie))
+		f.emit("}")
+		return "", false
+	}
 	if fn.Name() == "unsupported" && load.IsStandard(p.Fset.Position(fn.Pos()).Filename) {
 		return p.golf("Unsupported", f.expr(c.Args[0])), true
 	}
@@ -53,6 +61,9 @@ func (f *fctx) intrinsic(fn *types.Func, c *ast.CallExpr) (string, bool) {
 		}
 		return fmt.Sprint(p.opt.Loose), true
 	case "time.quiet":
+		if p.opt.Loose { // it is not reached, and golf_quiet is not there
+			return p.stdFunc("time", "round") + "()", true
+		}
 		return "golf_quiet()", true
 	case "os.write":
 		return p.golf("Write", f.expr(c.Args[0])), true
@@ -77,7 +88,7 @@ func (f *fctx) intrinsic(fn *types.Func, c *ast.CallExpr) (string, bool) {
 		p.imports["runtime"] = true
 		return "runtime.GC()", true
 	case "sync.NewCond":
-		if p.genericCond {
+		if p.GenericCond {
 			return p.condNew(f.rval(c.Args[0], fn.Signature().Params().At(0).Type())), true
 		}
 		p.imports["sync"] = true
@@ -89,11 +100,32 @@ func (f *fctx) intrinsic(fn *types.Func, c *ast.CallExpr) (string, bool) {
 	case "(sync.Locker).Lock", "(sync.Locker).Unlock":
 		// c.L of a condition on a *sync.Mutex
 		sel := ast.Unparen(c.Fun).(*ast.SelectorExpr)
-		if s, ok := ast.Unparen(sel.X).(*ast.SelectorExpr); ok && !p.genericCond && native(deref(f.typeOf(s.X))) == "sync.Cond" {
+		if s, ok := ast.Unparen(sel.X).(*ast.SelectorExpr); ok && !p.GenericCond && native(deref(f.typeOf(s.X))) == "sync.Cond" {
 			return fmt.Sprintf("%s.L.%s()", f.expr(s.X), fn.Name()), true
 		}
 	}
 	return "", false
+}
+
+// lacks is what a function of _std that begins with unsupported("..") does not support, or "".
+func (p *prog) lacks(fn *types.Func) string {
+	fd := p.bodies[fn.Origin()]
+	if fd == nil || fd.Body == nil || len(fd.Body.List) == 0 || !load.IsStandard(p.Fset.Position(fd.Pos()).Filename) {
+		return ""
+	}
+	s, ok := fd.Body.List[0].(*ast.ExprStmt)
+	if !ok {
+		return ""
+	}
+	c, ok := s.X.(*ast.CallExpr)
+	if !ok || len(c.Args) != 1 || p.calleeName(c) != fn.Pkg().Path()+".unsupported" {
+		return ""
+	}
+	v := p.Info.Types[c.Args[0]].Value
+	if v == nil {
+		return ""
+	}
+	return constant.StringVal(v)
 }
 
 // errorf is fmt.Errorf; %w keeps the error inside.
@@ -225,11 +257,7 @@ func (f *fctx) errorsAs(c *ast.CallExpr) string {
 		b.add(0, "}")
 		b.add(0, "list := %s(err)", inside)
 		b.add(0, "for i := 0; i < %s; i++ {", p.sliceLen(errs.Elem(), "list"))
-		at := "list[i]"
-		if p.grows(errs.Elem()) {
-			at = "list.a[list.off+i]"
-		}
-		b.add(0, "if %s(%s, to) {", name, at)
+		b.add(0, "if %s(%s, to) {", name, p.at(errs.Elem(), "list", "i"))
 		b.add(0, "return true")
 		b.add(0, "}")
 		b.add(0, "}")

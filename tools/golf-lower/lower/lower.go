@@ -1,7 +1,7 @@
 // Package lower turns a loaded program into one file of GoLF's subset.
 //
-// The stages: package load parses and type-checks; package desugar replaces statements by simpler ones; analyse.go finds
-// what is captured, shared and grown; prog.go lowers from main on until nothing new is referred to; package tree changes
+// The stages: package load parses and type-checks; package desugar replaces statements by simpler ones; package analyse
+// finds what is captured, shared and grown; prog.go lowers from main on until nothing new is referred to; package tree changes
 // and prints what comes out. What cannot be lowered is refused with its place: nothing is guessed.
 package lower
 
@@ -12,6 +12,7 @@ import (
 	"go/token"
 	"go/types"
 
+	"golflower/analyse"
 	"golflower/desugar"
 	"golflower/load"
 )
@@ -37,7 +38,7 @@ func Lower(program *load.Program, opt Options) (*Output, error) {
 
 // Loaded lowers a program that is loaded. A loaded program can be lowered several times.
 func Loaded(l *load.Loader, opt Options) (*Output, error) {
-	needs := needs{texts: opt.Tests}
+	needs := needs{texts: opt.Tests, grow: map[string]bool{}}
 	for {
 		p := newProg(l, opt, needs)
 		out, err := p.lower()
@@ -57,6 +58,8 @@ type needs struct {
 	texts  bool // strings are made at run time (text.go)
 	unwind bool // panics can be recovered (unwind.go)
 	clock  bool // time passes while all goroutines wait (clock.go)
+
+	grow map[string]bool // element types of slices that contain themselves
 }
 
 // errAgain ends a lowering that has found that the program needs more.
@@ -128,7 +131,7 @@ func (p *prog) prepare() error {
 				p.names.collect(f)
 			}
 			p.noteBodies(f)
-			p.analyse(f)
+			p.File(p.Loader, f)
 		}
 	}
 	return nil
@@ -155,15 +158,8 @@ type prog struct {
 	started map[*load.Pkg][]string
 	reached map[*types.Package]bool
 
-	// what analyse.go finds
-	vars        map[*types.Var]*varInfo
-	lits        map[*ast.FuncLit]*litInfo
-	boxedField  map[*types.Var]bool // fields whose address is taken
-	growing     map[string]bool     // element types of slices that are appended to or sliced
-	growAll     bool                // a slice of a type parameter is
-	addressed   map[string]bool     // structs whose address is used as a number
-	genericCond bool                // conditions on something else than a *sync.Mutex
-	hasGo       bool                // the user's files start goroutines
+	*analyse.Facts
+	lifted map[*ast.FuncLit]map[string]string // the functions that literals become, for each instance that they are in
 
 	names names
 
@@ -183,14 +179,18 @@ type prog struct {
 	disps    map[string]*dispatcher
 	dispList []*dispatcher
 	tests    map[string]*ifaceTest
-	testList []*ifaceTest
-	formats  map[string]*formatter
-	formList []*formatter
-	literals map[string]bool // string constants whose bytes may be asked for
-	litList  []string
+
+	namesakes map[string]*namesake
+	sakeList  []*namesake
+	testList  []*ifaceTest
+	formats   map[string]*formatter
+	formList  []*formatter
+	literals  map[string]bool // string constants whose bytes may be asked for
+	litList   []string
 
 	anyEqual, anyDeep  *comparison
-	comparable         string // the function that says whether an interface can be compared
+	comparable         string            // the function that says whether an interface can be compared
+	uncompared         map[string]string // the functions that name the type for which one cannot be, by the text before it
 	usesAny, usesBytes bool
 	imports            map[string]bool
 
@@ -209,20 +209,30 @@ type prog struct {
 	timed       bool              // the clock is reached
 	rawNative   bool              // a method of sync is called as it is (clock.go)
 
+	open    []string          // types that are being held (types.go)
+	ownName map[string]string // the structs of those that contain themselves
+	ownDone map[string]bool   // those that are written, or are being written
+
+	found *findings // all refusals, if they are wanted
 	pos   token.Pos // of what is being lowered
 	depth int       // of types in types
 }
 
 func newProg(l *load.Loader, opt Options, n needs) *prog {
-	return &prog{
-		Loader: l, needs: n, opt: opt, user: l.Roots[0], vars: map[*types.Var]*varInfo{}, lits: map[*ast.FuncLit]*litInfo{},
-		boxedField: map[*types.Var]bool{}, growing: map[string]bool{}, addressed: map[string]bool{},
-		names: newNames(), auxNames: map[string]string{}, structs: map[string]*structInfo{},
+	p := &prog{
+		ownName: map[string]string{}, ownDone: map[string]bool{},
+		Loader: l, needs: n, opt: opt, user: l.Roots[0], Facts: analyse.New(),
+		lifted: map[*ast.FuncLit]map[string]string{},
+		names:  newNames(), auxNames: map[string]string{}, structs: map[string]*structInfo{},
 		fns: map[string]*fnInfo{}, dyns: map[string]*dyn{}, anyNums: map[string]int{}, disps: map[string]*dispatcher{},
-		tests: map[string]*ifaceTest{}, formats: map[string]*formatter{}, literals: map[string]bool{},
+		tests: map[string]*ifaceTest{}, namesakes: map[string]*namesake{}, uncompared: map[string]string{}, formats: map[string]*formatter{}, literals: map[string]bool{},
 		imports: map[string]bool{}, bodies: map[*types.Func]*ast.FuncDecl{}, asked: map[string]bool{},
 		globs: map[*types.Var]bool{}, started: map[*load.Pkg][]string{}, reached: map[*types.Package]bool{}, siteNumbers: map[token.Pos]int{}, inner: map[string]string{},
 	}
+	for elem := range n.grow {
+		p.Growing[elem] = true
+	}
+	return p
 }
 
 // guard turns a refusal into an error.
@@ -243,8 +253,11 @@ func (p *prog) refusal(e any) error {
 	if e == errAgain {
 		return errAgain
 	}
-	return &load.Error{Pos: p.Fset.Position(p.pos), Msg: fmt.Sprintf("the lowering fails here: %v", e)}
+	return &load.Error{Pos: p.Fset.Position(p.pos), Msg: fmt.Sprintf("%s here: %v", failure, e)}
 }
+
+// failure begins what is told of a failure of the lowering itself.
+const failure = "the lowering fails"
 
 // refuse stops the lowering, with the place of what is being lowered.
 func (p *prog) refuse(format string, args ...any) {
@@ -252,5 +265,10 @@ func (p *prog) refuse(format string, args ...any) {
 }
 
 func (p *prog) refuseAt(pos token.Pos, format string, args ...any) {
-	panic(&load.Error{Pos: p.Fset.Position(pos), Msg: fmt.Sprintf(format, args...) + ": not supported"})
+	panic(p.errorAt(pos, format, args...))
+}
+
+// errorAt is a refusal.
+func (p *prog) errorAt(pos token.Pos, format string, args ...any) error {
+	return &load.Error{Pos: p.Fset.Position(pos), Msg: fmt.Sprintf(format, args...) + ": not supported"}
 }

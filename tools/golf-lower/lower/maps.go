@@ -214,7 +214,7 @@ func N_keys(m *N) []K {
 
 func (p *prog) mapStruct(m *types.Map) string {
 	k, v := p.lt(m.Key()), p.lt(m.Elem())
-	return p.aux("map", valueKey(k, m.Key())+","+valueKey(v, m.Elem())+ifaceSuffix(m.Key()), func(n string, b *buffer) {
+	return p.aux("map", p.valueKey(k, m.Key())+","+p.valueKey(v, m.Elem())+ifaceSuffix(m.Key()), func(n string, b *buffer) {
 		equal := p.equal(m.Key(), "m.keys[i]", "k")
 		zero := p.zero(m.Elem())
 		words := map[string]string{"K": k, "V": v}
@@ -283,14 +283,14 @@ func (p *prog) hash(t types.Type, x string) string {
 		})
 		return fmt.Sprintf("%s(%s)", f, x)
 	case *types.Array:
-		if p.hash(u.Elem(), "k[i]") == "" {
+		if p.hash(u.Elem(), p.slot(u.Elem(), "k[i]")) == "" {
 			return ""
 		}
 		f := p.aux("hash", "array "+typeKey(t), func(name string, b *buffer) {
 			b.add(0, "func %s(k %s) int {", name, p.lt(t))
 			b.add(0, "h := 0")
 			b.add(0, "for i := 0; i < len(k); i++ {")
-			b.add(0, "h = h*1000003 + %s", p.hash(u.Elem(), "k[i]"))
+			b.add(0, "h = h*1000003 + %s", p.hash(u.Elem(), p.slot(u.Elem(), "k[i]")))
 			b.add(0, "}")
 			b.add(0, "return h")
 			b.add(0, "}")

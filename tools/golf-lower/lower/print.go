@@ -16,6 +16,7 @@ func (f *fctx) printParts(c *ast.CallExpr) (pieces []piece, to string, ok bool) 
 	p := f.p
 	switch b := p.isBuiltin(c); b {
 	case "print", "println":
+		f.early(c.Args...)
 		return f.builtinPieces(b, c), "WriteErr", true
 	}
 	name, isFmt := strings.CutPrefix(p.calleeName(c), "fmt.")
@@ -30,6 +31,7 @@ func (f *fctx) printParts(c *ast.CallExpr) (pieces []piece, to string, ok bool) 
 		to, first = f.writer(c.Args[0]), 1
 		name = "Print" + strings.TrimPrefix(name, "Fprint")
 	}
+	f.early(c.Args[first:]...)
 	switch name {
 	case "Println", "Print":
 		return f.printedPieces(name, c, first), to, true
@@ -108,25 +110,54 @@ func (f *fctx) writer(e ast.Expr) string {
 // builtinPieces are the pieces of print and println.
 func (f *fctx) builtinPieces(name string, c *ast.CallExpr) []piece {
 	p := f.p
-	var gs []func() string
-	for _, a := range c.Args {
-		t := f.typeOf(a)
-		if b, ok := under(t).(*types.Basic); !ok || b.Info()&(types.IsInteger|types.IsBoolean|types.IsString) == 0 {
-			p.refuse("%s of a value of type %s", name, t)
-		}
-		gs = append(gs, func() string { return f.expr(a) })
-	}
+	xs, ts, vs := f.printOperands(c.Args)
 	var r []piece
-	for i, x := range f.ordered(gs...) {
+	for i, x := range xs {
 		if i > 0 && name == "println" {
 			r = append(r, piece{lit: " ", isLit: true})
 		}
-		r = append(r, p.pieceOf(x, types.Default(under(f.typeOf(c.Args[i]))), p.Info.Types[c.Args[i]].Value, plain('v')))
+		t := types.Default(ts[i])
+		if b, ok := under(t).(*types.Basic); ok && b.Info()&(types.IsInteger|types.IsBoolean|types.IsString) != 0 {
+			r = append(r, p.pieceOf(x, types.Default(under(t)), vs[i], plain('v')))
+		} else {
+			r = append(r, piece{text: p.printed(x, t)})
+		}
 	}
 	if name == "println" {
 		r = append(r, piece{lit: "\n", isLit: true})
 	}
 	return r
+}
+
+// printed is the text that print has for a value that is no integer, truth value or string. An address that is not nil ends
+// the program.
+func (p *prog) printed(x string, t types.Type) string {
+	if b, ok := under(t).(*types.Basic); ok && b.Kind() != types.UnsafePointer {
+		if b.Info()&types.IsFloat == 0 || !load.Since("go1.27") { // an older Go writes floats in another way
+			p.refuse("print of a value of type %s", t)
+		}
+		return p.formatFloat(x, t, b, plain('v'))
+	}
+	none := "0x0"
+	switch under(t).(type) {
+	case *types.Interface:
+		none = "(0x0,0x0)"
+	case *types.Slice:
+		none = "[0/0]0x0"
+	case *types.Pointer, *types.Chan, *types.Map, *types.Signature:
+	default:
+		p.refuse("print of a value of type %s", t)
+	}
+	l := p.lt(t)
+	fn := p.aux("print", none+" "+l, func(name string, b *buffer) {
+		b.add(0, "func %s(x %s) *%s {", name, l, p.structName(p.textType()))
+		b.add(0, "if x != nil {")
+		b.add(0, "panic(\"lowering: printing an address is not supported\")")
+		b.add(0, "}")
+		b.add(0, "return %s", p.textConst(none))
+		b.add(0, "}")
+	})
+	return fmt.Sprintf("%s(%s)", fn, x)
 }
 
 // hold writes pieces. If other goroutines write in parts, nothing comes between the parts of a line.
@@ -135,7 +166,7 @@ func (f *fctx) hold(pieces []piece, to string) {
 	if to == "Write" {
 		if ops, _, ok := p.operands(pieces); ok {
 			p.imports["fmt"] = true
-			held := p.texts && p.hasGo && !load.IsStandard(p.Fset.Position(p.pos).Filename)
+			held := p.texts && p.HasGo && !load.IsStandard(p.Fset.Position(p.pos).Filename)
 			if held {
 				for i := range ops {
 					ops[i] = f.pin(ops[i])
@@ -243,28 +274,55 @@ func (f *fctx) panicText(a ast.Expr) (string, bool) {
 	if isLit(t) {
 		return f.expr(a), false
 	}
-	if _, named := types.Unalias(t).(*types.Named); named && !types.Identical(t, errorType) && hasTextMethod(t) == "" {
-		p.refuse("panic with a value of type %s", t)
+	if isNil(p, a) {
+		return quoted("panic called with nil argument (use GODEBUG=panicnil=1 to disable)"), false
 	}
-	if types.Identical(t, errorType) {
-		x := f.expr(a)
-		if !p.texts {
-			return fmt.Sprintf("%s(%s)", p.dispatcherOf(errorMethod).name, x), false
-		}
-		return p.formatted(x, t, plain('v')), true
+	if p.texts {
+		return p.told(f.expr(a), types.Default(t)), true
 	}
-	if isString(t) && !p.texts {
+	switch {
+	case types.Identical(t, errorType):
+		return fmt.Sprintf("%s(%s)", p.dispatcherOf(errorMethod).name, f.expr(a)), false
+	case types.Identical(t, types.Typ[types.String]):
 		return f.expr(a), false
 	}
-	_, basic := under(t).(*types.Basic)
-	if !basic && hasTextMethod(t) == "" || !p.texts {
-		p.refuse("panic with a value of type %s", t)
+	p.refuse("panic with a value of type %s", t)
+	return "", false
+}
+
+// told is the text that a panic which nobody recovers tells of its value. The word address stands for an address.
+func (p *prog) told(x string, t types.Type) string {
+	if isIface(t) {
+		return fmt.Sprintf("%s(%s)", p.formatterOf(plain('P')).name, x)
 	}
-	return p.formatted(f.expr(a), types.Default(t), plain('v')), true
+	if name := hasTextMethod(t); name != "" {
+		return p.textMethod(x, t, name)
+	}
+	b, ok := under(t).(*types.Basic)
+	if !ok || b.Kind() == types.UnsafePointer {
+		return p.textConst("(" + typeText(t) + ") address")
+	}
+	before, behind := typeText(t)+"(", ")"
+	text := ""
+	switch info := b.Info(); {
+	case info&types.IsString != 0:
+		before, behind, text = before+`"`, `")`, x
+	case info&types.IsFloat != 0:
+		text = p.printed(x, t)
+	default:
+		text = p.formatBasic(x, b, b, plain('v'))
+	}
+	if _, named := types.Unalias(t).(*types.Named); !named {
+		return text
+	}
+	return p.golf("Join", p.golf("Join", p.textConst(before), text), p.textConst(behind))
 }
 
 // panicValue is the value of a panic in an interface.
 func (f *fctx) panicValue(a ast.Expr) string {
 	f.p.usesAny = true
+	if isNil(f.p, a) {
+		return "nil"
+	}
 	return f.rval(a, types.NewInterfaceType(nil, nil))
 }

@@ -31,11 +31,16 @@ func (p *prog) funcRef(fn *types.Func, args []types.Type) string {
 	}
 	fn = fn.Origin()
 	sig := fn.Signature()
-	params := sig.TypeParams()
-	if sig.RecvTypeParams().Len() > 0 {
-		params = sig.RecvTypeParams()
+	if to, args := p.forwarded(fn); to != nil {
+		return p.funcRef(to, args)
 	}
-	if params.Len() != len(args) {
+	var params []*types.TypeParam
+	for _, list := range []*types.TypeParamList{sig.RecvTypeParams(), sig.TypeParams()} {
+		for i := 0; i < list.Len(); i++ {
+			params = append(params, list.At(i))
+		}
+	}
+	if len(params) != len(args) {
 		p.refuse("generic function %s as a value", fn.Name())
 	}
 	name := p.instName(fn, args)
@@ -56,17 +61,47 @@ func (p *prog) funcRef(fn *types.Func, args []types.Type) string {
 	if fd == nil || fd.Body == nil {
 		p.refuse("function %s", fn.FullName())
 	}
-	if err := p.Faulty[fd]; err != nil {
-		panic(err)
-	}
+	p.faulty(fd)
 	sub, key := instance(params, args)
 	p.queue = append(p.queue, func() {
 		p.within(sub, key, func() {
 			p.pos = fd.Pos()
-			p.function(&function{name: name, recv: sig.Recv(), sig: sig, body: fd.Body, pos: fd.Pos(), test: p.isTest(fd)})
+			p.try(func() {
+				p.function(&function{name: name, recv: sig.Recv(), sig: sig, body: fd.Body, pos: fd.Pos(), test: p.isTest(fd)})
+			})
 		})
 	})
 	return name
+}
+
+// forwarded is the function, with its type arguments, that a function of the models calls with its own parameters and does
+// nothing else. It is nil for other functions.
+func (p *prog) forwarded(fn *types.Func) (*types.Func, []types.Type) {
+	fd := p.bodies[fn]
+	if fd == nil || fd.Recv != nil || fd.Body == nil || len(fd.Body.List) != 1 || fn.Signature().TypeParams().Len() > 0 ||
+		!load.IsStandard(p.Fset.Position(fd.Pos()).Filename) {
+		return nil, nil
+	}
+	ret, ok := fd.Body.List[0].(*ast.ReturnStmt)
+	if !ok || len(ret.Results) != 1 {
+		return nil, nil
+	}
+	call, ok := ret.Results[0].(*ast.CallExpr)
+	if !ok || len(call.Args) != fn.Signature().Params().Len() || call.Ellipsis.IsValid() {
+		return nil, nil
+	}
+	for i, a := range call.Args {
+		id, ok := a.(*ast.Ident)
+		if !ok || p.Info.Uses[id] != fn.Signature().Params().At(i) {
+			return nil, nil
+		}
+	}
+	to := p.callee(call)
+	sig, ok := p.Info.Types[call.Fun].Type.(*types.Signature)
+	if !ok || to == nil || to.Signature().Recv() != nil || to.Pkg() != fn.Pkg() || !sameSig(sig, fn.Signature()) {
+		return nil, nil
+	}
+	return to, p.typeArgs(call.Fun)
 }
 
 // globalRef is the text of a global variable.
@@ -101,8 +136,8 @@ func (p *prog) whole() {
 		}
 	}
 	var mainBuf *buffer
-	if err := p.Faulty[main]; main != nil && err != nil {
-		panic(err)
+	if main != nil {
+		p.faulty(main)
 	}
 	if p.opt.Tests {
 		mainBuf = p.testMain()
@@ -189,9 +224,7 @@ func (p *prog) startOf(k *load.Pkg, list []*ast.FuncDecl) {
 	}
 	p.started[k] = []string{}
 	for _, d := range list {
-		if err := p.Faulty[d]; err != nil {
-			panic(err)
-		}
+		p.faulty(d)
 		name := p.fresh("init")
 		p.started[k] = append(p.started[k], name)
 		p.function(&function{name: name, sig: p.Info.Defs[d.Name].(*types.Func).Signature(), body: d.Body, pos: d.Pos()})
@@ -230,7 +263,8 @@ func (p *prog) initialisers() {
 		for _, k := range p.List {
 			for _, in := range k.Inits {
 				if pieces[in] == nil && (k.User || p.anyGlobal(in.Lhs)) {
-					pieces[in] = p.initPiece(in)
+					pieces[in] = &buffer{}
+					p.try(func() { pieces[in] = p.initPiece(in) })
 					again = true
 				}
 			}

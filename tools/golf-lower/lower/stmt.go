@@ -99,7 +99,8 @@ func (f *fctx) block(list []ast.Stmt) {
 	f.emit("}")
 }
 
-func (f *fctx) stmt(s ast.Stmt) {
+// lowerStmt lowers one statement.
+func (f *fctx) lowerStmt(s ast.Stmt) {
 	f.at(s.Pos())
 	p := f.p
 	f.pause(s)
@@ -113,6 +114,7 @@ func (f *fctx) stmt(s ast.Stmt) {
 		f.exprStmt(s.X)
 	case *ast.SendStmt:
 		t := f.elemOf(s.Chan)
+		f.early(s.Chan, s.Value)
 		xs := f.ordered(func() string { return f.expr(s.Chan) }, func() string { return f.rval(s.Value, t) })
 		c, x := f.settle(xs[0]), f.settle(xs[1])
 		f.waiting(func() { f.emit("%s <- %s", c, x) })
@@ -121,11 +123,7 @@ func (f *fctx) stmt(s ast.Stmt) {
 		if s.Tok == token.DEC {
 			op = token.SUB
 		}
-		one := "1"
-		if t := f.typeOf(s.X); isFloat(t) {
-			one = p.floatConst(constant.MakeInt64(1), under(t).(*types.Basic))
-		}
-		f.opAssign(s.X, op, func() string { return one })
+		f.opAssign(s.X, op, nil)
 	case *ast.AssignStmt:
 		f.assignStmt(s)
 	case *ast.GoStmt:
@@ -170,6 +168,7 @@ func (f *fctx) declStmt(d *ast.GenDecl) {
 			vars[i], _ = f.p.Info.Defs[id].(*types.Var)
 		}
 		if len(vs.Values) == 1 && len(vs.Names) > 1 {
+			f.earlyOperands(vs.Values[0])
 			parts, ts := f.multi(vs.Values[0], len(vs.Names))
 			for i, v := range vars {
 				if vs.Names[i].Name != "_" {
@@ -178,6 +177,7 @@ func (f *fctx) declStmt(d *ast.GenDecl) {
 			}
 			continue
 		}
+		f.early(vs.Values...)
 		var gs []func() string
 		for i := range vs.Values {
 			t := f.typeOf(vs.Values[i])
@@ -256,14 +256,14 @@ func (f *fctx) exprStmt(e ast.Expr) {
 			f.emit("go %s(%s, %s)", p.stdFunc("sync", "groupGo"), x, f.rval(c.Args[0], fn.Signature().Params().At(0).Type()))
 			return
 		case "(*sync.Cond).Wait":
-			if p.genericCond {
+			if p.GenericCond {
 				s := p.selectionOf(sel)
 				x, _ := p.walkPath(f.expr(sel.X), f.typeOf(sel.X), s.index[:len(s.index)-1])
 				f.condWait(x)
 				return
 			}
 		case "(sync.Locker).Lock", "(sync.Locker).Unlock":
-			if s, ok := ast.Unparen(sel.X).(*ast.SelectorExpr); !ok || p.genericCond || native(deref(f.typeOf(s.X))) != "sync.Cond" {
+			if s, ok := ast.Unparen(sel.X).(*ast.SelectorExpr); !ok || p.GenericCond || native(deref(f.typeOf(s.X))) != "sync.Cond" {
 				f.locker(f.expr(sel.X), fn.Name())
 				return
 			}
@@ -349,7 +349,7 @@ func (f *fctx) multi(e ast.Expr, n int) ([]string, []types.Type) {
 		m := under(f.typeOf(e.X)).(*types.Map)
 		xs := f.ordered(func() string { return f.expr(e.X) }, func() string { return f.rval(e.Index, m.Key()) })
 		x := f.pin(xs[0])
-		i := f.temp(fmt.Sprintf("%s(%s, %s)", p.mapFunc(m, "find"), x, xs[1]))
+		i := f.temp(fmt.Sprintf("%s(%s, %s)", p.mapFunc(m, "find"), x, f.hashable(m, xs[1], x)))
 		v := f.temp(fmt.Sprintf("%s(%s, %s)", p.mapFunc(m, "at"), x, i))
 		return []string{p.copyOf(m.Elem(), v), fmt.Sprintf("(%s >= 0)", i)}, []types.Type{m.Elem(), types.Typ[types.Bool]}
 	case *ast.TypeAssertExpr:
@@ -368,8 +368,15 @@ func (f *fctx) assignStmt(s *ast.AssignStmt) {
 		op := map[token.Token]token.Token{token.ADD_ASSIGN: token.ADD, token.SUB_ASSIGN: token.SUB, token.MUL_ASSIGN: token.MUL,
 			token.QUO_ASSIGN: token.QUO, token.REM_ASSIGN: token.REM, token.AND_ASSIGN: token.AND, token.OR_ASSIGN: token.OR,
 			token.XOR_ASSIGN: token.XOR, token.SHL_ASSIGN: token.SHL, token.SHR_ASSIGN: token.SHR, token.AND_NOT_ASSIGN: token.AND_NOT}[s.Tok]
-		f.opAssign(s.Lhs[0], op, func() string { return f.count(op, s.Rhs[0]) })
+		f.opAssign(s.Lhs[0], op, s.Rhs[0])
 		return
+	}
+	if len(s.Lhs) == len(s.Rhs) {
+		left := s.Lhs
+		if s.Tok == token.DEFINE {
+			left = nil
+		}
+		f.earlyIn(left, s.Rhs)
 	}
 	if len(s.Lhs) == 1 {
 		l := s.Lhs[0]
@@ -382,7 +389,15 @@ func (f *fctx) assignStmt(s *ast.AssignStmt) {
 		return
 	}
 	if len(s.Rhs) == 1 {
-		// the operands on the left come first
+		// the calls on the left come first, then what is on the right, then what is left of the operands on the left
+		for _, l := range s.Lhs {
+			if f.hasCall(l) {
+				f.hoistOperands(l)
+			}
+		}
+		f.earlyOperands(s.Rhs[0])
+		parts, ts := f.multi(s.Rhs[0], len(s.Lhs))
+		f.at(s.Pos())
 		stores := make([]func(string), len(s.Lhs))
 		for i, l := range s.Lhs {
 			if !isBlank(l) && f.newVar(s, l) == nil {
@@ -391,8 +406,6 @@ func (f *fctx) assignStmt(s *ast.AssignStmt) {
 				f.hard = false
 			}
 		}
-		parts, ts := f.multi(s.Rhs[0], len(s.Lhs))
-		f.at(s.Pos())
 		for i, l := range s.Lhs {
 			if stores[i] != nil {
 				stores[i](f.convert(parts[i], ts[i], f.typeOf(l)))
@@ -498,63 +511,124 @@ func (f *fctx) place(l ast.Expr) func(string) {
 			}
 			return func(x string) {
 				f.runtimeError(xs[0]+" == nil", "assignment to entry in nil map")
+				xs[1] = f.hashable(m, xs[1], "")
 				f.emit("%s(%s, %s, %s)", p.mapFunc(m, "put"), xs[0], xs[1], x)
 			}
 		}
 	}
 	lv := f.lvalue(l)
 	if isRef(t) {
-		return func(x string) { f.emit("%s", p.set(t, lv, x)) }
+		return func(x string) { f.emit("%s", p.set(t, lv(), x)) }
 	}
-	return func(x string) { f.emit("%s = %s", lv, x) }
+	return func(x string) { f.emit("%s = %s", lv(), x) }
 }
 
-// lvalue is the text of a left side whose operands are evaluated.
-func (f *fctx) lvalue(l ast.Expr) string {
+// lvalue evaluates the operands of a left side. What it gives is called where the value is stored: it looks for nil pointers
+// and wrong indexes, and gives the text of the place.
+func (f *fctx) lvalue(l ast.Expr) func() string {
 	l = ast.Unparen(l)
 	switch l := l.(type) {
 	case *ast.IndexExpr:
 		if _, ok := under(deref(f.typeOf(l.X))).(*types.Map); ok {
 			break
 		}
+		if u, ok := under(f.typeOf(l.X)).(*types.Array); ok {
+			a := f.lvalue(l.X)
+			i := f.pin(f.expr(l.Index))
+			return func() string { return f.arrayElement(l, u, a(), i) }
+		}
 		xs := f.ordered(func() string { return f.expr(l.X) }, func() string { return f.expr(l.Index) })
 		s, i := f.pin(xs[0]), f.pin(xs[1])
 		if u, ok := under(f.typeOf(l.X)).(*types.Slice); ok {
-			return f.element(u.Elem(), s, i)
+			return func() string { return f.element(u.Elem(), s, i) }
 		}
-		return f.arrayElement(l, under(deref(f.typeOf(l.X))).(*types.Array), s, i)
+		return func() string { return f.arrayElement(l, under(deref(f.typeOf(l.X))).(*types.Array), s, i) }
 	case *ast.SelectorExpr:
-		if s := f.p.selectionOf(l); s != nil && s.kind == types.FieldVal {
-			r, _ := f.walk(f.pin(f.expr(l.X)), f.typeOf(l.X), s.index)
-			return r
+		s := f.p.selectionOf(l)
+		if s == nil || s.kind != types.FieldVal {
+			break
 		}
+		if isPtr(f.typeOf(l.X)) {
+			x := f.pin(f.expr(l.X))
+			return func() string { return f.field(x, l, s) }
+		}
+		x := f.lvalue(l.X)
+		return func() string { return f.field(x(), l, s) }
 	case *ast.StarExpr:
-		x := f.notNil(f.pin(f.expr(l.X)))
-		if isRef(f.typeOf(l)) {
-			return x
+		x := f.pin(f.expr(l.X))
+		return func() string {
+			f.notNil(x)
+			if isRef(f.typeOf(l)) {
+				return x
+			}
+			return x + ".v"
 		}
-		return x + ".v"
 	}
-	return f.expr(l)
+	x := f.expr(l)
+	return func() string { return x }
 }
 
-// opAssign is l op= value.
-func (f *fctx) opAssign(l ast.Expr, op token.Token, value func() string) {
+// field is a field of a left side.
+func (f *fctx) field(x string, l *ast.SelectorExpr, s *selection) string {
+	r, _ := f.walk(x, f.typeOf(l.X), s.index)
+	return r
+}
+
+// operand is the right side of l op= e, or 1 for l++ and l--. A call in it comes before what l is now.
+func (f *fctx) operand(op token.Token, e ast.Expr, t types.Type) string {
+	switch {
+	case e != nil && f.hasCall(e):
+		return f.pin(f.count(op, e))
+	case e != nil:
+		return f.count(op, e)
+	case isFloat(t):
+		return f.p.floatConst(constant.MakeInt64(1), under(t).(*types.Basic))
+	}
+	return "1"
+}
+
+// hasCall: the expression calls a function or receives.
+func (f *fctx) hasCall(e ast.Expr) bool {
+	found := false
+	ast.Inspect(e, func(n ast.Node) bool {
+		switch n := n.(type) {
+		case *ast.FuncLit:
+			return false
+		case *ast.CallExpr:
+			tv := f.p.Info.Types[n.Fun]
+			found = found || tv.IsValue()
+		case *ast.UnaryExpr:
+			found = found || n.Op == token.ARROW
+		}
+		return !found
+	})
+	return found
+}
+
+// opAssign is l op= e; without e it is l++ or l--.
+func (f *fctx) opAssign(l ast.Expr, op token.Token, e ast.Expr) {
 	p := f.p
 	t := f.typeOf(l)
+	if e != nil {
+		f.earlyIn([]ast.Expr{l}, []ast.Expr{e})
+	} else {
+		f.earlyIn([]ast.Expr{l}, nil)
+	}
 	if ix, ok := ast.Unparen(l).(*ast.IndexExpr); ok {
 		if m, ok := under(f.typeOf(ix.X)).(*types.Map); ok {
 			xs := f.ordered(func() string { return f.expr(ix.X) }, func() string { return f.rval(ix.Index, m.Key()) })
-			x, k := f.pin(xs[0]), f.pin(xs[1])
+			x, k := f.pin(xs[0]), f.hashable(m, f.pin(xs[1]), "")
+			y := f.operand(op, e, t)
 			old := fmt.Sprintf("%s(%s, %s)", p.mapFunc(m, "get"), x, k)
-			r := f.arith(op, t, old, value())
+			r := f.arith(op, t, old, y)
 			f.runtimeError(x+" == nil", "assignment to entry in nil map")
 			f.emit("%s(%s, %s, %s)", p.mapFunc(m, "put"), x, k, r)
 			return
 		}
 	}
-	lv := f.lvalue(l)
-	y := value()
+	place := f.lvalue(l)
+	y := f.operand(op, e, t)
+	lv := place()
 	r := f.arith(op, t, lv, y)
 	if strings.HasPrefix(r, "("+lv+" "+op.String()+" ") {
 		if y == "1" && (op == token.ADD || op == token.SUB) {
@@ -579,6 +653,7 @@ func (f *fctx) returnStmt(s *ast.ReturnStmt) {
 		return
 	}
 	var parts []string
+	f.early(s.Results...)
 	if len(s.Results) == 1 && res.Len() > 1 {
 		c := ast.Unparen(s.Results[0]).(*ast.CallExpr)
 		tup := f.typeOf(c).(*types.Tuple)
@@ -644,6 +719,7 @@ func (f *fctx) ifStmt(s *ast.IfStmt) {
 		f.stmt(s.Init)
 		f.at(s.Cond.Pos())
 	}
+	f.early(s.Cond)
 	c := f.expr(s.Cond)
 	f.at(s.Pos())
 	f.emit("if %s {", bare(c))

@@ -4,6 +4,8 @@ import (
 	"go/ast"
 	"go/types"
 	"strings"
+
+	"golflower/analyse"
 )
 
 // Generic functions and types are lowered once for each list of type arguments. While an instance is lowered, p.sub has
@@ -140,14 +142,14 @@ func (p *prog) later(g func()) {
 }
 
 // instance is the substitution for a list of type arguments.
-func instance(params *types.TypeParamList, args []types.Type) (map[*types.TypeParam]types.Type, string) {
-	if params.Len() == 0 {
+func instance(params []*types.TypeParam, args []types.Type) (map[*types.TypeParam]types.Type, string) {
+	if len(params) == 0 {
 		return nil, ""
 	}
 	sub := map[*types.TypeParam]types.Type{}
 	var key strings.Builder
-	for i := 0; i < params.Len(); i++ {
-		sub[params.At(i)] = args[i]
+	for i, p := range params {
+		sub[p] = args[i]
 		key.WriteString("[" + typeKey(args[i]) + "]")
 	}
 	return sub, key.String()
@@ -176,16 +178,7 @@ func (p *prog) typeArgs(e ast.Expr) []types.Type {
 }
 
 // generic is the name of a function in f[T].
-func generic(e ast.Expr) ast.Expr {
-	switch x := ast.Unparen(e).(type) {
-	case *ast.IndexExpr:
-		return ast.Unparen(x.X)
-	case *ast.IndexListExpr:
-		return ast.Unparen(x.X)
-	default:
-		return x
-	}
-}
+func generic(e ast.Expr) ast.Expr { return analyse.Generic(e) }
 
 // recvArgs are the type arguments of the receiver of a method.
 func recvArgs(fn *types.Func) []types.Type {
@@ -202,6 +195,11 @@ func recvArgs(fn *types.Func) []types.Type {
 		args = append(args, n.TypeArgs().At(i))
 	}
 	return args
+}
+
+// methodArgs are the type arguments of a method: those of the receiver, then those of its own.
+func (p *prog) methodArgs(fn *types.Func, e *ast.SelectorExpr) []types.Type {
+	return append(recvArgs(fn), p.typeArgs(e)...)
 }
 
 // selection is what x.sel means in the instance that is being lowered.
@@ -229,49 +227,4 @@ func (p *prog) selectionOf(e *ast.SelectorExpr) *selection {
 	}
 	r.obj, r.index = obj, index
 	return r
-}
-
-// isParam: the type is a type parameter.
-func isParam(t types.Type) bool {
-	_, ok := types.Unalias(t).(*types.TypeParam)
-	return ok
-}
-
-// hasParam: a type parameter occurs in the type.
-func hasParam(t types.Type) bool {
-	switch t := types.Unalias(t).(type) {
-	case *types.TypeParam:
-		return true
-	case *types.Named:
-		for i := 0; i < t.TypeArgs().Len(); i++ {
-			if hasParam(t.TypeArgs().At(i)) {
-				return true
-			}
-		}
-	case *types.Pointer:
-		return hasParam(t.Elem())
-	case *types.Slice:
-		return hasParam(t.Elem())
-	case *types.Array:
-		return hasParam(t.Elem())
-	case *types.Map:
-		return hasParam(t.Key()) || hasParam(t.Elem())
-	case *types.Chan:
-		return hasParam(t.Elem())
-	case *types.Tuple:
-		for i := 0; i < t.Len(); i++ {
-			if hasParam(t.At(i).Type()) {
-				return true
-			}
-		}
-	case *types.Signature:
-		return hasParam(t.Params()) || hasParam(t.Results())
-	case *types.Struct:
-		for i := 0; i < t.NumFields(); i++ {
-			if hasParam(t.Field(i).Type()) {
-				return true
-			}
-		}
-	}
-	return false
 }

@@ -38,9 +38,7 @@ func (p *prog) testMain() *buffer {
 			if !p.isTest(fd) || p.opt.Only != "" && fd.Name.Name != p.opt.Only {
 				continue
 			}
-			if err := p.Faulty[fd]; err != nil {
-				panic(err)
-			}
+			p.faulty(fd)
 			fn := p.Info.Defs[fd.Name].(*types.Func)
 			p.pos = fd.Pos()
 			f := p.newFctx("main")
@@ -86,6 +84,7 @@ func (f *fctx) testCall(c *ast.CallExpr, fn *types.Func) bool {
 		return true
 	}
 	var pieces []piece
+	f.early(c.Args...)
 	if strings.HasSuffix(name, "f") {
 		pieces = f.formatPieces(c, 0)
 	} else {
@@ -127,6 +126,6 @@ func (p *prog) testLiteral(c *ast.CallExpr) {
 		return
 	}
 	if lit, ok := ast.Unparen(c.Args[1]).(*ast.FuncLit); ok {
-		p.lits[lit].test = true
+		p.Lits[lit].Test = true
 	}
 }

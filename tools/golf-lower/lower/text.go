@@ -10,6 +10,7 @@ import (
 	"strings"
 	"unicode/utf8"
 
+	"golflower/analyse"
 	"golflower/load"
 )
 
@@ -280,12 +281,7 @@ func (n *textFinder) call(c *ast.CallExpr) bool {
 }
 
 // calleeName is the full name of the function that a call names.
-func (p *prog) calleeName(c *ast.CallExpr) string {
-	if fn := p.callee(c); fn != nil {
-		return fn.FullName()
-	}
-	return ""
-}
+func (p *prog) calleeName(c *ast.CallExpr) string { return analyse.CalleeName(p.Info, c) }
 
 // allDirect: Println of the subset writes a value of this type, or each of several results.
 func allDirect(t types.Type) bool {

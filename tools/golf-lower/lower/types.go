@@ -4,7 +4,7 @@ import (
 	"fmt"
 	"go/token"
 	"go/types"
-	"sort"
+	"slices"
 	"strings"
 )
 
@@ -20,52 +20,45 @@ import (
 //	slices                     []E, or *slN with offset and length if they are appended to or sliced
 //	several results            *resN
 
-// native are the types of sync that the subset has.
-func native(t types.Type) string {
-	n, ok := types.Unalias(t).(*types.Named)
-	if !ok || n.Obj().Pkg() == nil || n.Obj().Pkg().Path() != "sync" {
-		return ""
-	}
-	switch n.Obj().Name() {
-	case "Mutex", "RWMutex", "WaitGroup", "Cond":
-		return "sync." + n.Obj().Name()
-	}
-	return ""
-}
-
-func under(t types.Type) types.Type { return t.Underlying() }
-
-func isStruct(t types.Type) bool {
-	s, ok := under(t).(*types.Struct)
-	if !ok {
-		return false
-	}
-	if _, named := types.Unalias(t).(*types.Named); !named && s.NumFields() == 0 {
-		return false // struct{} itself is of the subset
-	}
-	return true
-}
-
-func isArray(t types.Type) bool { _, ok := under(t).(*types.Array); return ok }
-
-// isRef: a value of the type is a reference to storage.
-func isRef(t types.Type) bool { return isStruct(t) || isArray(t) }
-
-func isIface(t types.Type) bool { return types.IsInterface(t) }
-
-func isPtr(t types.Type) bool { _, ok := under(t).(*types.Pointer); return ok }
-
-// deref is the type behind a pointer, or the type itself.
-func deref(t types.Type) types.Type {
-	if p, ok := under(t).(*types.Pointer); ok {
-		return p.Elem()
-	}
-	return t
-}
+// noType is what is told of a type that could not be checked.
+const noType = "a type that _std has not"
 
 // lt is the type of the subset that holds values of t.
 func (p *prog) lt(t types.Type) string {
 	t = types.Unalias(t)
+	if n, ok := t.(*types.Named); ok && native(t) == "" {
+		switch u := n.Underlying().(type) {
+		case *types.Slice, *types.Map:
+			return p.recursive(t, typeKey(t))
+		case *types.Pointer:
+			if !isRef(u.Elem()) {
+				return p.recursive(t, typeKey(t))
+			}
+		}
+	}
+	return p.plainType(t)
+}
+
+// recursive is lt for a type that may contain itself: then the struct that holds it has a name before it is written.
+func (p *prog) recursive(t types.Type, key string) string {
+	if name := p.ownName[key]; name != "" {
+		return "*" + name
+	}
+	if !slices.Contains(p.open, key) {
+		p.open = append(p.open, key)
+		defer func() { p.open = p.open[:len(p.open)-1] }()
+		return p.plainType(t)
+	}
+	if s, ok := under(t).(*types.Slice); ok && !p.grows(s.Elem()) {
+		p.needs.grow[typeKey(s.Elem())] = true // a slice of the subset alone has no name
+		panic(errAgain)
+	}
+	p.ownName[key] = p.fresh("own_" + mangle(typeText(t)))
+	return "*" + p.ownName[key]
+}
+
+// plainType is lt without regard to types that contain themselves.
+func (p *prog) plainType(t types.Type) string {
 	p.depth++
 	defer func() { p.depth-- }()
 	if p.depth > 100 {
@@ -75,7 +68,7 @@ func (p *prog) lt(t types.Type) string {
 		p.refuse("type parameter %s", t)
 	}
 	if n := native(t); n != "" {
-		if n == "sync.Cond" && p.genericCond {
+		if n == "sync.Cond" && p.GenericCond {
 			return "*" + p.condStruct()
 		}
 		p.imports["sync"] = true
@@ -85,7 +78,7 @@ func (p *prog) lt(t types.Type) string {
 	case *types.Basic:
 		switch {
 		case u.Kind() == types.Invalid:
-			p.refuse("a type that _std has not")
+			p.refuse(noType)
 		case u.Info()&types.IsFloat != 0, u.Info()&types.IsInteger != 0, u.Kind() == types.UnsafePointer, u.Kind() == types.UntypedNil:
 			return "int"
 		case u.Info()&types.IsBoolean != 0:
@@ -111,9 +104,9 @@ func (p *prog) lt(t types.Type) string {
 		if p.grows(u.Elem()) {
 			return "*" + p.sliceStruct(u.Elem())
 		}
-		return "[]" + p.lt(u.Elem())
+		return "[]" + p.cell(u.Elem())
 	case *types.Array:
-		return "[]" + p.lt(u.Elem())
+		return "[]" + p.cell(u.Elem())
 	case *types.Map:
 		return "*" + p.mapStruct(u)
 	case *types.Chan:
@@ -140,94 +133,6 @@ func (p *prog) lt(t types.Type) string {
 	return ""
 }
 
-// typeKey is a text that identical types share, and no others.
-func typeKey(t types.Type) string {
-	var sb strings.Builder
-	writeKey(&sb, t)
-	return sb.String()
-}
-
-func writeKey(sb *strings.Builder, t types.Type) {
-	tuple := func(u *types.Tuple) {
-		sb.WriteString("(")
-		for i := 0; i < u.Len(); i++ {
-			writeKey(sb, u.At(i).Type())
-			sb.WriteString(",")
-		}
-		sb.WriteString(")")
-	}
-	switch t := types.Unalias(t).(type) {
-	case *types.Basic:
-		sb.WriteString(types.Typ[t.Kind()].Name()) // uint8 for byte
-	case *types.Named:
-		o := t.Obj()
-		if o.Pkg() != nil {
-			sb.WriteString(o.Pkg().Path() + ".")
-			if o.Parent() != o.Pkg().Scope() {
-				fmt.Fprintf(sb, "%d.", o.Pos()) // of types of one name that functions declare
-			}
-		}
-		sb.WriteString(o.Name())
-		for i := 0; i < t.TypeArgs().Len(); i++ {
-			sb.WriteString("[")
-			writeKey(sb, t.TypeArgs().At(i))
-			sb.WriteString("]")
-		}
-	case *types.Pointer:
-		sb.WriteString("*")
-		writeKey(sb, t.Elem())
-	case *types.Slice:
-		sb.WriteString("[]")
-		writeKey(sb, t.Elem())
-	case *types.Array:
-		fmt.Fprintf(sb, "[%d]", t.Len())
-		writeKey(sb, t.Elem())
-	case *types.Map:
-		sb.WriteString("map[")
-		writeKey(sb, t.Key())
-		sb.WriteString("]")
-		writeKey(sb, t.Elem())
-	case *types.Chan:
-		fmt.Fprintf(sb, "chan%d ", t.Dir())
-		writeKey(sb, t.Elem())
-	case *types.Signature:
-		fmt.Fprintf(sb, "func%v", t.Variadic())
-		tuple(t.Params())
-		tuple(t.Results())
-	case *types.Tuple:
-		tuple(t)
-	case *types.Struct:
-		sb.WriteString("struct{")
-		for i := 0; i < t.NumFields(); i++ {
-			f := t.Field(i)
-			if !f.Exported() && f.Pkg() != nil {
-				sb.WriteString(f.Pkg().Path() + ".")
-			}
-			fmt.Fprintf(sb, "%s %v %q ", f.Name(), f.Embedded(), t.Tag(i))
-			writeKey(sb, f.Type())
-			sb.WriteString(";")
-		}
-		sb.WriteString("}")
-	case *types.Interface:
-		var ms []string
-		for i := 0; i < t.NumMethods(); i++ {
-			m := t.Method(i)
-			n := m.Name()
-			if !m.Exported() && m.Pkg() != nil {
-				n = m.Pkg().Path() + "." + n
-			}
-			ms = append(ms, n+typeKey(m.Type()))
-		}
-		sort.Strings(ms)
-		sb.WriteString("interface{" + strings.Join(ms, ";") + "}")
-		if t.NumEmbeddeds() > 0 && !t.IsMethodSet() {
-			sb.WriteString(t.String())
-		}
-	default:
-		sb.WriteString(types.TypeString(t, (*types.Package).Path))
-	}
-}
-
 // mangle makes a name of a type of the subset.
 func mangle(s string) string {
 	r := strings.NewReplacer("*golf_Text", "string", "*golf_any", "any", "chan<- ", "sendchan_", "<-chan ", "recvchan_", "chan ", "chan_", "[]", "s_", "*", "p_", "struct{}", "empty", ".", "_", " ", "_", "(", "_", ")", "_", ",", "_")
@@ -245,11 +150,14 @@ func (p *prog) aux(kind, key string, fill func(name string, b *buffer)) string {
 	if n, ok := p.auxNames[k]; ok {
 		return n
 	}
-	name := mangle(key)
-	if len(name) > 40 {
-		name = fmt.Sprint(len(p.auxNames))
+	name := p.ownStruct(kind)
+	if name == "" {
+		name = mangle(key)
+		if len(name) > 40 {
+			name = fmt.Sprint(len(p.auxNames))
+		}
+		name = p.fresh(kind + "_" + name)
 	}
-	name = p.fresh(kind + "_" + name)
 	p.auxNames[k] = name
 	b := &buffer{}
 	done := false
@@ -261,6 +169,20 @@ func (p *prog) aux(kind, key string, fill func(name string, b *buffer)) string {
 	fill(name, b)
 	done = true
 	p.decls.lines = append(p.decls.lines, b.lines...)
+	return name
+}
+
+// ownStruct is the name of the struct of the type that is being held now, if it contains itself and has no struct yet.
+func (p *prog) ownStruct(kind string) string {
+	if len(p.open) == 0 || kind != "slice" && kind != "map" && kind != "box" {
+		return ""
+	}
+	key := p.open[len(p.open)-1]
+	name := p.ownName[key]
+	if name == "" || p.ownDone[key] {
+		return ""
+	}
+	p.ownDone[key] = true
 	return name
 }
 
@@ -323,7 +245,7 @@ func (p *prog) structOf(t types.Type) *structInfo {
 	} else {
 		s.name = p.fresh("anon")
 	}
-	s.addr = p.addressed[typeKey(t)]
+	s.addr = p.Addressed[typeKey(t)]
 	u := under(t).(*types.Struct)
 	for i := 0; i < u.NumFields(); i++ {
 		v := u.Field(i)
@@ -331,7 +253,7 @@ func (p *prog) structOf(t types.Type) *structInfo {
 		if name == "_" {
 			name = fmt.Sprintf("blank_%d", i)
 		}
-		f := field{v: v, name: name, boxed: p.boxedField[v.Origin()] && !isRef(v.Type())}
+		f := field{v: v, name: name, boxed: p.BoxedFields[v.Origin()] && !isRef(v.Type())}
 		s.fields = append(s.fields, f)
 	}
 	b := &buffer{}
@@ -368,7 +290,7 @@ func (p *prog) fieldRef(t types.Type, i int) string {
 // order); the rest is zero.
 func (p *prog) newStruct(t types.Type, given map[int]string, order ...int) string {
 	if n := native(t); n != "" {
-		if n == "sync.Cond" && p.genericCond {
+		if n == "sync.Cond" && p.GenericCond {
 			return p.condNew("nil")
 		}
 		p.imports["sync"] = true
@@ -425,15 +347,15 @@ func (p *prog) zero(t types.Type) string {
 
 // makeNative makes a slice of the subset whose elements are zero values of their own.
 func (p *prog) makeNative(elem types.Type, n string) string {
-	l := p.lt(elem)
-	if !isRef(elem) {
+	l := p.cell(elem)
+	if !isRef(elem) && !p.boxes(elem) {
 		return fmt.Sprintf("make([]%s, %s)", l, n)
 	}
 	f := p.aux("make", typeKey(elem), func(name string, b *buffer) {
 		b.add(0, "func %s(n int) []%s {", name, l)
 		b.add(0, "s := make([]%s, n)", l)
 		b.add(0, "for i := 0; i < n; i++ {")
-		b.add(0, "s[i] = %s", p.zero(elem))
+		b.add(0, "s[i] = %s", p.newCell(elem, p.zero(elem)))
 		b.add(0, "}")
 		b.add(0, "return s")
 		b.add(0, "}")
@@ -450,12 +372,12 @@ func (p *prog) copyOf(t types.Type, x string) string {
 		p.refuse("copy of a %s", native(t))
 	}
 	if a, ok := under(t).(*types.Array); ok {
-		l := p.lt(a.Elem())
+		l := p.cell(a.Elem())
 		f := p.aux("copyarray", typeKey(a.Elem()), func(name string, b *buffer) {
 			b.add(0, "func %s(s []%s) []%s {", name, l, l)
 			b.add(0, "t := make([]%s, len(s))", l)
 			b.add(0, "for i := 0; i < len(s); i++ {")
-			b.add(0, "t[i] = %s", p.copyOf(a.Elem(), "s[i]"))
+			b.add(0, "t[i] = %s", p.newCell(a.Elem(), p.copyOf(a.Elem(), p.slot(a.Elem(), "s[i]"))))
 			b.add(0, "}")
 			b.add(0, "return t")
 			b.add(0, "}")
@@ -479,17 +401,20 @@ func (p *prog) copyOf(t types.Type, x string) string {
 // set stores a value into the storage of a struct or array.
 func (p *prog) set(t types.Type, dst, src string) string {
 	if native(t) != "" {
-		p.refuse("assignment to a %s", native(t))
+		if isWord(dst) {
+			p.refuse("assignment to a %s", native(t))
+		}
+		return dst + " = " + src // a new one: a copy has been refused
 	}
 	if a, ok := under(t).(*types.Array); ok {
-		l := p.lt(a.Elem())
+		l := p.cell(a.Elem())
 		f := p.aux("setarray", typeKey(a.Elem()), func(name string, b *buffer) {
 			b.add(0, "func %s(d []%s, s []%s) {", name, l, l)
 			b.add(0, "for i := 0; i < len(s); i++ {")
 			if isRef(a.Elem()) {
 				b.add(0, "%s", p.set(a.Elem(), "d[i]", "s[i]"))
 			} else {
-				b.add(0, "d[i] = s[i]")
+				b.add(0, "%s = %s", p.slot(a.Elem(), "d[i]"), p.slot(a.Elem(), "s[i]"))
 			}
 			b.add(0, "}")
 			b.add(0, "}")
@@ -519,9 +444,9 @@ func (p *prog) equal(t types.Type, a, b string) string {
 		return fmt.Sprintf("%s(%s, %s)", p.equalAny().name, a, b)
 	case isArray(t):
 		el := under(t).(*types.Array).Elem()
-		l := p.lt(el)
+		l := p.cell(el)
 		f := p.aux("equalarray", typeKey(el), func(name string, b *buffer) {
-			c := p.equal(el, "a[i]", "b[i]")
+			c := p.equal(el, p.slot(el, "a[i]"), p.slot(el, "b[i]"))
 			b.add(0, "func %s(a []%s, b []%s) bool {", name, l, l)
 			b.add(0, "for i := 0; i < len(a); i++ {")
 			b.add(0, "if !(%s) {", c)

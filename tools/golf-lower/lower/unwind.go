@@ -90,7 +90,7 @@ func (p *prog) unwindHelpers() {
 	}
 	p.nilError() // for the functions that call by a tag
 	r := strings.NewReplacer("NILPANIC", p.stdFunc("runtime", "nilPanic"), "DIE", p.stdFunc("golf", "Die"),
-		"FORMAT", p.formatterOf(plain('v')).name)
+		"FORMAT", p.formatterOf(plain('P')).name)
 	for _, l := range strings.Split(r.Replace(unwindText), "\n") {
 		p.decls.add(token.NoPos, "%s", l)
 	}

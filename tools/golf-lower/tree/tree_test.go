@@ -2,6 +2,8 @@ package tree
 
 import (
 	"go/token"
+	"os"
+	"strconv"
 	"strings"
 	"testing"
 )
@@ -36,23 +38,30 @@ func body(text string) string {
 	return strings.ReplaceAll(text, "\t", "")
 }
 
+// rows are the rows of a table: a quoted text, and the quoted text that is wanted for it.
+func rows(t *testing.T, name string) map[string]string {
+	t.Helper()
+	text, err := os.ReadFile("testdata/" + name + ".txt")
+	if err != nil {
+		t.Fatal(err)
+	}
+	all := map[string]string{}
+	for _, row := range strings.Split(strings.TrimSpace(string(text)), "\n") {
+		from, to, _ := strings.Cut(row, " => ")
+		in, wrong := strconv.Unquote(from)
+		want, err := strconv.Unquote(to)
+		if wrong != nil || err != nil {
+			t.Fatalf("%s.txt: %s", name, row)
+		}
+		all[in] = want
+	}
+	return all
+}
+
 func inMain(stmts string) string { return "package main\nfunc main() {\n" + stmts + "\n}" }
 
 func TestPrinterWritesTheBracketsThatAreNeeded(t *testing.T) {
-	for in, want := range map[string]string{
-		"x = ((a) + ((b * c)))":               "x = a + b*c",
-		"x = (a + b) * c":                     "x = (a + b) * c",
-		"x = a - (b - c)":                     "x = a - (b - c)",
-		"x = (a - b) - c":                     "x = a - b - c",
-		"x = -(-a)":                           "x = -(-a)",
-		"x = !(a && b)":                       "x = !(a && b)",
-		"x = (<-c) + 1":                       "x = <-c + 1",
-		"x = (*p).f":                          "x = (*p).f",
-		"x = (&T{a: (1)})":                    "x = &T{a: 1}",
-		"x = f(((a)), (b))[(i)]":              "x = f(a, b)[i]",
-		"c <- (a)":                            "c <- a",
-		"var x chan<- int = (make(chan int))": "var x chan<- int = make(chan int)",
-	} {
+	for in, want := range rows(t, "brackets") {
 		if got := strings.TrimSpace(body(printed(parse(t, inMain(in))))); got != want {
 			t.Errorf("%s: %s, want %s", in, got, want)
 		}
@@ -131,20 +140,7 @@ func TestPrinterKeepsThePlaces(t *testing.T) {
 }
 
 func TestDropUnused(t *testing.T) {
-	for in, want := range map[string]string{
-		"x := 1":                                "",
-		"x := f()":                              "_ = f()",
-		"x := 1\ng(x)":                          "x := 1\ng(x)",
-		"var x *T":                              "",
-		"var x *T = f()":                        "_ = f()",
-		"v, ok := <-c":                          "<-c",
-		"v, ok := <-c\ng(ok)":                   "_, ok := <-c\ng(ok)",
-		"select {\ncase x := <-c:\n}":           "select {\ncase <-c:\n}",
-		"select {\ncase x, ok := <-c:\ng(x)\n}": "select {\ncase x, _ := <-c:\ng(x)\n}",
-		"x := struct{}{}":                       "",
-		"for {\nx := f()\n}":                    "for {\n_ = f()\n}",
-		"x := 1\ny = T{x: 2}.x":                 "y = T{x: 2}.x",
-	} {
+	for in, want := range rows(t, "unused") {
 		f := parse(t, inMain(in))
 		f.DropUnused()
 		if got := strings.TrimSuffix(body(printed(f)), "\n"); got != want {

@@ -37,8 +37,8 @@ GOLF = program.program_path(None, "GOLF", "golf")
 EXPLORE = program.program_path(None, "GOLF_EXPLORE", "golf-explore")
 EXAMPLES = sorted(glob.glob(os.path.join(ROOT, "examples", "*.go")))
 SCHEDULES = sorted(glob.glob(os.path.join(ROOT, "examples", "schedules", "*.go")))
-SAMPLES = [os.path.join(TOOL, "samples", f"{name}.go") for name in ("chains", "ends", "pool")]
-FILES = EXAMPLES + SCHEDULES + SAMPLES
+SAMPLES = [os.path.join(TOOL, "samples", f"{name}.go") for name in ("chains", "ends")]
+MADE = tempfile.TemporaryDirectory()
 MOST_BYTES = 3_000_000
 
 
@@ -48,6 +48,19 @@ def example(name):
 
 def sample(name):
     return os.path.join(TOOL, "samples", f"{name}.go")
+
+
+def small_pool():
+    """Makes the example of the worker pool with fewer jobs and without a collection in the end. Returns its path."""
+    with open(example("worker_pool"), encoding="utf-8") as file:
+        text = file.read()
+    path = os.path.join(MADE.name, "pool.go")
+    with open(path, "w", encoding="utf-8") as file:
+        file.write(text[text.index("package main"):text.index("sum(10))")] + "sum(3))\n\truntime.GC()\n}\n")
+    return path
+
+
+FILES = EXAMPLES + SCHEDULES + SAMPLES + [small_pool()]
 
 
 def page_of(path, *line):
@@ -263,6 +276,15 @@ LEAK_CYCLE = os.path.join(ROOT, "examples", "schedules", "lock_cycle_leaks.go")
 LOCK_AT_RETURN = os.path.join(ROOT, "examples", "schedules", "lock_at_return_leaks.go")
 
 
+def asleep(text, *line):
+    """Returns the lines of the report that tell who waits where."""
+    with tempfile.NamedTemporaryFile("w", suffix=".go", encoding="utf-8") as made:
+        made.write(text)
+        made.flush()
+        lines = tell.report_lines(page_of(made.name, *line).run)
+    return [line for _, line, kind, _ in lines if kind == "asleep"]
+
+
 class Words(unittest.TestCase):
     """The words of a page."""
 
@@ -289,13 +311,31 @@ class Words(unittest.TestCase):
     def test_who_waits_where_all_are_asleep_is_told(self):
         file = ("package main\n\nfunc wait(c chan int) {\n\t<-c\n}\n\nfunc main() {\n\tc := make(chan int)\n"
                 "\tgo wait(c)\n\tgo wait(nil)\n\td := make(chan int)\n\td <- 1\n}\n")
-        with tempfile.NamedTemporaryFile("w", suffix=".go") as made:
-            made.write(file)
-            made.flush()
-            lines = tell.report_lines(page_of(made.name).run)
-        self.assertEqual([(line, number) for _, line, kind, number in lines if kind == "asleep"], [
-            ("goroutine 1: blocked at line 12", 1), ("goroutine 2: chan receive at line 4, started at line 9", 2),
-            ("goroutine 3: chan receive (nil chan) at line 4, started at line 10", 3)])
+        self.assertEqual(asleep(file), [
+            "goroutine 1: chan send at line 12", "goroutine 2: chan receive at line 4, started at line 9",
+            "goroutine 3: chan receive (nil chan) at line 4, started at line 10"])
+
+    def test_who_holds_the_lock_is_told(self):
+        file = ("package main\n\nimport \"sync\"\n\n"
+                "func move(from *sync.Mutex, to *sync.Mutex, both *sync.WaitGroup) {\n\tfrom.Lock()\n"
+                "\tboth.Done()\n\tboth.Wait()\n\tto.Lock()\n}\n\nfunc main() {\n\tleft := &sync.Mutex{}\n"
+                "\tright := &sync.Mutex{}\n\tboth := &sync.WaitGroup{}\n\tboth.Add(2)\n\tgo move(left, right, both)\n"
+                "\tgo move(right, left, both)\n\tselect {}\n}\n")
+        for words_ in ([], ["--schedule", "seed:5"], ["--threads", "2"]):
+            self.assertEqual(asleep(file, *words_), [
+                "goroutine 1: select (no cases) at line 19",
+                "goroutine 2: sync.Mutex.Lock at line 9, started at line 17, locked by goroutine 3 at line 6",
+                "goroutine 3: sync.Mutex.Lock at line 9, started at line 18, locked by goroutine 2 at line 6"])
+
+    def test_a_goroutine_that_locks_twice_waits_for_itself(self):
+        file = ("package main\n\nimport \"sync\"\n\nfunc main() {\n\tm := &sync.RWMutex{}\n\tm.Lock()\n\tm.Lock()\n}\n")
+        self.assertEqual(asleep(file), ["goroutine 1: sync.RWMutex.Lock at line 8, locked by itself at line 7"])
+
+    def test_of_two_readers_no_holder_is_told(self):
+        file = ("package main\n\nimport \"sync\"\n\nfunc read(m *sync.RWMutex, c chan int) {\n\tm.RLock()\n\tc <- 1\n"
+                "\tc <- 2\n}\n\nfunc main() {\n\tm := &sync.RWMutex{}\n\tc := make(chan int)\n\tgo read(m, c)\n"
+                "\tgo read(m, c)\n\t<-c\n\t<-c\n\tm.Lock()\n}\n")
+        self.assertEqual(asleep(file)[0], "goroutine 1: sync.RWMutex.Lock at line 18")
 
     def test_a_leak_with_too_many_numbers_is_told(self):
         with self.assertRaisesRegex(program.Failure, "more than the words of a run may have"):

@@ -1,15 +1,18 @@
 package main
 
 import (
+	"errors"
 	"fmt"
 	"io"
+	"sort"
+	"strings"
 
 	"golflower/load"
 	"golflower/lower"
 )
 
-// check lowers the main packages that the words name, and each test, and runs nothing. A line tells what is refused, and
-// one for each package what can be run.
+// check lowers the main packages that the words name, and each test, and runs nothing. A line for each package counts what
+// can be run. All that is refused is told by its reason, with the places and with what would reach them.
 func check(w words, stdout, stderr io.Writer) int {
 	units, err := load.Modules(".", w.paths, true)
 	if err != nil {
@@ -17,44 +20,110 @@ func check(w words, stdout, stderr io.Writer) int {
 		return noRead
 	}
 	status := 0
+	all := &refusals{places: map[string][]string{}, reached: map[string][]string{}}
 	for _, u := range units {
-		good, all := checkUnit(w, u, stderr)
-		fmt.Fprintf(stdout, "%s: %d of %d accepted\n", u.Path, good, all)
-		if good < all {
+		good, total := checkUnit(w, u, all)
+		fmt.Fprintf(stdout, "%s: %d of %d accepted\n", u.Path, good, total)
+		if good < total {
 			status = refused
 		}
 	}
+	all.write(stderr)
 	return status
 }
 
-// checkUnit counts what of a package is accepted.
-func checkUnit(w words, u *load.Unit, stderr io.Writer) (good, all int) {
-	tell := func(what string, err error) {
-		all++
-		if err == nil {
-			good++
-			return
+// refusals are what is refused of all units, with those whose run would reach it.
+type refusals struct {
+	reasons []string // in the order in which they are found
+	places  map[string][]string
+	reached map[string][]string // by reason and place
+}
+
+// add notes what is refused of one main or test.
+func (r *refusals) add(who string, list []*load.Error) {
+	for _, e := range list {
+		msg, _, _ := strings.Cut(e.Msg, "\n")
+		at := "no place"
+		if e.Pos.Line > 0 {
+			at = e.Pos.String()
 		}
-		fmt.Fprintf(stderr, "refused: %s: %v\n", what, err)
+		if len(r.places[msg]) == 0 {
+			r.reasons = append(r.reasons, msg)
+		}
+		key := at + " " + msg
+		if len(r.reached[key]) == 0 {
+			r.places[msg] = append(r.places[msg], at)
+		}
+		r.reached[key] = append(r.reached[key], who)
 	}
-	if u.Err != nil {
-		tell(u.Path, u.Err)
-		return good, all
+}
+
+// write writes each reason with its places, the most frequent reason first.
+func (r *refusals) write(to io.Writer) {
+	sort.SliceStable(r.reasons, func(i, j int) bool { return len(r.places[r.reasons[i]]) > len(r.places[r.reasons[j]]) })
+	for _, reason := range r.reasons {
+		fmt.Fprintf(to, "refused: %s\n", reason)
+		for _, at := range r.places[reason] {
+			who := r.reached[at+" "+reason]
+			more := ""
+			if len(who) > 1 {
+				more = fmt.Sprintf(" and %d more", len(who)-1)
+			}
+			fmt.Fprintf(to, "\t%s, reached from %s%s\n", at, who[0], more)
+		}
+		for _, i := range instead {
+			if strings.HasPrefix(reason, i.begin) {
+				fmt.Fprintf(to, "\tinstead: %s\n", i.text)
+			}
+		}
 	}
-	l, err := load.New(u.Program)
+}
+
+// instead says what could be written in place of what is refused.
+var instead = []struct{ begin, text string }{
+	{"function literal in the header", "give the literal to a variable before the loop"},
+	{"address of an element", "take the address of a variable, or let the elements be structs"},
+	{"copy of a sync.", "hand on a pointer to the struct"},
+	{"assignment to a sync.", "let the variable be a pointer, or a field of a struct"},
+	{"cap of a channel", "keep the size in a variable"},
+	{"defer in a range over", "collect the values first, and range over the slice"},
+	{"sort.Slice of a value", "give the slice its type before it is sorted"},
+}
+
+// checkUnit counts what of a package is accepted.
+func checkUnit(w words, u *load.Unit, all *refusals) (good, total int) {
+	tell := func(what string, list []*load.Error) {
+		total++
+		if list == nil {
+			good++
+		}
+		all.add(what, list)
+	}
+	var l *load.Loader
+	err := u.Err
+	if err == nil {
+		l, err = load.New(u.Program)
+	}
 	if err != nil {
-		tell(u.Path, err)
-		return good, all
+		tell(u.Path, []*load.Error{asError(err)})
+		return good, total
 	}
 	if u.Main {
-		_, err := lower.Loaded(l, w.options())
-		tell(u.Path, err)
+		tell(u.Path, lower.Refusals(l, w.options()))
 	}
 	for _, name := range u.Tests {
 		opt := w.options()
 		opt.Tests, opt.Only = true, name
-		_, err := lower.Loaded(l, opt)
-		tell(name, err)
+		tell(name, lower.Refusals(l, opt))
 	}
-	return good, all
+	return good, total
+}
+
+// asError is an error with its place, if it has one.
+func asError(err error) *load.Error {
+	var e *load.Error
+	if errors.As(err, &e) {
+		return e
+	}
+	return &load.Error{Msg: err.Error()}
 }

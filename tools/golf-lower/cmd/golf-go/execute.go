@@ -6,30 +6,11 @@ import (
 	"errors"
 	"fmt"
 	"io"
-	"os"
 	"os/exec"
 	"strings"
-	"syscall"
-	"time"
 
 	"golflower/lower"
 )
-
-// program is the program that the variable names, or the one of that name on the path.
-func program(variable, name string) string {
-	if p := os.Getenv(variable); p != "" {
-		return p
-	}
-	return name
-}
-
-// command is a program that ends when golf-go is ended.
-func command(ctx context.Context, name string, args ...string) *exec.Cmd {
-	cmd := exec.CommandContext(ctx, name, args...)
-	cmd.Cancel = func() error { return cmd.Process.Signal(syscall.SIGTERM) }
-	cmd.WaitDelay = time.Second
-	return cmd
-}
 
 // failed: the program could not be run, or it has been ended; its status says nothing.
 func failed(err error) bool {
@@ -41,37 +22,54 @@ func failed(err error) bool {
 func execute(ctx context.Context, w words, low *lower.Output, tests bool, stdout, stderr io.Writer) int {
 	cmd := command(ctx, program("GOLF", "golf"), w.line()...)
 	cmd.Stdin = strings.NewReader(low.Text)
-	r := &reporter{low: low, tests: tests, all: w.chosen || w.threads, out: stderr}
+	r := &reporter{low: low, tests: tests, all: w.chosen || w.threads, out: stderr, threads: w.threads}
 	errs := &lines{out: stderr, told: "golf: ", line: r.early}
 	cmd.Stderr = errs
 	pipe, err := cmd.StdoutPipe()
 	if err == nil {
 		err = cmd.Start()
 	}
-	if err != nil {
-		fmt.Fprintln(stderr, err)
-		return noRead
+	if status := childFault(ctx, stderr, err, nil, "GOLF", "golf"); status != 0 {
+		return status
 	}
 	d := &lower.Decoder{Out: stdout, Err: stderr}
 	written := d.Copy(pipe)
 	if written != nil {
 		io.Copy(io.Discard, pipe)
 	}
-	err = cmd.Wait()
+	if status := childFault(ctx, stderr, cmd.Wait(), written, "GOLF", "golf"); status != 0 {
+		return status
+	}
+	r.decoder, r.status = d, cmd.ProcessState.ExitCode()
+	errs.end()
+	if r.status == usage {
+		return misused(w, stderr)
+	}
+	r.waits, r.caller = r.waiting(ctx, w), r.callers(ctx, w)
+	return r.end()
+}
+
+// childFault is the status of golf-go if a program could not be run to its end, or if what it wrote could not be written, and
+// 0 else. A line says why.
+func childFault(ctx context.Context, stderr io.Writer, err, written error, variable, name string) int {
 	switch {
 	case ctx.Err() != nil:
 		fmt.Fprintln(stderr, "golf-go: ended")
 		return noRead
 	case failed(err):
-		fmt.Fprintln(stderr, err)
+		fmt.Fprintln(stderr, startFault(variable, name, err))
 		return noRead
 	case written != nil:
-		fmt.Fprintln(stderr, written)
+		fmt.Fprintln(stderr, "golf-go:", written)
 		return noWrite
 	}
-	r.decoder, r.status = d, cmd.ProcessState.ExitCode()
-	errs.end()
-	return r.end()
+	return 0
+}
+
+// misused says which word the program that was run does not know.
+func misused(w words, stderr io.Writer) int {
+	fmt.Fprintf(stderr, "golf-go: %s (golf-go %s)\n", wrongWord(w.mode, w.golf), strings.TrimSpace(w.mode+" --help"))
+	return usage
 }
 
 // lines hands on the lines of a program. What its launcher tells while it builds the program is written as it is.

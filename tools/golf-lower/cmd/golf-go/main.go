@@ -8,8 +8,12 @@
 //	golf-go page PACKAGE [words] > PAGE    writes the page of a run
 //	golf-go check PACKAGES                 lowers the packages and their tests, and runs nothing
 //
+//	golf-go --help, golf-go WORD --help    shows the words
+//	golf-go --version                      shows the release
+//
 // Words are --late, --pause, --clock loose, and the words of the program that is run. The programs are $GOLF, $GOLF_EXPLORE
-// and $GOLF_PAGE, or golf, golf-explore and golf-page on the path. $GOLF_LOWERED names a file for the lowered text.
+// and $GOLF_PAGE, or golf, golf-explore and golf-page beside the executable, or those on the path. $GOLF_LOWERED names a file
+// for the lowered text.
 package main
 
 import (
@@ -18,6 +22,7 @@ import (
 	"io"
 	"os"
 	"os/signal"
+	"runtime/debug"
 	"slices"
 	"strings"
 	"syscall"
@@ -40,10 +45,9 @@ const (
 	noWrite = 7
 )
 
-const usageText = "usage: golf-go [run | explore | search | page | check] FILE.go .. or PACKAGE [--late] [--pause] [--clock loose] [words of golf]"
-
 func main() {
-	ctx, stop := signal.NotifyContext(context.Background(), os.Interrupt, syscall.SIGTERM)
+	debug.SetGCPercent(400) // a lowering is short
+	ctx, stop := signal.NotifyContext(context.Background(), os.Interrupt, syscall.SIGTERM, syscall.SIGHUP)
 	defer stop()
 	os.Exit(run(ctx, os.Args[1:], os.Stdout, os.Stderr))
 }
@@ -75,32 +79,51 @@ func parseWords(args []string) words {
 		w.paths = append(w.paths, args[0])
 		args = args[1:]
 	}
-	for i := 0; i < len(args); i++ {
-		name, value, whole := strings.Cut(args[i], "=")
-		switch name {
-		case "--late":
-			w.late = true
-			continue
-		case "--pause":
-			w.pause = true
-			continue
-		case "--clock":
-			if !whole && i+1 < len(args) {
-				i++
-				value = args[i]
-			}
-			w.clock(value)
-			continue
-		case "--every", "--schedule":
-			w.chosen = true
-		case "--threads":
-			w.threads = true
-		case "--turns":
-			w.turns = true
+	if len(w.paths) == 0 {
+		w.wrong = "no file and no package is named"
+		if len(args) > 0 && !strings.HasPrefix(args[0], "--") {
+			w.wrong = "no word of golf-go, no file and no folder: " + args[0]
 		}
-		w.golf = append(w.golf, args[i])
+	}
+	for len(args) > 0 {
+		args = w.take(args)
+	}
+	if w.mode == "check" && len(w.golf) > 0 {
+		w.wrong = wrongWord("check", w.golf)
 	}
 	return w
+}
+
+// take takes the next word, with its value, and returns those after it.
+func (w *words) take(args []string) []string {
+	word := args[0]
+	name, value, whole := strings.Cut(word, "=")
+	args = args[1:]
+	switch {
+	case word == "--late":
+		w.late = true
+		return args
+	case word == "--pause":
+		w.pause = true
+		return args
+	case name == "--clock" && !whole && len(args) == 0:
+		w.wrong = "no value after --clock"
+		return args
+	case name == "--clock":
+		if !whole {
+			value, args = args[0], args[1:]
+		}
+		w.clock(value)
+		return args
+	case name == "--every", name == "--schedule":
+		w.chosen = true
+	case name == "--threads":
+		w.threads = true
+	case name == "--turns":
+		w.turns = true
+	}
+	w.golf = append(w.golf, word)
+	return args
 }
 
 // clock takes the word after --clock.
@@ -148,11 +171,13 @@ func (w words) options() lower.Options {
 
 func run(ctx context.Context, args []string, stdout, stderr io.Writer) int {
 	w := parseWords(args)
-	if len(w.paths) == 0 {
-		w.wrong = usageText
-	}
-	if w.wrong != "" {
-		fmt.Fprintln(stderr, w.wrong)
+	switch {
+	case slices.Contains(args, "--help"):
+		return put(help(w.mode), stdout, stderr)
+	case slices.Equal(args, []string{"--version"}):
+		return version(stdout, stderr)
+	case w.wrong != "":
+		fmt.Fprintf(stderr, "golf-go: %s (golf-go --help shows the words)\n", w.wrong)
 		return usage
 	}
 	if w.mode == "check" {
@@ -195,7 +220,7 @@ func (w words) program(stderr io.Writer) (*load.Program, lower.Options, int) {
 		}
 		opt.Tests = tests
 		if !load.NeedsModules(sources) {
-			return load.Single(sources), opt, 0
+			return load.Versioned(sources, load.Language(w.paths[0])), opt, 0
 		}
 	}
 	units, err := load.Modules(".", w.paths, false)

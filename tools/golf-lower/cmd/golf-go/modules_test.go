@@ -59,7 +59,7 @@ func TestPackagesThatCannotBeRun(t *testing.T) {
 		{"shop", "run ./stock", "refused: package example.com/shop/stock: only package main has a function to run\n", 4},
 		{"shop", "run ./nowhere", "refused: ", 4},
 		{"missing", "run .", "refused: main.go:3:8: ", 4},
-		{"shop", "run ./cmd/shop --clock fast", "--clock fast: the clocks are strict, which is the default, and loose\n", 5},
+		{"shop", "run ./cmd/shop --clock fast", "golf-go: --clock fast: the clocks are strict, which is the default, and loose (", 5},
 	} {
 		t.Run(c.words, func(t *testing.T) {
 			_, errs, status := inModule(t, c.module, c.words)
@@ -83,8 +83,26 @@ func TestCheckTellsWhatIsRefused(t *testing.T) {
 	wantOut := "example.com/shop/internal/price: 0 of 0 accepted\n" +
 		"example.com/shop/stock: 3 of 4 accepted\n" +
 		"example.com/shop/cmd/shop: 1 of 1 accepted\n"
-	wantErrs := "refused: TestComplex: stock/outside_test.go:17:"
+	wantErrs := "refused: type complex128: not supported\n\tstock/outside_test.go:17:5, reached from TestComplex\n"
 	if out != wantOut || !strings.HasPrefix(errs, wantErrs) || status != 4 {
 		t.Errorf("status %d\n%s%s", status, out, errs)
+	}
+}
+
+// A folder without a word of the family has the files whose constraints hold, and the language of its go.mod.
+func TestAFolderIsReadAsGoReadsIt(t *testing.T) {
+	if os.Getenv("GOLF") == "" {
+		t.Skip("GOLF does not name the program golf")
+	}
+	for _, folder := range []string{"../../testdata/constraints", modules + "old"} {
+		cmd := exec.Command("go", "run", ".")
+		cmd.Dir = folder
+		want, err := cmd.Output()
+		if err != nil {
+			t.Fatal(err)
+		}
+		if out, errs, status := said(t, folder); out != string(want) || status != 0 {
+			t.Errorf("%s: status %d\n%swant\n%s%s", folder, status, out, want, errs)
+		}
 	}
 }

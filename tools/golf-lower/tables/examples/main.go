@@ -19,22 +19,13 @@ import (
 	"os"
 	"os/exec"
 	"path/filepath"
-	"regexp"
-	"runtime"
 	"sort"
 	"strings"
-	"sync"
 
 	"golflower/tables/judge"
 )
 
-var (
-	root = flag.String("goroot", runtime.GOROOT(), "the root of Go's source")
-	only = flag.String("only", "", "the examples whose names match, as strings.ExampleCut")
-	part = flag.Int("part", -1, "the examples whose number ends in this digit")
-	jobs = flag.Int("jobs", 2, "examples at the same time")
-	list = flag.Bool("list", false, "a line for each example, in place of the table")
-)
+var choice = judge.Words("examples")
 
 // packages are those whose examples are taken.
 var packages = []string{"strings", "strconv", "bytes", "bufio", "sort", "slices", "maps", "container/heap", "container/list",
@@ -46,42 +37,27 @@ type example struct {
 	text      []byte // the program, nil if there is none
 	output    string
 	unordered bool
-	verdict   judge.Verdict
 }
 
 func main() {
 	flag.Parse()
 	all := find()
-	var wg sync.WaitGroup
-	slots := make(chan struct{}, *jobs)
+	var names []string
 	for _, e := range all {
-		slots <- struct{}{}
-		wg.Add(1)
-		go func() {
-			defer wg.Done()
-			e.verdict = e.examine()
-			<-slots
-		}()
+		names = append(names, e.name)
 	}
-	wg.Wait()
-	if *list {
-		for _, e := range all {
-			fmt.Printf("%s\t%s\t%s\n", e.name, e.verdict.Kind, e.verdict.Text)
-		}
-		return
+	verdicts, listed := choice.Judge(names, func(i int) judge.Verdict { return all[i].examine() })
+	if !listed {
+		write(all, verdicts)
 	}
-	write(all)
 }
 
 // find reads the examples of all packages.
 func find() []*example {
-	re := regexp.MustCompile(*only)
 	var all []*example
-	number := 0
 	for _, pkg := range packages {
 		for _, e := range examplesOf(pkg) {
-			number++
-			if re.MatchString(e.name) && (*part < 0 || number%10 == *part) {
+			if choice.Takes(e.name) {
 				all = append(all, e)
 			}
 		}
@@ -92,7 +68,7 @@ func find() []*example {
 // examplesOf reads the examples of a package that have an output.
 func examplesOf(pkg string) []*example {
 	fset := token.NewFileSet()
-	names, _ := filepath.Glob(filepath.Join(*root, "src", pkg, "*_test.go"))
+	names, _ := filepath.Glob(filepath.Join(choice.Root(), "src", pkg, "*_test.go"))
 	var files []*ast.File
 	for _, n := range names {
 		f, err := parser.ParseFile(fset, n, nil, parser.ParseComments)
@@ -178,19 +154,15 @@ func sorted(s string) string {
 }
 
 // write writes the table.
-func write(all []*example) {
+func write(all []*example, verdicts []judge.Verdict) {
 	count := map[string]map[judge.Kind]int{}
-	reasons := map[string]int{}
-	for _, e := range all {
+	for i, e := range all {
 		for _, k := range []string{e.pkg, "all"} {
 			if count[k] == nil {
 				count[k] = map[judge.Kind]int{}
 			}
-			count[k][e.verdict.Kind]++
+			count[k][verdicts[i].Kind]++
 			count[k]["all"]++
-		}
-		if e.verdict.Kind == judge.Refused {
-			reasons[judge.Reason(e.verdict.Text)]++
 		}
 	}
 	fmt.Print("| package | examples | same | refused | too many turns | different | no program |\n|---|---|---|---|---|---|---|\n")
@@ -198,15 +170,5 @@ func write(all []*example) {
 		c := count[k]
 		fmt.Printf("| %s | %d | %d | %d | %d | %d | %d |\n", k, c["all"], c[judge.Same], c[judge.Refused], c[judge.Stopped], c[judge.Different], c[judge.Unbuilt])
 	}
-	fmt.Print("\n| refused because of | examples |\n|---|---|\n")
-	var keys []string
-	for k := range reasons {
-		keys = append(keys, k)
-	}
-	sort.Slice(keys, func(i, j int) bool {
-		return reasons[keys[i]] > reasons[keys[j]] || reasons[keys[i]] == reasons[keys[j]] && keys[i] < keys[j]
-	})
-	for _, k := range keys {
-		fmt.Printf("| %s | %d |\n", strings.ReplaceAll(k, "|", `\|`), reasons[k])
-	}
+	fmt.Print(judge.Reasons("examples", verdicts))
 }

@@ -96,7 +96,13 @@ func Wanted(want string, words ...string) Verdict {
 	if v != nil {
 		return *v
 	}
-	if out := strings.TrimSpace(got.Out + got.Errs); out != want {
+	out := strings.TrimSpace(got.Out + got.Errs)
+	if out != want { // standard error may come between
+		if out, v = together(exec.Command(GolfGo, words...)); v != nil {
+			return *v
+		}
+	}
+	if out != want {
 		return Verdict{Different, difference(Shown{Out: want}, Shown{Out: out, End: got.End})}
 	}
 	if got.End != "status 0" {
@@ -135,7 +141,7 @@ func golf(cmd *exec.Cmd) (Shown, *Verdict) {
 			return Shown{}, &Verdict{Stopped, l}
 		case strings.HasPrefix(l, "panic: "), strings.HasPrefix(l, "fatal error: "):
 			got.End, _, _ = strings.Cut(l, " (goroutine ")
-		case strings.HasPrefix(l, "collection "), strings.HasPrefix(l, "goroutine "), strings.HasPrefix(l, "golf-go: "):
+		case ofGolfGo(l):
 		default:
 			before = append(before, l)
 		}
@@ -145,6 +151,28 @@ func golf(cmd *exec.Cmd) (Shown, *Verdict) {
 		got.End = ended(status, errs)
 	}
 	return got, nil
+}
+
+// together is what a program writes to both outputs, in the order in which it does.
+func together(cmd *exec.Cmd) (string, *Verdict) {
+	ctx, cancel := context.WithTimeout(context.Background(), limit)
+	defer cancel()
+	out, err := exec.CommandContext(ctx, cmd.Path, cmd.Args[1:]...).CombinedOutput()
+	if ctx.Err() != nil {
+		return "", &Verdict{Stopped, err.Error()}
+	}
+	var own []string
+	for _, l := range strings.Split(string(out), "\n") {
+		if !ofGolfGo(l) {
+			own = append(own, l)
+		}
+	}
+	return strings.TrimSpace(strings.Join(own, "\n")), nil
+}
+
+// ofGolfGo: golf-go says the line, and not the program.
+func ofGolfGo(l string) bool {
+	return strings.HasPrefix(l, "collection ") || strings.HasPrefix(l, "goroutine ") || strings.HasPrefix(l, "golf-go: ")
 }
 
 // ended is the status as that of the program itself: a report is none.

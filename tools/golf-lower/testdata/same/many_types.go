@@ -2,362 +2,362 @@ package main
 
 import "fmt"
 
-type T0 struct{ x int }
+type Counter0 struct{ x int }
 
-func (t *T0) Get() int { return t.x + 0 }
+func (t *Counter0) Get() int { return t.x + 0 }
 
-type T1 struct{ x int }
+type Counter1 struct{ x int }
 
-func (t *T1) Get() int { return t.x + 1 }
+func (t *Counter1) Get() int { return t.x + 1 }
 
-type T2 struct{ x int }
+type Counter2 struct{ x int }
 
-func (t *T2) Get() int { return t.x + 2 }
+func (t *Counter2) Get() int { return t.x + 2 }
 
-type T3 struct{ x int }
+type Counter3 struct{ x int }
 
-func (t *T3) Get() int { return t.x + 3 }
+func (t *Counter3) Get() int { return t.x + 3 }
 
-type T4 struct{ x int }
+type Counter4 struct{ x int }
 
-func (t *T4) Get() int { return t.x + 4 }
+func (t *Counter4) Get() int { return t.x + 4 }
 
-type T5 struct{ x int }
+type Counter5 struct{ x int }
 
-func (t *T5) Get() int { return t.x + 5 }
+func (t *Counter5) Get() int { return t.x + 5 }
 
-type T6 struct{ x int }
+type Counter6 struct{ x int }
 
-func (t *T6) Get() int { return t.x + 6 }
+func (t *Counter6) Get() int { return t.x + 6 }
 
-type T7 struct{ x int }
+type Counter7 struct{ x int }
 
-func (t *T7) Get() int { return t.x + 7 }
+func (t *Counter7) Get() int { return t.x + 7 }
 
-type T8 struct{ x int }
+type Counter8 struct{ x int }
 
-func (t *T8) Get() int { return t.x + 8 }
+func (t *Counter8) Get() int { return t.x + 8 }
 
-type T9 struct{ x int }
+type Counter9 struct{ x int }
 
-func (t *T9) Get() int { return t.x + 9 }
+func (t *Counter9) Get() int { return t.x + 9 }
 
-type T10 struct{ x int }
+type Counter10 struct{ x int }
 
-func (t *T10) Get() int { return t.x + 10 }
+func (t *Counter10) Get() int { return t.x + 10 }
 
-type T11 struct{ x int }
+type Counter11 struct{ x int }
 
-func (t *T11) Get() int { return t.x + 11 }
+func (t *Counter11) Get() int { return t.x + 11 }
 
-type T12 struct{ x int }
+type Counter12 struct{ x int }
 
-func (t *T12) Get() int { return t.x + 12 }
+func (t *Counter12) Get() int { return t.x + 12 }
 
-type T13 struct{ x int }
+type Counter13 struct{ x int }
 
-func (t *T13) Get() int { return t.x + 13 }
+func (t *Counter13) Get() int { return t.x + 13 }
 
-type T14 struct{ x int }
+type Counter14 struct{ x int }
 
-func (t *T14) Get() int { return t.x + 14 }
+func (t *Counter14) Get() int { return t.x + 14 }
 
-type T15 struct{ x int }
+type Counter15 struct{ x int }
 
-func (t *T15) Get() int { return t.x + 15 }
+func (t *Counter15) Get() int { return t.x + 15 }
 
-type T16 struct{ x int }
+type Counter16 struct{ x int }
 
-func (t *T16) Get() int { return t.x + 16 }
+func (t *Counter16) Get() int { return t.x + 16 }
 
-type T17 struct{ x int }
+type Counter17 struct{ x int }
 
-func (t *T17) Get() int { return t.x + 17 }
+func (t *Counter17) Get() int { return t.x + 17 }
 
-type T18 struct{ x int }
+type Counter18 struct{ x int }
 
-func (t *T18) Get() int { return t.x + 18 }
+func (t *Counter18) Get() int { return t.x + 18 }
 
-type T19 struct{ x int }
+type Counter19 struct{ x int }
 
-func (t *T19) Get() int { return t.x + 19 }
+func (t *Counter19) Get() int { return t.x + 19 }
 
-type T20 struct{ x int }
+type Counter20 struct{ x int }
 
-func (t *T20) Get() int { return t.x + 20 }
+func (t *Counter20) Get() int { return t.x + 20 }
 
-type T21 struct{ x int }
+type Counter21 struct{ x int }
 
-func (t *T21) Get() int { return t.x + 21 }
+func (t *Counter21) Get() int { return t.x + 21 }
 
-type T22 struct{ x int }
+type Counter22 struct{ x int }
 
-func (t *T22) Get() int { return t.x + 22 }
+func (t *Counter22) Get() int { return t.x + 22 }
 
-type T23 struct{ x int }
+type Counter23 struct{ x int }
 
-func (t *T23) Get() int { return t.x + 23 }
+func (t *Counter23) Get() int { return t.x + 23 }
 
-type T24 struct{ x int }
+type Counter24 struct{ x int }
 
-func (t *T24) Get() int { return t.x + 24 }
+func (t *Counter24) Get() int { return t.x + 24 }
 
-type T25 struct{ x int }
+type Counter25 struct{ x int }
 
-func (t *T25) Get() int { return t.x + 25 }
+func (t *Counter25) Get() int { return t.x + 25 }
 
-type T26 struct{ x int }
+type Counter26 struct{ x int }
 
-func (t *T26) Get() int { return t.x + 26 }
+func (t *Counter26) Get() int { return t.x + 26 }
 
-type T27 struct{ x int }
+type Counter27 struct{ x int }
 
-func (t *T27) Get() int { return t.x + 27 }
+func (t *Counter27) Get() int { return t.x + 27 }
 
-type T28 struct{ x int }
+type Counter28 struct{ x int }
 
-func (t *T28) Get() int { return t.x + 28 }
+func (t *Counter28) Get() int { return t.x + 28 }
 
-type T29 struct{ x int }
+type Counter29 struct{ x int }
 
-func (t *T29) Get() int { return t.x + 29 }
+func (t *Counter29) Get() int { return t.x + 29 }
 
-type T30 struct{ x int }
+type Counter30 struct{ x int }
 
-func (t *T30) Get() int { return t.x + 30 }
+func (t *Counter30) Get() int { return t.x + 30 }
 
-type T31 struct{ x int }
+type Counter31 struct{ x int }
 
-func (t *T31) Get() int { return t.x + 31 }
+func (t *Counter31) Get() int { return t.x + 31 }
 
-type T32 struct{ x int }
+type Counter32 struct{ x int }
 
-func (t *T32) Get() int { return t.x + 32 }
+func (t *Counter32) Get() int { return t.x + 32 }
 
-type T33 struct{ x int }
+type Counter33 struct{ x int }
 
-func (t *T33) Get() int { return t.x + 33 }
+func (t *Counter33) Get() int { return t.x + 33 }
 
-type T34 struct{ x int }
+type Counter34 struct{ x int }
 
-func (t *T34) Get() int { return t.x + 34 }
+func (t *Counter34) Get() int { return t.x + 34 }
 
-type T35 struct{ x int }
+type Counter35 struct{ x int }
 
-func (t *T35) Get() int { return t.x + 35 }
+func (t *Counter35) Get() int { return t.x + 35 }
 
-type T36 struct{ x int }
+type Counter36 struct{ x int }
 
-func (t *T36) Get() int { return t.x + 36 }
+func (t *Counter36) Get() int { return t.x + 36 }
 
-type T37 struct{ x int }
+type Counter37 struct{ x int }
 
-func (t *T37) Get() int { return t.x + 37 }
+func (t *Counter37) Get() int { return t.x + 37 }
 
-type T38 struct{ x int }
+type Counter38 struct{ x int }
 
-func (t *T38) Get() int { return t.x + 38 }
+func (t *Counter38) Get() int { return t.x + 38 }
 
-type T39 struct{ x int }
+type Counter39 struct{ x int }
 
-func (t *T39) Get() int { return t.x + 39 }
+func (t *Counter39) Get() int { return t.x + 39 }
 
-type T40 struct{ x int }
+type Counter40 struct{ x int }
 
-func (t *T40) Get() int { return t.x + 40 }
+func (t *Counter40) Get() int { return t.x + 40 }
 
-type T41 struct{ x int }
+type Counter41 struct{ x int }
 
-func (t *T41) Get() int { return t.x + 41 }
+func (t *Counter41) Get() int { return t.x + 41 }
 
-type T42 struct{ x int }
+type Counter42 struct{ x int }
 
-func (t *T42) Get() int { return t.x + 42 }
+func (t *Counter42) Get() int { return t.x + 42 }
 
-type T43 struct{ x int }
+type Counter43 struct{ x int }
 
-func (t *T43) Get() int { return t.x + 43 }
+func (t *Counter43) Get() int { return t.x + 43 }
 
-type T44 struct{ x int }
+type Counter44 struct{ x int }
 
-func (t *T44) Get() int { return t.x + 44 }
+func (t *Counter44) Get() int { return t.x + 44 }
 
-type T45 struct{ x int }
+type Counter45 struct{ x int }
 
-func (t *T45) Get() int { return t.x + 45 }
+func (t *Counter45) Get() int { return t.x + 45 }
 
-type T46 struct{ x int }
+type Counter46 struct{ x int }
 
-func (t *T46) Get() int { return t.x + 46 }
+func (t *Counter46) Get() int { return t.x + 46 }
 
-type T47 struct{ x int }
+type Counter47 struct{ x int }
 
-func (t *T47) Get() int { return t.x + 47 }
+func (t *Counter47) Get() int { return t.x + 47 }
 
-type T48 struct{ x int }
+type Counter48 struct{ x int }
 
-func (t *T48) Get() int { return t.x + 48 }
+func (t *Counter48) Get() int { return t.x + 48 }
 
-type T49 struct{ x int }
+type Counter49 struct{ x int }
 
-func (t *T49) Get() int { return t.x + 49 }
+func (t *Counter49) Get() int { return t.x + 49 }
 
-type T50 struct{ x int }
+type Counter50 struct{ x int }
 
-func (t *T50) Get() int { return t.x + 50 }
+func (t *Counter50) Get() int { return t.x + 50 }
 
-type T51 struct{ x int }
+type Counter51 struct{ x int }
 
-func (t *T51) Get() int { return t.x + 51 }
+func (t *Counter51) Get() int { return t.x + 51 }
 
-type T52 struct{ x int }
+type Counter52 struct{ x int }
 
-func (t *T52) Get() int { return t.x + 52 }
+func (t *Counter52) Get() int { return t.x + 52 }
 
-type T53 struct{ x int }
+type Counter53 struct{ x int }
 
-func (t *T53) Get() int { return t.x + 53 }
+func (t *Counter53) Get() int { return t.x + 53 }
 
-type T54 struct{ x int }
+type Counter54 struct{ x int }
 
-func (t *T54) Get() int { return t.x + 54 }
+func (t *Counter54) Get() int { return t.x + 54 }
 
-type T55 struct{ x int }
+type Counter55 struct{ x int }
 
-func (t *T55) Get() int { return t.x + 55 }
+func (t *Counter55) Get() int { return t.x + 55 }
 
-type T56 struct{ x int }
+type Counter56 struct{ x int }
 
-func (t *T56) Get() int { return t.x + 56 }
+func (t *Counter56) Get() int { return t.x + 56 }
 
-type T57 struct{ x int }
+type Counter57 struct{ x int }
 
-func (t *T57) Get() int { return t.x + 57 }
+func (t *Counter57) Get() int { return t.x + 57 }
 
-type T58 struct{ x int }
+type Counter58 struct{ x int }
 
-func (t *T58) Get() int { return t.x + 58 }
+func (t *Counter58) Get() int { return t.x + 58 }
 
-type T59 struct{ x int }
+type Counter59 struct{ x int }
 
-func (t *T59) Get() int { return t.x + 59 }
+func (t *Counter59) Get() int { return t.x + 59 }
 
-type T60 struct{ x int }
+type Counter60 struct{ x int }
 
-func (t *T60) Get() int { return t.x + 60 }
+func (t *Counter60) Get() int { return t.x + 60 }
 
-type T61 struct{ x int }
+type Counter61 struct{ x int }
 
-func (t *T61) Get() int { return t.x + 61 }
+func (t *Counter61) Get() int { return t.x + 61 }
 
-type T62 struct{ x int }
+type Counter62 struct{ x int }
 
-func (t *T62) Get() int { return t.x + 62 }
+func (t *Counter62) Get() int { return t.x + 62 }
 
-type T63 struct{ x int }
+type Counter63 struct{ x int }
 
-func (t *T63) Get() int { return t.x + 63 }
+func (t *Counter63) Get() int { return t.x + 63 }
 
-type T64 struct{ x int }
+type Counter64 struct{ x int }
 
-func (t *T64) Get() int { return t.x + 64 }
+func (t *Counter64) Get() int { return t.x + 64 }
 
-type T65 struct{ x int }
+type Counter65 struct{ x int }
 
-func (t *T65) Get() int { return t.x + 65 }
+func (t *Counter65) Get() int { return t.x + 65 }
 
-type T66 struct{ x int }
+type Counter66 struct{ x int }
 
-func (t *T66) Get() int { return t.x + 66 }
+func (t *Counter66) Get() int { return t.x + 66 }
 
-type T67 struct{ x int }
+type Counter67 struct{ x int }
 
-func (t *T67) Get() int { return t.x + 67 }
+func (t *Counter67) Get() int { return t.x + 67 }
 
-type T68 struct{ x int }
+type Counter68 struct{ x int }
 
-func (t *T68) Get() int { return t.x + 68 }
+func (t *Counter68) Get() int { return t.x + 68 }
 
-type T69 struct{ x int }
+type Counter69 struct{ x int }
 
-func (t *T69) Get() int { return t.x + 69 }
+func (t *Counter69) Get() int { return t.x + 69 }
 
-type G interface{ Get() int }
+type Getter interface{ Get() int }
 
 func main() {
-	var gs []G
-	gs = append(gs, &T0{0})
-	gs = append(gs, &T1{1})
-	gs = append(gs, &T2{2})
-	gs = append(gs, &T3{3})
-	gs = append(gs, &T4{4})
-	gs = append(gs, &T5{5})
-	gs = append(gs, &T6{6})
-	gs = append(gs, &T7{7})
-	gs = append(gs, &T8{8})
-	gs = append(gs, &T9{9})
-	gs = append(gs, &T10{10})
-	gs = append(gs, &T11{11})
-	gs = append(gs, &T12{12})
-	gs = append(gs, &T13{13})
-	gs = append(gs, &T14{14})
-	gs = append(gs, &T15{15})
-	gs = append(gs, &T16{16})
-	gs = append(gs, &T17{17})
-	gs = append(gs, &T18{18})
-	gs = append(gs, &T19{19})
-	gs = append(gs, &T20{20})
-	gs = append(gs, &T21{21})
-	gs = append(gs, &T22{22})
-	gs = append(gs, &T23{23})
-	gs = append(gs, &T24{24})
-	gs = append(gs, &T25{25})
-	gs = append(gs, &T26{26})
-	gs = append(gs, &T27{27})
-	gs = append(gs, &T28{28})
-	gs = append(gs, &T29{29})
-	gs = append(gs, &T30{30})
-	gs = append(gs, &T31{31})
-	gs = append(gs, &T32{32})
-	gs = append(gs, &T33{33})
-	gs = append(gs, &T34{34})
-	gs = append(gs, &T35{35})
-	gs = append(gs, &T36{36})
-	gs = append(gs, &T37{37})
-	gs = append(gs, &T38{38})
-	gs = append(gs, &T39{39})
-	gs = append(gs, &T40{40})
-	gs = append(gs, &T41{41})
-	gs = append(gs, &T42{42})
-	gs = append(gs, &T43{43})
-	gs = append(gs, &T44{44})
-	gs = append(gs, &T45{45})
-	gs = append(gs, &T46{46})
-	gs = append(gs, &T47{47})
-	gs = append(gs, &T48{48})
-	gs = append(gs, &T49{49})
-	gs = append(gs, &T50{50})
-	gs = append(gs, &T51{51})
-	gs = append(gs, &T52{52})
-	gs = append(gs, &T53{53})
-	gs = append(gs, &T54{54})
-	gs = append(gs, &T55{55})
-	gs = append(gs, &T56{56})
-	gs = append(gs, &T57{57})
-	gs = append(gs, &T58{58})
-	gs = append(gs, &T59{59})
-	gs = append(gs, &T60{60})
-	gs = append(gs, &T61{61})
-	gs = append(gs, &T62{62})
-	gs = append(gs, &T63{63})
-	gs = append(gs, &T64{64})
-	gs = append(gs, &T65{65})
-	gs = append(gs, &T66{66})
-	gs = append(gs, &T67{67})
-	gs = append(gs, &T68{68})
-	gs = append(gs, &T69{69})
+	var getters []Getter
+	getters = append(getters, &Counter0{0})
+	getters = append(getters, &Counter1{1})
+	getters = append(getters, &Counter2{2})
+	getters = append(getters, &Counter3{3})
+	getters = append(getters, &Counter4{4})
+	getters = append(getters, &Counter5{5})
+	getters = append(getters, &Counter6{6})
+	getters = append(getters, &Counter7{7})
+	getters = append(getters, &Counter8{8})
+	getters = append(getters, &Counter9{9})
+	getters = append(getters, &Counter10{10})
+	getters = append(getters, &Counter11{11})
+	getters = append(getters, &Counter12{12})
+	getters = append(getters, &Counter13{13})
+	getters = append(getters, &Counter14{14})
+	getters = append(getters, &Counter15{15})
+	getters = append(getters, &Counter16{16})
+	getters = append(getters, &Counter17{17})
+	getters = append(getters, &Counter18{18})
+	getters = append(getters, &Counter19{19})
+	getters = append(getters, &Counter20{20})
+	getters = append(getters, &Counter21{21})
+	getters = append(getters, &Counter22{22})
+	getters = append(getters, &Counter23{23})
+	getters = append(getters, &Counter24{24})
+	getters = append(getters, &Counter25{25})
+	getters = append(getters, &Counter26{26})
+	getters = append(getters, &Counter27{27})
+	getters = append(getters, &Counter28{28})
+	getters = append(getters, &Counter29{29})
+	getters = append(getters, &Counter30{30})
+	getters = append(getters, &Counter31{31})
+	getters = append(getters, &Counter32{32})
+	getters = append(getters, &Counter33{33})
+	getters = append(getters, &Counter34{34})
+	getters = append(getters, &Counter35{35})
+	getters = append(getters, &Counter36{36})
+	getters = append(getters, &Counter37{37})
+	getters = append(getters, &Counter38{38})
+	getters = append(getters, &Counter39{39})
+	getters = append(getters, &Counter40{40})
+	getters = append(getters, &Counter41{41})
+	getters = append(getters, &Counter42{42})
+	getters = append(getters, &Counter43{43})
+	getters = append(getters, &Counter44{44})
+	getters = append(getters, &Counter45{45})
+	getters = append(getters, &Counter46{46})
+	getters = append(getters, &Counter47{47})
+	getters = append(getters, &Counter48{48})
+	getters = append(getters, &Counter49{49})
+	getters = append(getters, &Counter50{50})
+	getters = append(getters, &Counter51{51})
+	getters = append(getters, &Counter52{52})
+	getters = append(getters, &Counter53{53})
+	getters = append(getters, &Counter54{54})
+	getters = append(getters, &Counter55{55})
+	getters = append(getters, &Counter56{56})
+	getters = append(getters, &Counter57{57})
+	getters = append(getters, &Counter58{58})
+	getters = append(getters, &Counter59{59})
+	getters = append(getters, &Counter60{60})
+	getters = append(getters, &Counter61{61})
+	getters = append(getters, &Counter62{62})
+	getters = append(getters, &Counter63{63})
+	getters = append(getters, &Counter64{64})
+	getters = append(getters, &Counter65{65})
+	getters = append(getters, &Counter66{66})
+	getters = append(getters, &Counter67{67})
+	getters = append(getters, &Counter68{68})
+	getters = append(getters, &Counter69{69})
 	n := 0
-	for _, g := range gs {
+	for _, g := range getters {
 		n += g.Get()
 	}
 	fmt.Println(n)

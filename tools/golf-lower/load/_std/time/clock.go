@@ -143,15 +143,15 @@ func clock() {
 	}
 }
 
-// round lets time pass until an event is due, by the loose clock.
+// round lets time pass until an event is due, by the loose clock. mu is not held: a moment may be taken away meanwhile.
 func round() {
-	for head != nil {
-		d := (head.at - now) / part
+	for m := head; m != nil; m = head {
+		d := (m.at - now) / part
 		if d < step {
 			d = step
 		}
 		now += d
-		if head.at <= now {
+		if m.at <= now {
 			return
 		}
 	}

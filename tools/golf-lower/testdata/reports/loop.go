@@ -1,0 +1,9 @@
+package main
+
+import "fmt"
+
+func main() {
+	fmt.Println("begun")
+	for i := 0; ; i++ {
+	}
+}
