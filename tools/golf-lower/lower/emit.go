@@ -111,6 +111,7 @@ func (p *prog) finish(parts ...*buffer) (*Output, error) {
 	} else {
 		file.DropQuestions()
 	}
+	file.Chains(p.fresh)
 	out := &Output{Files: p.userFiles(), Recovers: p.unwind, Clock: p.clock || p.timed}
 	places := p.newPlaces()
 	var sb strings.Builder

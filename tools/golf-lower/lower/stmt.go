@@ -363,59 +363,70 @@ func (f *fctx) multi(e ast.Expr, n int) ([]string, []types.Type) {
 }
 
 func (f *fctx) assignStmt(s *ast.AssignStmt) {
-	p := f.p
 	if s.Tok != token.ASSIGN && s.Tok != token.DEFINE {
-		op := map[token.Token]token.Token{token.ADD_ASSIGN: token.ADD, token.SUB_ASSIGN: token.SUB, token.MUL_ASSIGN: token.MUL,
-			token.QUO_ASSIGN: token.QUO, token.REM_ASSIGN: token.REM, token.AND_ASSIGN: token.AND, token.OR_ASSIGN: token.OR,
-			token.XOR_ASSIGN: token.XOR, token.SHL_ASSIGN: token.SHL, token.SHR_ASSIGN: token.SHR, token.AND_NOT_ASSIGN: token.AND_NOT}[s.Tok]
+		op := assignOps[s.Tok]
 		f.opAssign(s.Lhs[0], op, s.Rhs[0])
 		return
 	}
-	if len(s.Lhs) == len(s.Rhs) {
-		left := s.Lhs
-		if s.Tok == token.DEFINE {
-			left = nil
-		}
-		f.earlyIn(left, s.Rhs)
-	}
-	if len(s.Lhs) == 1 {
-		l := s.Lhs[0]
-		lt := f.lhsType(l, f.typeOf(s.Rhs[0]))
-		if v := f.newVar(s, l); v != nil {
-			f.declare(v, f.rval(s.Rhs[0], f.p.vtype(v)))
-			return
-		}
-		f.assignOne(l, func() string { return f.rval(s.Rhs[0], lt) })
+	if len(s.Rhs) < len(s.Lhs) {
+		f.assignParts(s)
 		return
 	}
-	if len(s.Rhs) == 1 {
-		// the calls on the left come first, then what is on the right, then what is left of the operands on the left
-		for _, l := range s.Lhs {
-			if f.hasCall(l) {
-				f.hoistOperands(l)
-			}
-		}
-		f.earlyOperands(s.Rhs[0])
-		parts, ts := f.multi(s.Rhs[0], len(s.Lhs))
-		f.at(s.Pos())
-		stores := make([]func(string), len(s.Lhs))
-		for i, l := range s.Lhs {
-			if !isBlank(l) && f.newVar(s, l) == nil {
-				f.hard = true
-				stores[i] = f.place(l)
-				f.hard = false
-			}
-		}
-		for i, l := range s.Lhs {
-			if stores[i] != nil {
-				stores[i](f.convert(parts[i], ts[i], f.typeOf(l)))
-			} else {
-				f.storePart(s, l, parts[i], ts[i])
-			}
-		}
+	left := s.Lhs
+	if s.Tok == token.DEFINE {
+		left = nil
+	}
+	f.earlyIn(left, s.Rhs)
+	if len(s.Lhs) > 1 {
+		f.assignAll(s)
 		return
 	}
-	// a, b = x, y: first the operands on the left, then all values, then the stores
+	l := s.Lhs[0]
+	lt := f.lhsType(l, f.typeOf(s.Rhs[0]))
+	if v := f.newVar(s, l); v != nil {
+		f.declare(v, f.rval(s.Rhs[0], f.p.vtype(v)))
+		return
+	}
+	f.assignOne(l, func() string { return f.rval(s.Rhs[0], lt) })
+}
+
+// assignOps are the operators of assignments with one.
+var assignOps = map[token.Token]token.Token{
+	token.ADD_ASSIGN: token.ADD, token.SUB_ASSIGN: token.SUB, token.MUL_ASSIGN: token.MUL, token.QUO_ASSIGN: token.QUO,
+	token.REM_ASSIGN: token.REM, token.AND_ASSIGN: token.AND, token.OR_ASSIGN: token.OR, token.XOR_ASSIGN: token.XOR,
+	token.SHL_ASSIGN: token.SHL, token.SHR_ASSIGN: token.SHR, token.AND_NOT_ASSIGN: token.AND_NOT,
+}
+
+// assignParts is a, b = x, where x has several values. The calls on the left come first, then what is on the right, then what
+// is left of the operands on the left.
+func (f *fctx) assignParts(s *ast.AssignStmt) {
+	for _, l := range s.Lhs {
+		if f.hasCall(l) {
+			f.hoistOperands(l)
+		}
+	}
+	f.earlyOperands(s.Rhs[0])
+	parts, ts := f.multi(s.Rhs[0], len(s.Lhs))
+	f.at(s.Pos())
+	stores := make([]func(string), len(s.Lhs))
+	for i, l := range s.Lhs {
+		if !isBlank(l) && f.newVar(s, l) == nil {
+			f.hard = true
+			stores[i] = f.place(l)
+			f.hard = false
+		}
+	}
+	for i, l := range s.Lhs {
+		if stores[i] != nil {
+			stores[i](f.convert(parts[i], ts[i], f.typeOf(l)))
+		} else {
+			f.storePart(s, l, parts[i], ts[i])
+		}
+	}
+}
+
+// assignAll is a, b = x, y: first the operands on the left, then all values, then the stores.
+func (f *fctx) assignAll(s *ast.AssignStmt) {
 	var stores []func(string)
 	for _, l := range s.Lhs {
 		if v := f.newVar(s, l); v != nil {
@@ -441,7 +452,6 @@ func (f *fctx) assignStmt(s *ast.AssignStmt) {
 	for i, st := range stores {
 		st(vals[i])
 	}
-	_ = p
 }
 
 func isBlank(e ast.Expr) bool {

@@ -160,7 +160,11 @@ func (p *printer) stmt(s ast.Stmt) {
 
 // ifStmt writes an if that may follow an else.
 func (p *printer) ifStmt(before string, pos token.Pos, s *ast.IfStmt) {
-	p.line(pos, before+"if "+header(s.Cond)+" {")
+	init := ""
+	if s.Init != nil {
+		init = simple(s.Init) + "; "
+	}
+	p.line(pos, before+"if "+init+header(s.Cond)+" {")
 	switch e := s.Else.(type) {
 	case nil:
 		p.block(s.Body)

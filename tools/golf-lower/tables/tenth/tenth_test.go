@@ -67,7 +67,7 @@ func most(t *testing.T, count map[string]int, percent int) {
 
 func TestATenthOfGoTests(t *testing.T) {
 	ready(t, "test")
-	most(t, verdicts(t, "golflower/tables/gotests"), 65)
+	most(t, verdicts(t, "golflower/tables/gotests"), 60)
 }
 
 func TestATenthOfTheExamples(t *testing.T) {
