@@ -1,11 +1,11 @@
 #!/usr/bin/env python3
 """Fails if a released program is not that of these sources.
 
-release/BUILD has the number of the release, which is that of VERSION and of the first heading of CHANGELOG.md. Each
-program of release/ has its lines there: its own sums, the sum over its sources, the toolchain and the day. The
-sources of a program are HANDLES, the lines of crates.txt and the .rt and .antt files of the crates that it depends
-on, without must-fail. If the gate has built the program here with the same toolchain, the two must be the same, byte
-for byte.
+release/BUILD has the number of the release, which is that of VERSION, of the first heading of CHANGELOG.md, and of the
+line of `golf-explore --version` in the code and in its definition. Each program of release/ has its lines there: its
+own sums, the sum over its sources, the toolchain and the day. The sources of a program are HANDLES, the lines of
+crates.txt and the .rt and .antt files of the crates that it depends on, without must-fail. If the gate has built the
+program here with the same toolchain, the two must be the same, byte for byte.
 """
 
 import datetime
@@ -19,6 +19,8 @@ from shared import CRATES, PROGRAMS, ROOT, Words, below, built, crates, ended, r
 
 BUILD = ROOT / "release" / "BUILD"
 RELEASE = "release"  # the word of BUILD before the number
+# The files that have the line of the version, below crates/golf_explore_command.
+VERSIONED = ("src/texts.rt", "specs/Texts.antt")
 FOLDERS = ("src", "specs", "proofs")
 
 
@@ -72,6 +74,10 @@ def faults_of_number(says):
     """Returns what is wrong with the number of the release."""
     headings = re.findall(r"^## (.*)$", text_of(ROOT / "CHANGELOG.md"), re.M)
     told = {"release/BUILD": says.get(RELEASE, {}).get("number"), "CHANGELOG.md": (headings or [None])[0]}
+    for name in VERSIONED:
+        path = CRATES / "golf_explore_command" / name
+        lines = re.findall(r'"golf-explore ([0-9][^"\\]*)\\n"', text_of(path))
+        told[str(path.relative_to(ROOT))] = lines[0] if len(lines) == 1 else None
     return [f"{file} has the number {it}, and VERSION {number()}" for file, it in told.items() if it != number()]
 
 

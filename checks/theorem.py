@@ -1,24 +1,29 @@
 #!/usr/bin/env python3
-"""Fails if docs/THEOREM.md does not agree with the clauses of the programs and the definitions that they reach.
+"""Fails if docs/THEOREM.md or docs/REVIEW.md does not agree with the clauses and the definitions that they reach.
 
 It begins with the definitions that the two clauses name (ROOTS) and goes on along the `use` lines: a definition reaches
 each definition that its text names, of the same file or of a `use` line, also by a short name of a module. These things
 are checked:
 
-- The list of files between the two marks is that of the files that have a definition which is reached.
-- Each code block of the page stands in src/top.rt or specs/ of a crate of TOPS, line by line.
-- Each file that the page names is there, and is reached if it is one of specs/.
+- The list of files between the two marks of THEOREM is that of the files that have a definition which is reached.
+- Each code block of a page stands in src/top.rt or specs/ of a crate of TOPS, line by line.
+- Each file that a page names is there. If THEOREM names one of specs/, or REVIEW one to read, it is reached.
 - Each word that stands with a file in parentheses is in that file.
-- Each wrong body of the table is there.
+- Each wrong body that stands behind its crate and a colon is there.
+- The numbers of lines in the reading list of REVIEW are those of the files, and their sum.
+- The minutes behind a wrong body there are those of its crate and the crates below it in docs/GATE.md.
 """
 
 import re
 import sys
+import textwrap
 from collections import defaultdict
 
-from shared import CRATES, ROOT, Words, crates, ended, text_of
+from prove import costs
+from shared import CRATES, ROOT, Words, below, crates, ended, text_of
 
 PAGE = ROOT / "docs" / "THEOREM.md"
+REVIEW = ROOT / "docs" / "REVIEW.md"
 MEANS = CRATES / "golf_command" / "specs" / "Means.antt"
 ROOTS = [
     (MEANS, "Tells"),
@@ -35,7 +40,12 @@ LAYERS = ["program", "definitions", "ground", "laws", "collector", "machine", "c
 USE = re.compile(r"^(?:pub )?use Rattle\.(\w+(?:\.\w+)*)(?:\.\{([^}]*)\})?(?: as (\w+))?", re.M)
 WORD = re.compile(r"[^\s(){}\[\],;.`]+")
 HEAD = re.compile(r"(?:(?:abbrev|unfoldable|opaque|private|pub) )*(?:(?:record|data|module|abbrev) )?(?:pub )?(\S+)")
-NAMED = re.compile(r"`(golf_\w+/[\w/]+\.(?:rt|antt))`( \(([^()]*)\))?")
+NAMED = re.compile(r"`(golf_\w+/[\w/]+\.(?:rt|antt))`(\s+\(([^()]*)\))?")
+# A row of the reading list: the file with its words, and how many lines it has.
+TO_READ = re.compile(r"^\| `(golf_\w+/specs/[\w/]+\.antt)` \([^()]*\) \| ([\d,]+) \|", re.M)
+SUM = re.compile(r"^\| all \| ([\d,]+) \|", re.M)
+# The end of a row of claims: the crate of its wrong body, and the minutes of processor.
+DEAR = re.compile(r"(`(golf_\w+)`: `\w+` \| `[\w-]+/` \| )(\d+)( \|)$", re.M)
 
 
 def file_of(module):
@@ -106,19 +116,19 @@ def reached():
 
 
 def listed(lines, page):
-    """Returns the list, a row a crate: its files, first those that the page names, in bold."""
+    """Returns the list, a line a crate: its files, first those that the page names, in bold."""
     of = {name: crate.layer.split(":")[0] for name, crate in crates().items()}
     named = set(re.findall(r"`(golf_\w+/specs/[\w/]+\.antt)`", page))
     rows = defaultdict(list)
     for file in {file for file, _ in lines}:
         place = file.relative_to(CRATES)
         rows[place.parts[0]].append((str(place) not in named, "/".join(place.with_suffix("").parts[2:])))
-    text, last = ["| layer | crate | files of `specs/` |", "|---|---|---|"], ""
+    text, last = [], ""
     for crate in sorted(rows, key=lambda it: ((LAYERS + [of[it]]).index(of[it]), list(of).index(it))):
-        files = ", ".join(f"`{name}`" if other else f"**`{name}`**" for other, name in sorted(rows[crate]))
-        layer = "" if of[crate] == last else of[crate]
+        text += [] if of[crate] == last else [*[""] * bool(text), f"{of[crate][0].upper()}{of[crate][1:]}:", ""]
         last = of[crate]
-        text.append(f"| {layer} | `{crate}` | {files} |")
+        files = ", ".join(f"`{name}`" if other else f"**`{name}`**" for other, name in sorted(rows[crate]))
+        text += textwrap.wrap(f"- `{crate}`: {files}", 120, subsequent_indent="  ", break_on_hyphens=False)
     return text
 
 
@@ -136,8 +146,8 @@ def faults_of_blocks(page):
     return [f"not in {' or '.join(TOPS)}: {line.strip()}" for line in lines if single_blanks(line) not in {"", *stand}]
 
 
-def faults_of_files(page, files):
-    """Returns what is wrong with the files that the page names, and with the words beside them."""
+def faults_of_files(page, files, to_read):
+    """Returns what is wrong with the files that the page names, with the words beside them, and with those to read."""
     faults = []
     for name, _, words in NAMED.findall(page):
         file = CRATES / name
@@ -146,35 +156,68 @@ def faults_of_files(page, files):
             continue
         text = set(re.findall(r"[\w-]+", text_of(file)))
         faults += [f"no word {word} in {name}" for word in re.findall(r"`([\w-]+)`", words) if word not in text]
-        if "/specs/" in name and file not in files:
+        if name in to_read and file not in files:
             faults.append(f"the clause does not reach {name}")
     return faults
 
 
 def faults_of_wrong_bodies(page):
-    """Returns the wrong bodies of the table that are not there."""
+    """Returns the wrong bodies that are not there: `golf_x`: `an_edit`, `another`. A file begins with a capital."""
     faults = []
-    for crate, edits in re.findall(r"^\| \d \| `(\w+)`: ([^|]*)\|", page, re.M):
+    for crate, edits in re.findall(r"`(golf_\w+)`:((?:,?\s+`[a-z]\w*`(?:\s+\([^()]*\))?)+)", page):
         folders = [CRATES / crate / "must-fail", *(ROOT / "wrong" / of / crate for of in ("code", "definitions"))]
-        faults += [f"no wrong body {edit} of {crate}" for edit in re.findall(r"`(\w+)`", edits)
+        names = re.findall(r"`(\w+)`", re.sub(r"\([^()]*\)", "", edits))
+        faults += [f"no wrong body {edit} of {crate}" for edit in names
                    if not any((folder / f"{edit}.edit").is_file() for folder in folders)]
     return faults
 
 
+def faults_of_lines(page):
+    """Returns what is wrong with the numbers of lines in the reading list."""
+    told = {name: int(lines.replace(",", "")) for name, lines in TO_READ.findall(page)}
+    have = {name: len(text_of(CRATES / name).splitlines()) for name in told if (CRATES / name).is_file()}
+    faults = [f"{name} has {lines} lines and not {told[name]}" for name, lines in have.items() if lines != told[name]]
+    sums = [int(lines.replace(",", "")) for lines in SUM.findall(page)]
+    return faults + ([] if sums == [sum(have.values())] else [f"all files to read have {sum(have.values())} lines"])
+
+
+def with_minutes(page):
+    """Returns the page with the minutes of processor that docs/GATE.md has for the crates of its wrong bodies."""
+    known = crates()
+
+    def renewed(row):
+        minutes, _ = costs({row[2], *below(row[2], known)}, known)
+        # One decimal first: a sum over a set may differ in its last digit from run to run.
+        return f"{row[1]}{int(round(minutes, 1) + 0.5)}{row[4]}"
+
+    return DEAR.sub(renewed, page)
+
+
 def main():
     options = Words(__doc__)
-    options.add_argument("--write", action="store_true", help="write the list of files anew")
+    options.add_argument("--write", action="store_true", help="write the list of files and the minutes anew")
     write = options.parse_args().write
-    lines, page = reached(), text_of(PAGE)
+    lines, page, review = reached(), text_of(PAGE), text_of(REVIEW)
+    if write:
+        review = with_minutes(review)
+        REVIEW.write_text(review, encoding="utf-8")
     files, count = {file for file, _ in lines}, sum(lines.values())
     begin, end = (page.find(mark) for mark in MARKS)
     if begin < 0 or end < begin:
         return ended("theorem", [f"no list in {PAGE.relative_to(ROOT)}"])
-    told = "\n".join([MARKS[0], "", *listed(lines, page[:begin] + page[end:]), "", ""])
+    rest = page[:begin] + page[end:]
+    told = f"{len(files)} files, and {count:,} of their lines, without blank lines and comments."
+    told = "\n".join([MARKS[0], "", told, "", *listed(lines, rest + review), "", ""])
     if write:
         page = page[:begin] + told + page[end:]
         PAGE.write_text(page, encoding="utf-8")
-    faults = faults_of_blocks(page) + faults_of_files(page, files) + faults_of_wrong_bodies(page)
+    named = {name for name, _, _ in NAMED.findall(rest) if "/specs/" in name}
+    faults = faults_of_blocks(page) + faults_of_files(page, files, named) + faults_of_wrong_bodies(page)
+    to_read = {name for name, _ in TO_READ.findall(review)}
+    bad = faults_of_files(review, files, to_read) + faults_of_wrong_bodies(review) + faults_of_lines(review)
+    faults = [f"THEOREM: {fault}" for fault in faults] + [f"REVIEW: {fault}" for fault in bad]
+    if with_minutes(review) != review:
+        faults.append("the minutes of REVIEW are stale: python3 checks/theorem.py --write")
     if told not in page:
         faults.append("the list of files is stale: python3 checks/theorem.py --write")
     return ended(f"{len(files)} files and {count} lines are reached", faults)

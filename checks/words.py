@@ -1,10 +1,10 @@
 #!/usr/bin/env python3
 """Counts the words of README.md, CONTRIBUTING.md, docs/*.md and the README of each folder, and lists long sentences.
 
-A word is what is between blanks and has a letter or a digit, so the lines of tables are none. A sentence or a cell may
-have 25 words. Each one over 25 is listed. The status is 1 if one has over 40, or if a page has one of the phrases of
-PHRASES, each of which has a plain word in its place. Code does not count there: neither blocks (indented by four or
-fenced) nor quoted code nor HTML comments.
+A template `NAME.in.md` does not count beside its page. A word is what is between blanks and has a letter or a digit, so
+the lines of tables are none. A sentence or a cell may have 25 words. Each one over 25 is listed. The status is 1 if one
+has over 40, or if a page has one of the phrases of PHRASES, each of which has a plain word in its place. Code does not
+count there: neither blocks (indented by four or fenced) nor quoted code nor HTML comments.
 """
 
 import re
@@ -36,7 +36,8 @@ END = re.compile(rf"(?<=[.!?])[\"')]*\s+(?=[A-Z0-9(\"'*{CODE}])")
 def pages():
     """Returns the pages, in the order in which they are told."""
     named = [ROOT / f"{name}.md" for name in TOP] + [ROOT / folder / "README.md" for folder in FOLDERS]
-    return [page for page in named if page.is_file()] + sorted((ROOT / "docs").glob("*.md"))
+    named += (page for page in sorted((ROOT / "docs").glob("*.md")) if not page.name.endswith(".in.md"))
+    return [page for page in named if page.is_file()]
 
 
 class Blocks:

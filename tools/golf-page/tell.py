@@ -235,4 +235,5 @@ def in_html(sentence):
 def rules_of(text):
     """Returns the sentences of the rules of types by number, from docs/LANGUAGE.md."""
     part = text.partition("## The rules of types")[2].partition("\n## ")[0]
-    return {int(number): sentence for number, sentence in re.findall(r"(?m)^\| (\d+) \| (.+?) \| ", part)}
+    rules = re.findall(r"(?ms)^(\d+)\. (.+?)\s+Not:", part)
+    return {int(number): " ".join(sentence.split()) for number, sentence in rules}

@@ -37,7 +37,7 @@ fn functions(
     let gives = gives.as_slice();
     let mut functions = List::new(alloc);
     // Keeps the place of function 0, whose code is whole only when the walk ends.
-    functions.push(function(alloc, gives, 0, 0, line, &[])?)?;
+    functions.push(function(alloc, gives, 0, 0, line, &mut List::new(alloc))?)?;
     let mut walk = start(alloc, tables, gives, file, facts)?;
     walk_decls(&mut walk, decls, &mut functions)?;
     let Walk {
@@ -47,7 +47,7 @@ fn functions(
     } = walk;
     op(&mut initials, line, Instr::Call(main_number(file)?, 0))?;
     op(&mut initials, line, Instr::Return)?;
-    functions.set(0, function(alloc, gives, 0, 0, line, initials.as_slice())?);
+    functions.set(0, function(alloc, gives, 0, 0, line, &mut initials)?);
     made_functions(alloc, gives, writer.draft.made.as_slice(), &mut functions)?;
     Ok(functions)
 }

@@ -87,13 +87,6 @@ pub fn own_function(walk: &mut Walk, func: &Func) -> Result<Function, Memory>
     body(&mut walk.writer, func.body.as_slice())?;
     next_return(&mut walk.writer.draft.emitted, func.line, walk.signatures)?;
     walk.signatures = past(walk.signatures);
-    let Draft { alloc, emitted, .. } = &walk.writer.draft;
-    function(
-        *alloc,
-        walk.gives,
-        arguments,
-        slots,
-        func.line,
-        emitted.as_slice(),
-    )
+    let Draft { alloc, emitted, .. } = &mut walk.writer.draft;
+    function(*alloc, walk.gives, arguments, slots, func.line, emitted)
 }

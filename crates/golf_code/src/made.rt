@@ -49,7 +49,7 @@ fn made_function(alloc: Global, gives: &[bool], making: &Making) -> Result<Funct
     };
     let mut emitted = List::new(alloc);
     made_body(&mut emitted, making, count)?;
-    function(alloc, gives, count, count, making.line, emitted.as_slice())
+    function(alloc, gives, count, count, making.line, &mut emitted)
 }
 
 /// Adds the functions that are made to a list of functions.

@@ -1,2 +1,3 @@
 mod Looks
 mod Resolved
+mod Taken

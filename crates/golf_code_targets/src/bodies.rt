@@ -1,20 +1,22 @@
 //! The second walk: the lines of a body, with the targets put in.
 //!
 //! The first walk has the target of each block. This walk meets the blocks in the same order, and
-//! keeps the targets of the blocks around.
+//! keeps the targets of the blocks around. It takes the parts out of their list, so that no
+//! instruction is copied.
 
-ghost use Rattle.std.specs.Prelude.{◌≡◌, map, IfOk, OnOk};
+ghost use Rattle.std.specs.Prelude.{◌≡◌, ◌<◌, Some, length, map, slice_get, slice_set, IfOk, OnOk};
 ghost use Rattle.std.specs.Option.{option_map};
 ghost use Rattle.golf_code_layout.specs.Piece.{target as target_of, case_at};
+ghost use Rattle.golf_code_layout.specs.declared.emitted.Emitted.TheVariants as emit;
 ghost use Rattle.golf_code_targets.specs.Walks.{rest, with_line, entered, line_step, line_steps};
 ghost use Rattle.golf_code_targets.specs.Walks.{no_lines as no_lines_of};
 
-use crate::copies::copy_instr;
 use crate::nesting::Nesting;
 use golf_base::{List, Memory};
 use golf_code_layout::Emitted;
 use golf_data::{CodeLine, Instr, SelectCase};
 use std::alloc::Global;
+use std::mem;
 
 /// The state of the second walk: the lines of a body so far.
 #[derive(Drop)]
@@ -107,24 +109,30 @@ fn leave(body: &mut Body)
     body.around.pop();
 }
 
-fn step(alloc: Global, found: &[u32], body: &mut Body, part: &Emitted) -> Result<(), Memory>
-    ensures { OnOk result (body.new ≡ line_step found.now part.now body.old) }
+// Takes the part at a place out of the list. An end of a block stays there.
+fn take_part(emitted: &mut List<Emitted>, at: usize) -> Emitted
+    requires { at < length emitted.old }
+    ensures part { slice_get emitted.old at ≡ Some result }
+    ensures rest { emitted.new ≡ slice_set emitted.old at emit.End }
+{
+    mem::replace(emitted.item_mut(at), Emitted::End)
+}
+
+fn step(alloc: Global, found: &[u32], body: &mut Body, part: Emitted) -> Result<(), Memory>
+    ensures { OnOk result (body.new ≡ line_step found.now part body.old) }
 {
     match part {
-        Emitted::Op(instr, line) => {
-            let copy = copy_instr(alloc, instr)?;
-            add_line(body, copy, *line)
-        }
+        Emitted::Op(instr, line) => add_line(body, instr, line),
         Emitted::Exit(line, number) => {
-            let place = target(&body.around, *number);
-            add_line(body, Instr::Jump(place), *line)
+            let place = target(&body.around, number);
+            add_line(body, Instr::Jump(place), line)
         }
         Emitted::Unless(line, number) => {
-            let place = target(&body.around, *number);
-            add_line(body, Instr::JumpIfNot(place), *line)
+            let place = target(&body.around, number);
+            add_line(body, Instr::JumpIfNot(place), line)
         }
         Emitted::Choose(line, cases, otherwise) => {
-            add_choice(alloc, body, *line, cases.as_slice(), *otherwise)
+            add_choice(alloc, body, line, cases.as_slice(), otherwise)
         }
         Emitted::Block => enter(found, body),
         Emitted::Again => enter(found, body),
@@ -135,12 +143,17 @@ fn step(alloc: Global, found: &[u32], body: &mut Body, part: &Emitted) -> Result
     }
 }
 
-/// Returns the lines of a body whose blocks have these targets.
-pub fn lines_of(alloc: Global, found: &[u32], emitted: &[Emitted]) -> Result<List<CodeLine>, Memory>
-    ensures { IfOk result (λ lines. lines ≡ (line_steps found.now emitted.now no_lines_of).lines) }
+/// Returns the lines of a body whose blocks have these targets. It takes the parts out of the list.
+pub fn lines_of(
+    alloc: Global,
+    found: &[u32],
+    emitted: &mut List<Emitted>,
+) -> Result<List<CodeLine>, Memory>
+    ensures { IfOk result (λ lines. lines ≡ (line_steps found.now emitted.old no_lines_of).lines) }
 {
     let mut body = no_lines(alloc);
-    for part in emitted {
+    for at in 0..emitted.len() {
+        let part = take_part(emitted, at);
         step(alloc, found, &mut body, part)?;
     }
     let Body { lines, .. } = body;

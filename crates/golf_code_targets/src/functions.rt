@@ -1,6 +1,6 @@
 //! From parts to functions: all walks, and the masks of live slots.
 //!
-//! The parts stay as they are, so that the three walks can go over them.
+//! The walk that makes the lines comes last, since it takes the parts out of their list.
 
 ghost use Rattle.std.specs.Prelude.{◌≡◌, IfOk};
 ghost use Rattle.golf_code_targets.specs.Walks.{lines_of as lines_of_of};
@@ -15,14 +15,15 @@ use golf_data::{CodeLine, Function};
 use golf_live::live;
 use std::alloc::Global;
 
-fn body_of(alloc: Global, emitted: &[Emitted]) -> Result<List<CodeLine>, Memory>
-    ensures { IfOk result (λ lines. lines ≡ lines_of_of emitted.now) }
+fn body_of(alloc: Global, emitted: &mut List<Emitted>) -> Result<List<CodeLine>, Memory>
+    ensures { IfOk result (λ lines. lines ≡ lines_of_of emitted.old) }
 {
-    let found = targets_of(alloc, emitted)?;
+    let found = targets_of(alloc, emitted.as_slice())?;
     lines_of(alloc, found.as_slice(), emitted)
 }
 
-/// Returns the function with these parts as its code. `gives` says which functions give a value.
+/// Returns the function with these parts as its code, and takes them out of their list. What is left
+/// in the list means nothing. `gives` says which functions give a value.
 ///
 /// # Errors
 ///
@@ -34,12 +35,12 @@ pub fn function(
     params: u32,
     slots: u32,
     line: u32,
-    emitted: &[Emitted],
+    emitted: &mut List<Emitted>,
 ) -> Result<Function, Memory>
-    ensures { IfOk result (λ f. IsFunction gives.now params slots line emitted.now f) }
+    ensures { IfOk result (λ f. IsFunction gives.now params slots line emitted.old f) }
 {
+    let depth = most_of(alloc, gives, emitted.as_slice())?;
     let body = body_of(alloc, emitted)?;
-    let depth = most_of(alloc, gives, emitted)?;
     let live = live(alloc, slots, body.as_slice())?;
     Ok(Function {
         params,

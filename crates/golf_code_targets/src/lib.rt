@@ -5,7 +5,6 @@
 #![tactic(auto)]
 
 mod bodies;
-mod copies;
 mod functions;
 mod heights;
 mod nesting;

@@ -25,6 +25,7 @@ use Rattle.golf_command.specs.Promises.WordsMean.{Misused, Refused, Goes}
 use Rattle.golf_command.specs.Means.{View, seen, FileMeans, GoesWhole, Says, IsWholeEnd, LineMeans, UsageMeans}
 use Rattle.golf_command.specs.Means.{SinkCauses, SourceCauses, Causes, IsQuiet, GotMeaning, FileTells, LineTells}
 use Rattle.golf_command.specs.Means.{IsUntouched, Tells}
+use Rattle.golf_command.specs.Served.{AsksThreads}
 use Rattle.golf_command.proofs.Sinking.{some-rose}
 use Rattle.golf_command.proofs.Filing.{refused-tells, memory-tells}
 
@@ -303,3 +304,11 @@ pub generated-line : (n : ℕ) (left : Option (List ℕ)) (rf : ℕ) (r : Status
     → LineTells (CommandLine.Generate n) r (seen left rf a) (seen left rf b)
 generated-line n left rf r a b h = file-tells (CommandLine.Generate n) (generated_file n) refl refl
     (λ reads ran. absurd reads) h
+
+-- a run by threads tells all, if the call before it left it and changed nothing
+pub tells-threads : (words : List (List ℕ)) (n : ℕ) (r : Status) (before mid after : View)
+    → AsksThreads words n before mid → LineTells (CommandLine.Threads n) r mid after → Tells words r before after
+tells-threads words n r before mid after asks h =
+    tells-reading words before.left after.left before.read_faults after.read_faults before.sinks after.sinks
+    (CommandLine.Threads n) r tt asks.line
+    (subst (λ (v : View). LineTells (CommandLine.Threads n) r v after) asks.same h)

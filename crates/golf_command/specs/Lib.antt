@@ -3,6 +3,7 @@ pub mod GeneratedRuns
 pub mod Ways
 pub mod Promises
 pub mod Means
+pub mod Served
 pub mod Ends
 pub mod Written
 pub mod Loads

@@ -8,6 +8,7 @@ ghost use Rattle.golf_run.specs.HasRun.{sinks};
 ghost use Rattle.golf_command_words.specs.Words.{line_of, IsWithin};
 ghost use Rattle.golf_command.specs.Asked.{threads_asked};
 ghost use Rattle.golf_command.specs.Means.{words_of, seen, LineTells, Tells};
+ghost use Rattle.golf_command.specs.Served.{HasServed};
 
 use crate::ends::end;
 use crate::generated::run_generated;
@@ -60,8 +61,8 @@ fn threads_of(line: &Result<Option<CommandLine>, Memory>) -> Option<u32>
     }
 }
 
-// Serves all command lines except for `run --threads`. It waits for no lock, so it returns.
-fn serve<R: AllocGlobal + Threads + Sync, S: Source, O: Sink, E: Sink, G: Gate + Sync>(
+// Serves a command line that is not `run --threads`.
+fn serve_line<R: AllocGlobal + Threads + Sync, S: Source, O: Sink, E: Sink, G: Gate + Sync>(
     rt: &R,
     line: Result<Option<CommandLine>, Memory>,
     source: &mut S,
@@ -87,12 +88,43 @@ fn serve<R: AllocGlobal + Threads + Sync, S: Source, O: Sink, E: Sink, G: Gate +
     }
 }
 
+/// What became of the words, without waiting for a lock.
+#[derive(Clone, Copy, Debug, PartialEq, Eq)]
+pub enum Served {
+    /// All is done that the words ask for, and this is the status.
+    Done(Status),
+    /// The words ask for a run by this many threads. Nothing was read or written.
+    AsksThreads(u32),
+}
+
+/// Does all that the program does, except for `run --threads`. `rt` lacks the right to wait, so the call returns.
+///
+/// Its clause is that of `golf`. If the words ask for threads, it says only how many, and that nothing has changed.
+pub fn serve<R: AllocGlobal + Threads + Sync, S: Source, O: Sink, E: Sink, G: Gate + Sync>(
+    rt: &R,
+    words: &[String],
+    source: &mut S,
+    out: &mut O,
+    err: &mut E,
+    gate: &G,
+) -> Served
+    ensures { HasServed (words_of words.now) result
+        (seen (S.left source.old) (S.faults source.old) (sinks (O.written out.old) (O.faults out.old) (E.written err.old) (E.faults err.old)))
+        (seen (S.left source.new) (S.faults source.new) (sinks (O.written out.new) (O.faults out.new) (E.written err.new) (E.faults err.new))) }
+{
+    let line = parse(rt.alloc(), words);
+    match threads_of(&line) {
+        Some(threads) => Served::AsksThreads(threads),
+        None => Served::Done(serve_line(rt, line, source, out, err, gate)),
+    }
+}
+
 /// Does all that the program does. It reads the words, reads the file from `source`, and judges it. Then it
 /// runs the file, or compares its code with its source. The file's output goes to `out`, and everything
 /// else goes to `err`.
 ///
-/// With `--threads` it may wait for the lock of its program. For every other command line it returns. The
-/// body of `golf` shows this. No clause can, since `rt` has the bound `Wait`.
+/// With `--threads` it may wait for the lock of its program. For every other command line it does what `serve`
+/// does, and no more: the body shows this, and no clause says it, since `rt` has the bound `Wait`.
 ///
 /// The clause is about the source and the sinks before the call and after it. It says:
 ///
@@ -111,9 +143,8 @@ pub fn golf<R: AllocGlobal + Threads + Wait + Sync, S: Source, O: Sink, E: Sink,
         (seen (S.left source.old) (S.faults source.old) (sinks (O.written out.old) (O.faults out.old) (E.written err.old) (E.faults err.old)))
         (seen (S.left source.new) (S.faults source.new) (sinks (O.written out.new) (O.faults out.new) (E.written err.new) (E.faults err.new))) }
 {
-    let line = parse(rt.alloc(), words);
-    match threads_of(&line) {
-        Some(threads) => serve_threads(rt, threads, source, out, err, gate),
-        None => serve(rt, line, source, out, err, gate),
+    match serve(rt, words, source, out, err, gate) {
+        Served::Done(status) => status,
+        Served::AsksThreads(threads) => serve_threads(rt, threads, source, out, err, gate),
     }
 }

@@ -5,7 +5,7 @@ use Rattle.std.proofs.Common.{◌≡◌, ℕ, zero, suc, Bool, true, false, List
 use Rattle.std.proofs.Common.{inl, inr, refl, sym, ap, ◌∙◌, arith}
 use Rattle.golf_base.specs.declared.ids.GoroutineId.{GoroutineId}
 use Rattle.golf_theory.specs.Membership.{In}
-use Rattle.golf_heap.specs.Objects.{left_out}
+use Rattle.golf_theory.specs.Flags.{left_out}
 use Rattle.golf_model.specs.Sleepers.{Sleeper}
 use Rattle.golf_model.specs.State.{State}
 use Rattle.golf_model.specs.LiveSet.{dead}

@@ -2,8 +2,8 @@
 -- For: `explorer`, `serve`, src/top.rt; `CallTells`, specs/Means.antt
 -- By: cases of how the reading ends; no induction
 use Rattle.std.proofs.Common.{◌≡◌, ℕ, ◌≤◌, ◌⊎◌, inl, inr, Bool, true, false, List, [], ◌∷◌, ◌++◌, Some, None, sym}
-use Rattle.std.proofs.Common.{subst, arith}
-use Rattle.std.specs.Prelude.{Option}
+use Rattle.std.proofs.Common.{if◌then◌else◌, subst, arith, refl}
+use Rattle.std.specs.Prelude.{Option, option_map}
 use Rattle.std.specs.Io.KnownBytes.{Keeps}
 use Rattle.std.proofs.KnownBytes.{Keeps-refl}
 use Rattle.golf_base.specs.Causes.{Rose}
@@ -24,16 +24,17 @@ use Rattle.golf_command.specs.Ways.{history_options}
 use Rattle.golf_command.specs.Means.{seen, SourceCauses}
 use Rattle.golf_command.specs.Loads.{SourceFailed, FileRefused, MemoryRanOut, HasFile}
 use Rattle.golf_explore_words.specs.declared.line.ExploreLine.{ExploreLine}
-use Rattle.golf_explore_words.specs.Words.{line_of}
+use Rattle.golf_explore_words.specs.declared.line.Request.{Request}
+use Rattle.golf_explore_words.specs.Words.{asks_version, line_of, request_of}
 use Rattle.golf_explore_words.specs.declared.line.Question.{Question}
 use Rattle.golf_explore.specs.declared.full_search.Explored.{Explored}
 use Rattle.golf_explore.specs.declared.preemption_search.SearchResult.{SearchResult}
 use Rattle.golf_explore_command.specs.declared.search_answers.Searched.{Searched}
-use Rattle.golf_explore_command.specs.Texts.{usage_text}
+use Rattle.golf_explore_command.specs.Texts.{usage_text, version_text}
 use Rattle.golf_explore_command.specs.Answers.{status_for, status_searched, IsAnswer}
 use Rattle.golf_explore_command.specs.Means.{CodeComes, Wrote, CodeTells, CallTells}
-use Rattle.golf_explore_command.specs.Means.ComesOf.{Misused, Unread, Refused, Served, NoMemory}
-use Rattle.golf_explore_command.proofs.Writing.{nothing-written, still-steady, ends}
+use Rattle.golf_explore_command.specs.Means.ComesOf.{Misused, Versioned, Unread, Refused, Served, NoMemory}
+use Rattle.golf_explore_command.proofs.Writing.{nothing-written, still-steady, ends, out-ends}
 
 -- a status other than that of a source that failed
 abbrev IsNoReadFault : Status → Type 0
@@ -65,6 +66,34 @@ read-causes r text err err' ef ef' before now rose later (inl e) =
 read-causes r text err err' ef ef' before now rose later (inr e) =
     subst (λ x. SourceCauses x before now) (sym e.0) later
 
+-- words for a file do not ask for the version
+serves : (words : List (List ℕ)) (line : ExploreLine) → request_of words ≡ Some (Request.Serve line)
+    → asks_version words ≡ false
+serves words line is = go (asks_version words) (line_of words) is
+  where
+    go : (asks : Bool) (found : Option ExploreLine)
+        → (if asks then Some Request.Version else option_map (λ l. Request.Serve l) found) ≡ Some (Request.Serve line)
+        → asks ≡ false
+    go true found e = absurd (cc)
+    go false found e = refl
+
+-- ---- the version
+
+pub versioned : (words : List (List ℕ)) (left left' : Option (List ℕ)) (rf rf' : ℕ) (out out' : Option (List ℕ))
+    (of of' : ℕ) (err : Option (List ℕ)) (ef : ℕ) (r : Status) (shows : Bool)
+    → request_of words ≡ Some Request.Version → left' ≡ left → rf' ≡ rf
+    → EndsWith r s.Clean version_text out out' of of'
+    → CallTells words shows r (seen left rf (sinks out of err ef)) (seen left' rf' (sinks out' of' err ef))
+versioned words left left' rf rf' out out' of of' err ef r shows is same quiet e =
+    let before = sinks out of err ef in
+    record {
+      status = s.Clean;
+      writes = Write.ToOut version_text ∷ [];
+      comes = Versioned is (subst (Keeps left) (sym same) (Keeps-refl left));
+      wrote = out-ends [] before before (nothing-written before) (still-steady before) out' of' s.Clean r version_text e;
+      source = still-causes r rf rf' (line-status r s.Clean version_text out out' of of' tt e) quiet;
+    }
+
 module _ (words : List (List ℕ)) (left left' : Option (List ℕ)) (rf rf' : ℕ) (out : Option (List ℕ)) (of : ℕ)
     (err err' : Option (List ℕ)) (ef ef' : ℕ) (r : Status) (shows : Bool) where
   abbrev before : Sinks
@@ -81,7 +110,7 @@ module _ (words : List (List ℕ)) (left left' : Option (List ℕ)) (rf rf' : �
 
   -- ---- the words are no line
 
-  pub misused : line_of words ≡ None → left' ≡ left → rf' ≡ rf → EndsWith r s.Usage usage_text err err' ef ef' → Told
+  pub misused : request_of words ≡ None → left' ≡ left → rf' ≡ rf → EndsWith r s.Usage usage_text err err' ef ef' → Told
   misused none same quiet e = record {
     status = s.Usage;
     writes = Write.ToErr usage_text ∷ [];
@@ -90,18 +119,18 @@ module _ (words : List (List ℕ)) (left left' : Option (List ℕ)) (rf rf' : �
     source = still-causes r rf rf' (line-status r s.Usage usage_text err err' ef ef' tt e) quiet;
   }
 
-  pub no-memory : rf' ≡ rf → EndsWith r s.Memory no_memory_text err err' ef ef' → Told
-  no-memory quiet e = record {
+  pub no-memory : asks_version words ≡ false → rf' ≡ rf → EndsWith r s.Memory no_memory_text err err' ef ef' → Told
+  no-memory serves-file quiet e = record {
     status = s.Memory;
     writes = Write.ToErr no_memory_text ∷ [];
-    comes = NoMemory;
+    comes = NoMemory serves-file;
     wrote = ends-alone s.Memory no_memory_text e;
     source = still-causes r rf rf' (line-status r s.Memory no_memory_text err err' ef ef' tt e) quiet;
   }
 
   -- ---- there is no file
 
-  module _ (line : ExploreLine) (is : line_of words ≡ Some line) where
+  module _ (line : ExploreLine) (is : request_of words ≡ Some (Request.Serve line)) where
     unread : SourceFailed r rf rf' err err' ef ef' → Told
     unread h = record {
       status = s.ReadFault;
@@ -124,7 +153,7 @@ module _ (words : List (List ℕ)) (left left' : Option (List ℕ)) (rf rf' : �
         ⊎ MemoryRanOut r rf rf' err err' ef ef') → Told
     fails (inl h) = unread h
     fails (inr (inl h)) = refused h
-    fails (inr (inr h)) = no-memory h.quiet h.says
+    fails (inr (inr h)) = no-memory (serves words line is) h.quiet h.says
 
 -- ---- there is one
 
@@ -181,7 +210,7 @@ served-status code line shows r old new h = wrote h.status h.writes (comes line 
 
 pub served : {file : File} {left left' : Option (List ℕ)} {rf rf' : ℕ} {out err mid : Option (List ℕ)} {of ef mf : ℕ}
     {b : Sinks} {r : Status} (words : List (List ℕ)) (line : ExploreLine) (shows : Bool) (code : Code)
-    → line_of words ≡ Some line
+    → request_of words ≡ Some (Request.Serve line)
     → (l : HasFile file left left' rf rf') → code ≡ CodeOf file → mid ≡ err → mf ≡ ef
     → CodeTells code line shows r (sinks out of mid mf) b
     → CallTells words shows r (seen left rf (sinks out of err ef)) (seen left' rf' b)

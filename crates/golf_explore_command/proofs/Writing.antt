@@ -109,3 +109,14 @@ module _ (done : List Write) (old now : Sinks) (got : GotWrites done old now) (s
       failed = (subst (λ n. Rose n of) steady.out rose, steady.err);
     },
   )
+
+  -- the line of a request that reads no file
+  pub out-ends : (out : Option (List ℕ)) (of : ℕ) (status r : Status) (text : List ℕ)
+      → EndsWith r status text now.out out now.out_faults of
+      → Wrote status (more-out text) r old (sinks out of now.err now.err_faults)
+  out-ends out of status r text (inl e) =
+      subst (λ x. Wrote status (more-out text) x old (sinks out of now.err now.err_faults)) (sym e.0)
+      (out-whole out of status text e.1 e.2)
+  out-ends out of status r text (inr e) =
+      subst (λ x. Wrote status (more-out text) x old (sinks out of now.err now.err_faults)) (sym e.0)
+      (out-cut out of status text e.1 e.2)

@@ -1,5 +1,5 @@
 -- The meaning of the status of a call of the program that looks at every schedule.
-use Rattle.std.specs.Prelude.{◌≡◌, ℕ, ◌⊎◌, Bool, List, [], ◌∷◌, ◌++◌, Option, Some, None, IfSome}
+use Rattle.std.specs.Prelude.{◌≡◌, ℕ, ◌⊎◌, Bool, false, List, [], ◌∷◌, ◌++◌, Option, Some, None, IfSome}
 use Rattle.std.specs.Io.KnownBytes.{Keeps, IsAtEnd}
 use Rattle.golf_data.specs.declared.code.Code.{Code}
 use Rattle.golf_syntax_trees.specs.declared.declarations.File.{File}
@@ -18,8 +18,9 @@ use Rattle.golf_command.specs.Means.{View, SourceCauses}
 use Rattle.golf_command.specs.Ways.{history_options, AreTurns}
 use Rattle.golf_explore_words.specs.declared.line.ExploreLine.{ExploreLine}
 use Rattle.golf_explore_words.specs.declared.line.Question.{Question}
-use Rattle.golf_explore_words.specs.Words.{line_of, states_in}
-use Rattle.golf_explore_command.specs.Texts.{usage_text, note_line}
+use Rattle.golf_explore_words.specs.declared.line.Request.{Request}
+use Rattle.golf_explore_words.specs.Words.{asks_version, request_of, states_in}
+use Rattle.golf_explore_command.specs.Texts.{usage_text, version_text, note_line}
 use Rattle.golf_explore_command.specs.Answers.{IsAnswer}
 use Rattle.golf_explore_command.specs.Progress.{MayTell, progress}
 
@@ -60,19 +61,22 @@ pub data CodeComes (code : Code) (shows : Bool) : ExploreLine → Status → Lis
       → CodeComes code shows (ExploreLine.TraceThreads threads) s.Memory (done ++ Write.ToErr no_memory_text ∷ [])
 
 -- The result of the words and the source. It depends on the bytes that were left in the source before and after the
--- call.
+-- call. For `--version` nothing is read, and memory does not run out.
 pub data ComesOf (words : List (List ℕ)) (shows : Bool) (left after : Option (List ℕ))
     : Status → List Write → Type 0 where
-  Misused : line_of words ≡ None → Keeps left after
+  Misused : request_of words ≡ None → Keeps left after
       → ComesOf words shows left after s.Usage (Write.ToErr usage_text ∷ [])
-  Unread : (line : ExploreLine) → line_of words ≡ Some line
+  Versioned : request_of words ≡ Some Request.Version → Keeps left after
+      → ComesOf words shows left after s.Clean (Write.ToOut version_text ∷ [])
+  Unread : (line : ExploreLine) → request_of words ≡ Some (Request.Serve line)
       → ComesOf words shows left after s.ReadFault (Write.ToErr read_fault_text ∷ [])
-  Refused : (line : ExploreLine) (bytes text : List ℕ) → line_of words ≡ Some line → AreLeft left bytes
-      → RefusedBy bytes text → ComesOf words shows left after s.Refused (Write.ToErr text ∷ [])
+  Refused : (line : ExploreLine) (bytes text : List ℕ) → request_of words ≡ Some (Request.Serve line)
+      → AreLeft left bytes → RefusedBy bytes text
+      → ComesOf words shows left after s.Refused (Write.ToErr text ∷ [])
   Served : (line : ExploreLine) (bytes : List ℕ) (file : File) (status : Status) (writes : List Write)
-      → line_of words ≡ Some line → AreLeft left bytes → IsAtEnd after → Accepts bytes file
+      → request_of words ≡ Some (Request.Serve line) → AreLeft left bytes → IsAtEnd after → Accepts bytes file
       → CodeComes (CodeOf file) shows line status writes → ComesOf words shows left after status writes
-  NoMemory : ComesOf words shows left after s.Memory (Write.ToErr no_memory_text ∷ [])
+  NoMemory : asks_version words ≡ false → ComesOf words shows left after s.Memory (Write.ToErr no_memory_text ∷ [])
 
 -- All was written, and the status is this one. Or a write failed: the writes before it are whole, a prefix of it is
 -- done, and nothing was written after it.

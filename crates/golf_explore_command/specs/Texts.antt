@@ -13,7 +13,11 @@ use Rattle.golf_run_texts.specs.Texts.{numbers_text}
 abbrev pub usage_text : List ℕ
 usage_text =
     codes
-    "usage: golf-explore all [--states N] < FILE\n       golf-explore search [--preemptions K] [--states N] [--seconds S] [--for leak|panic|asleep] < FILE\n       golf-explore trace [--schedule S] [--turns N] [--every N] [--markers N] [--recover] [--why] < FILE\n       golf-explore trace --threads N < FILE\n"
+    "usage: golf-explore all [--states N] < FILE\n       golf-explore search [--preemptions K] [--states N] [--seconds S] [--for leak|panic|asleep] < FILE\n       golf-explore trace [--schedule S] [--turns N] [--every N] [--markers N] [--recover] [--why] < FILE\n       golf-explore trace --threads N < FILE\n       golf-explore --version\n"
+
+-- the number of the release
+abbrev pub version_text : List ℕ
+version_text = codes "golf-explore 1.0.0\n"
 
 -- how much memory this many states may take: about 5 kB for each state
 abbrev pub note_line : ℕ → List ℕ

@@ -22,8 +22,11 @@ use golf_run_texts::{add_numbers, list_of};
 use std::alloc::Global;
 
 /// The usage, for words that are no command line.
-pub const USAGE: &[u8; 300] =
-    b"usage: golf-explore all [--states N] < FILE\n       golf-explore search [--preemptions K] [--states N] [--seconds S] [--for leak|panic|asleep] < FILE\n       golf-explore trace [--schedule S] [--turns N] [--every N] [--markers N] [--recover] [--why] < FILE\n       golf-explore trace --threads N < FILE\n";
+pub const USAGE: &[u8; 330] =
+    b"usage: golf-explore all [--states N] < FILE\n       golf-explore search [--preemptions K] [--states N] [--seconds S] [--for leak|panic|asleep] < FILE\n       golf-explore trace [--schedule S] [--turns N] [--every N] [--markers N] [--recover] [--why] < FILE\n       golf-explore trace --threads N < FILE\n       golf-explore --version\n";
+
+/// The number of the release, which is that of the file VERSION.
+pub(crate) const VERSION: &[u8; 19] = b"golf-explore 1.0.0\n";
 
 /// The line of a file that sets finalisers.
 pub(crate) const FINALISERS: &[u8; 34] = b"stopped: the file sets finalisers\n";

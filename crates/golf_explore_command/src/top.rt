@@ -1,22 +1,24 @@
 //! The top call.
 //!
-//! It reads the words, reads the file, and writes the answer of the search, or tells each turn of a run.
+//! It reads the words, reads the file, and writes the answer of the search, or tells each turn of a run. For
+//! `--version` it writes a line, and reads no file.
 
 ghost use Rattle.std.specs.Prelude.{◌≡◌, List, Some, ℕ};
 ghost use Rattle.golf_data.specs.Places.{HasPlaces};
 ghost use Rattle.golf_run.specs.HasRun.{sinks};
 ghost use Rattle.golf_command.specs.Means.{seen, words_of};
 ghost use Rattle.golf_explore_words.specs.declared.line.ExploreLine.{ExploreLine};
-ghost use Rattle.golf_explore_words.specs.Words.{line_of, IsSearchWithin};
+ghost use Rattle.golf_explore_words.specs.declared.line.Request.{Request};
+ghost use Rattle.golf_explore_words.specs.Words.{request_of, IsSearchWithin};
 ghost use Rattle.golf_explore_command.specs.Means.{CallTells, CodeTells};
 
 use crate::full_answers::answer_to;
-use crate::texts::{USAGE, note_line};
+use crate::texts::{USAGE, VERSION, note_line};
 use crate::traces::{tell_threads, tell_turns};
 use golf_base::{Sink, Source, write_all};
 use golf_command::{end, load};
 use golf_data::Code;
-use golf_explore_words::{ExploreLine, Question, parse};
+use golf_explore_words::{ExploreLine, Question, Request, parse};
 use golf_run::RunFault;
 use golf_run_texts::{NO_MEMORY, Status};
 use std::alloc::Global;
@@ -68,7 +70,7 @@ fn serve<R: AllocGlobal + Threads + Wait + Sync + Clock, S: Source, O: Sink, E: 
     err: &mut E,
 ) -> Status
     requires { IsSearchWithin line }
-    ensures { (words : List (List ℕ)) → line_of words ≡ Some line → CallTells words shows result
+    ensures { (words : List (List ℕ)) → request_of words ≡ Some (Request.Serve line) → CallTells words shows result
         (seen (S.left source.old) (S.faults source.old) (sinks (O.written out.old) (O.faults out.old) (E.written err.old) (E.faults err.old)))
         (seen (S.left source.new) (S.faults source.new) (sinks (O.written out.new) (O.faults out.new) (E.written err.new) (E.faults err.new))) }
 {
@@ -92,6 +94,7 @@ fn serve<R: AllocGlobal + Threads + Wait + Sync + Clock, S: Source, O: Sink, E: 
 /// - `all` searches every schedule of the file, and `search` those with few preemptions first. The answer goes
 ///   to `out`, and everything else to `err`. With `shows` this includes lines that tell how far the search is.
 /// - `trace` runs the file by its options as `golf run` does, and tells each turn on `err`.
+/// - `--version` alone reads no file, and writes the number of the release to `out`.
 ///
 /// With `trace --threads` it may wait for the lock of its program. For every other command line it returns. The body of
 /// `serve` shows this. No clause can, since `rt` has the bound `Wait`.
@@ -111,7 +114,8 @@ pub fn explorer<R: AllocGlobal + Threads + Wait + Sync + Clock, S: Source, O: Si
         (seen (S.left source.new) (S.faults source.new) (sinks (O.written out.new) (O.faults out.new) (E.written err.new) (E.faults err.new))) }
 {
     match parse(rt.alloc(), words) {
-        Ok(Some(line)) => serve(rt, line, shows, source, out, err),
+        Ok(Some(Request::Version)) => end(out, VERSION, Status::Clean),
+        Ok(Some(Request::Serve(line))) => serve(rt, line, shows, source, out, err),
         Ok(None) => end(err, USAGE, Status::Usage),
         Err(_) => end(err, NO_MEMORY, Status::Memory),
     }

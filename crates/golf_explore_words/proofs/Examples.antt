@@ -2,9 +2,10 @@
 use Rattle.std.proofs.Common.{◌≡◌, refl, [], ◌∷◌, Some, None, codes, true, false}
 use Rattle.clap.proofs.OnLiterals.{clap_on_literals}
 use Rattle.golf_run_schedules.specs.declared.schedule.Schedule.{Schedule}
-use Rattle.golf_explore_words.specs.Words.{split_of, line_of}
+use Rattle.golf_explore_words.specs.Words.{split_of, line_of, request_of}
 use Rattle.golf_explore_words.specs.declared.line.ExploreLine.{ExploreLine}
 use Rattle.golf_explore_words.specs.declared.line.Question.{Question}
+use Rattle.golf_explore_words.specs.declared.line.Request.{Request}
 use Rattle.golf_explore_words.specs.declared.line.SearchFor.{SearchFor}
 
 all_alone : line_of (codes "all" ∷ []) ≡ Some (ExploreLine.Ask (Question.All 100000))
@@ -101,3 +102,23 @@ trace_by_too_many_threads = refl
 a_word_of_the_other_program : line_of (codes "run" ∷ []) ≡ None
 unfolding clap_on_literals split_of
 a_word_of_the_other_program = refl
+
+version_alone : request_of (codes "--version" ∷ []) ≡ Some Request.Version
+version_alone = refl
+
+version_is_no_command_line : line_of (codes "--version" ∷ []) ≡ None
+unfolding clap_on_literals split_of
+version_is_no_command_line = refl
+
+version_with_a_word : request_of (codes "--version" ∷ codes "all" ∷ []) ≡ None
+unfolding clap_on_literals split_of
+version_with_a_word = refl
+
+version_of_a_search : request_of (codes "all" ∷ codes "--version" ∷ []) ≡ None
+unfolding clap_on_literals split_of
+version_of_a_search = refl
+
+a_command_line_is_served : request_of (codes "all" ∷ []) ≡ Some
+    (Request.Serve (ExploreLine.Ask (Question.All 100000)))
+unfolding clap_on_literals split_of
+a_command_line_is_served = refl

@@ -1,5 +1,5 @@
 -- The numbers of a search are within their limits.
--- For: `parse`, src/command_lines.rt; `IsSearchWithin`, specs/Words.antt
+-- For: `command_line`, src/command_lines.rt; `IsSearchWithin`, specs/Words.antt
 -- By: cases of what each option has; no induction
 use Rattle.std.proofs.Common.{ℕ, ◌≤◌, List, Option, Some, None, IfSome, option_and_then, option_map, codes, arith}
 use Rattle.clap.specs.Walk.{Row, first_of}

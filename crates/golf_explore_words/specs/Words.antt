@@ -1,6 +1,7 @@
 -- The words of the program that looks at every schedule (profile). The documentation of `clap` says how words are split
 -- for the commands and options below.
-use Rattle.std.specs.Prelude.{ℕ, ◌≤◌, if◌then◌else◌, List, Option, Some, None, IfSome, option_and_then, option_map}
+use Rattle.std.specs.Prelude.{ℕ, ◌≤◌, Bool, false, if◌then◌else◌, List, [], ◌∷◌, Option, Some, None, IfSome}
+use Rattle.std.specs.Prelude.{option_and_then, option_map}
 use Rattle.std.specs.Prelude.{codes, bytes_eq}
 use Rattle.clap.specs.Walk.{Row, first_of}
 use Rattle.clap.specs.Simple.{App, new_app, with_rule, with_subcommand}
@@ -11,6 +12,7 @@ use Rattle.golf_command_words.specs.declared.line.CommandLine.{CommandLine}
 use Rattle.golf_run_schedules.specs.Options.{IsWithinLimits}
 use Rattle.golf_explore_words.specs.declared.line.ExploreLine.{ExploreLine}
 use Rattle.golf_explore_words.specs.declared.line.Question.{Question}
+use Rattle.golf_explore_words.specs.declared.line.Request.{Request}
 use Rattle.golf_explore_words.specs.declared.line.SearchFor.{SearchFor}
 
 -- the most states that a search keeps without `--states`, and the most that `--states` may ask for
@@ -108,6 +110,19 @@ line_by (Some p) =
 abbrev pub line_of : List Text → Option ExploreLine
 line_of words = line_by (split_of words)
 
+-- ---- requests
+
+-- the only word is `--version`
+abbrev pub asks_version : List Text → Bool
+asks_version [] = false
+asks_version (word ∷ []) = bytes_eq word (codes "--version")
+asks_version (word ∷ other ∷ words) = false
+
+-- what the words ask for: the number of the release, or a command line
+abbrev pub request_of : List Text → Option Request
+request_of words =
+    if asks_version words then Some Request.Version else option_map (λ line. Request.Serve line) (line_of words)
+
 -- the most states that a search for the answer keeps
 abbrev pub states_in : Question → ℕ
 states_in (Question.All most) = most
@@ -133,3 +148,7 @@ abbrev pub IsSearchWithin : ExploreLine → Type 0
 IsSearchWithin (ExploreLine.Ask question) = IsWithinQuestion question
 IsSearchWithin (ExploreLine.Trace options) = IsWithinLimits options
 IsSearchWithin (ExploreLine.TraceThreads n) = (1 ≤ n) × (n ≤ 16)
+
+abbrev pub IsRequestWithin : Request → Type 0
+IsRequestWithin Request.Version = Unit {0}
+IsRequestWithin (Request.Serve line) = IsSearchWithin line

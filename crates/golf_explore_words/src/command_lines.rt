@@ -1,18 +1,19 @@
-//! From words to a command line.
+//! From words to a request.
 
-ghost use Rattle.std.specs.Prelude.{◌≡◌, IfOk, IfSome, map, option_map, string_bytes};
+ghost use Rattle.std.specs.Prelude.{◌≡◌, IfOk, IfSome, OnErr, false, map, option_map, string_bytes};
 ghost use Rattle.clap.specs.Words.{found_of, rows_of};
 ghost use Rattle.golf_command_words.specs.Values.{number_within as number_within_of};
 ghost use Rattle.golf_command_words.specs.Words.{setting};
 ghost use Rattle.golf_explore_words.specs.declared.line.SearchFor.{SearchFor};
 ghost use Rattle.golf_explore_words.specs.Words.{aim_of, all_by, default_preemptions, default_states, line_of};
+ghost use Rattle.golf_explore_words.specs.Words.{asks_version as asks_version_of, request_of};
 ghost use Rattle.golf_explore_words.specs.Words.{most_preemptions, most_states, search_by, seconds_or_none, trace_by};
-ghost use Rattle.golf_explore_words.specs.Words.{IsSearchWithin};
+ghost use Rattle.golf_explore_words.specs.Words.{IsRequestWithin, IsSearchWithin};
 
 use crate::clap_commands::split;
 use crate::line::{
     DEFAULT_PREEMPTIONS, DEFAULT_STATES, ExploreLine, MOST_PREEMPTIONS, MOST_SECONDS, MOST_STATES,
-    MOST_TRACED, Question, SearchFor, SearchOptions,
+    MOST_TRACED, Question, Request, SearchFor, SearchOptions,
 };
 use clap::ArgMatches;
 use golf_base::Memory;
@@ -102,9 +103,8 @@ fn trace_line(alloc: Global, matches: &ArgMatches<'_>) -> Result<Option<ExploreL
     }
 }
 
-/// Returns the command line that the words after the program's name stand for, or `None` if they stand for
-/// none. The only error is `Memory`.
-pub fn parse(alloc: Global, words: &[String]) -> Result<Option<ExploreLine>, Memory>
+// The command line that the words stand for, or `None` if they stand for none.
+fn command_line(alloc: Global, words: &[String]) -> Result<Option<ExploreLine>, Memory>
     ensures line { IfOk result (λ line. line ≡ line_of (map string_bytes words.now)) }
     ensures limits { IfOk result (λ line. IfSome line IsSearchWithin) }
 {
@@ -116,5 +116,31 @@ pub fn parse(alloc: Global, words: &[String]) -> Result<Option<ExploreLine>, Mem
         Some((name, options)) if name == "search" => Ok(search_line(options)),
         Some((name, options)) if name == "trace" => trace_line(alloc, options),
         _ => Ok(None),
+    }
+}
+
+// Whether the only word is `--version`.
+fn asks_version(words: &[String]) -> bool
+    ensures { result ≡ asks_version_of (map string_bytes words.now) }
+{
+    match words {
+        [word] => word.as_str() == "--version",
+        _ => false,
+    }
+}
+
+/// Returns the request of the words after the program's name, or `None` if they are none. The only error is
+/// `Memory`, and `--version` has none.
+pub fn parse(alloc: Global, words: &[String]) -> Result<Option<Request>, Memory>
+    ensures request { IfOk result (λ request. request ≡ request_of (map string_bytes words.now)) }
+    ensures limits { IfOk result (λ request. IfSome request IsRequestWithin) }
+    ensures memory { OnErr result (asks_version_of (map string_bytes words.now) ≡ false) }
+{
+    if asks_version(words) {
+        return Ok(Some(Request::Version));
+    }
+    match command_line(alloc, words)? {
+        Some(line) => Ok(Some(Request::Serve(line))),
+        None => Ok(None),
     }
 }

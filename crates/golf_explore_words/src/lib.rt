@@ -1,6 +1,7 @@
 //! The words of the program that looks at every schedule.
 //!
-//! - `parse`: the command line, or `None` if the words stand for none. `clap` splits the words.
+//! - `parse`: the request of the words, or `None` if they are none. `clap` splits the words of a command line.
+//! - `Request`: the number of the release, or a command line.
 //! - `ExploreLine`: the request of a command line.
 #![tactic(auto)]
 
@@ -9,4 +10,6 @@ mod command_lines;
 mod line;
 
 pub use command_lines::parse;
-pub use line::{DEFAULT_STATES, ExploreLine, MOST_STATES, Question, SearchFor, SearchOptions};
+pub use line::{
+    DEFAULT_STATES, ExploreLine, MOST_STATES, Question, Request, SearchFor, SearchOptions,
+};

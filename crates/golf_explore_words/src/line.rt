@@ -1,4 +1,4 @@
-//! The request of a command line, and its limits (this runtime's rule).
+//! The requests of command lines, and their limits (this runtime's rule).
 
 ghost use Rattle.std.specs.Prelude.{◌≡◌};
 ghost use Rattle.golf_explore_words.specs.Words.{states_in};
@@ -73,4 +73,13 @@ pub enum ExploreLine {
     Trace(RunOptions),
     /// Run by this many threads, from 1 to 16, and tell each turn of the history.
     TraceThreads(u32),
+}
+
+/// The request of the words.
+#[derive(Debug, Drop)]
+pub enum Request {
+    /// Tell the number of the release, and read no file.
+    Version,
+    /// Serve this command line.
+    Serve(ExploreLine),
 }

@@ -6,12 +6,12 @@ use Rattle.std.proofs.Common.{length, get_or, inl, inr, refl, sym, ap, ◌∙◌
 use Rattle.std.specs.Prelude.{IsTrue, ◌↔◌, Result, Ok, Err, OnOk}
 use Rattle.std.proofs.lemmas.Bool.{eq-eqb, ne_eqb, lt-ltb, le-ltb}
 use Rattle.golf_theory.specs.Membership.{In, is_in}
-use Rattle.golf_theory.specs.Maps.{Entry, Rises, keys, only}
+use Rattle.golf_theory.specs.Maps.{Entry, Rises, keys, only, rank}
 use Rattle.golf_theory.proofs.MapEntries.{Entry-keys}
 use Rattle.golf_theory.proofs.MapFinds.{Entry-above}
 use Rattle.golf_theory.proofs.Tests.{is_in-out}
-use Rattle.golf_heap.specs.Objects.{kept, left_out, rank}
-use Rattle.golf_heap.proofs.Flagged.{kept-only, left_out-only}
+use Rattle.golf_theory.specs.Flags.{kept, left_out}
+use Rattle.golf_theory.proofs.Flagged.{kept-only, left_out-only}
 use Rattle.golf_model.specs.State.{State}
 use Rattle.golf_model.specs.Collections.{queued, queue_outside}
 use Rattle.golf_state.specs.CollectedParts.{queue_unflagged}

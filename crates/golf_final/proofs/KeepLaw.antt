@@ -7,7 +7,7 @@ use Rattle.std.specs.Prelude.{◌↔◌, option_map, unwrap_or}
 use Rattle.std.proofs.lemmas.List.{length-map}
 use Rattle.std.proofs.lemmas.Option.{slice_get-map, slice_get_within, get_or_from_slice_get}
 use Rattle.golf_theory.specs.Membership.{In}
-use Rattle.golf_theory.specs.Maps.{Entry, find, keys}
+use Rattle.golf_theory.specs.Maps.{Entry, find, keys, rank}
 use Rattle.golf_theory.proofs.Lists.{In-map, In-map_back, In-slice_get, Every-at}
 use Rattle.golf_theory.proofs.Tests.{is_in-from, In-from}
 use Rattle.golf_theory.proofs.MapFinds.{find-Entry}
@@ -26,7 +26,6 @@ use Rattle.golf_model.specs.declared.graph.Marked.{Marked}
 use Rattle.golf_model.specs.Sleepers.{Sleeper}
 use Rattle.golf_marks.specs.Flags.{IsSet}
 use Rattle.golf_mark.specs.MarkingResult.{MarksLeast}
-use Rattle.golf_heap.specs.Objects.{rank}
 use Rattle.golf_snapshot.specs.Parts.{ranks, row_of, sleeping, sleeper_of, live_parts}
 use Rattle.golf_snapshot.proofs.Ranking.{Entry-at, at-rank, row-at}
 use Rattle.golf_snapshot.proofs.Roots.{sleeping-entry}

@@ -5,7 +5,7 @@
 ghost use Rattle.std.specs.Prelude.{◌≡◌, ◌+◌, IfOk, OnOk, OnErr, length, map};
 ghost use Rattle.golf_theory.specs.Maps.{keys};
 ghost use Rattle.golf_theory.specs.Membership.{is_in};
-ghost use Rattle.golf_heap.specs.Objects.{kept};
+ghost use Rattle.golf_theory.specs.Flags.{kept};
 ghost use Rattle.golf_model.specs.Collections.{queue_outside};
 ghost use Rattle.golf_model.specs.Presence.{IsWhole};
 

@@ -1,28 +1,18 @@
 -- What is found at a number, by the place of its key.
 -- For: `index_of`, `key_of` (src/places.rt) and `get` (src/heap.rt)
 -- By: induction over the list of places for an object's slot; otherwise the laws of ranks
-use Rattle.std.proofs.Common.{◌≡◌, ℕ, zero, suc, true, false, cond, List, [], ◌∷◌, length, get_or, Option, Some, None}
+use Rattle.std.proofs.Common.{◌≡◌, ℕ, zero, suc, true, false, cond, List, [], ◌∷◌, get_or, Option, Some, None}
 use Rattle.std.proofs.Common.{◌==◌, refl, sym, ap, ◌∙◌, slice_get, option_map, subst}
 use Rattle.std.specs.Prelude.{IsSome, is_some}
-use Rattle.std.specs.Borrow.{Bor}
-use Rattle.std.specs.Slice.{IsItemAt}
-use Rattle.std.proofs.lemmas.Bool.{eqb-true, eq-eqb, ne_eqb, ltb-true, ltb-false}
-use Rattle.std.proofs.lemmas.Option.{slice_get_read, slice_get_past, slice_get-map, get_or_from_slice_get}
+use Rattle.std.proofs.lemmas.Bool.{eqb-true, eq-eqb, ne_eqb}
+use Rattle.std.proofs.lemmas.Option.{slice_get-map, get_or_from_slice_get}
 use Rattle.slab.specs.Slab.{get}
 use Rattle.golf_data.specs.declared.value.Object.{Object}
-use Rattle.golf_theory.specs.Maps.{find, Rises}
+use Rattle.golf_theory.specs.Maps.{find, Rises, rank}
 use Rattle.golf_heap.specs.declared.places.ObjectKey.{ObjectKey}
-use Rattle.golf_heap.specs.Objects.{rank}
 use Rattle.golf_heap.specs.Kept.{keyed, gathered, object_in, HoldsPlaces}
-use Rattle.golf_heap.proofs.Ranks.{at_key, find-rank}
+use Rattle.golf_theory.proofs.Ranks.{at_key, find-rank}
 use Rattle.golf_heap.proofs.Gathering.{Slots, full, find-gathered, held-at, Rises-keyed}
-
--- what `get` answers
-pub item-at : {X : Type 0} (xs : List X) (i : ℕ) (x : Bor X) → IsItemAt xs i (Some x) → slice_get xs i ≡ Some x.now
-item-at xs i x h = slice_get_read xs (length xs) i x.now refl (ltb-true i (length xs) (sym h.0)) h.1
-
-pub no_item-at : {X : Type 0} (xs : List X) (i : ℕ) → IsItemAt xs i None → slice_get xs i ≡ None
-no_item-at xs i h = slice_get_past xs i (ltb-false i (length xs) (sym h.0))
 
 -- the key that is found is the one at the rank of the number, if it has that number
 pub find-keyed : (k i : ℕ) (ps : List ObjectKey) (o : Option ObjectKey) → Rises 1 (keyed ps) → i ≡ rank k (keyed ps)

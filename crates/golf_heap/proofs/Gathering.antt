@@ -6,9 +6,8 @@ use Rattle.std.proofs.Common.{◌==◌, nat_lt, refl, sym, ap, ◌∙◌, option
 use Rattle.std.proofs.lemmas.Bool.{eqb-true}
 use Rattle.slab.specs.Slab.{Slab, get, Updates}
 use Rattle.golf_data.specs.declared.value.Object.{Object}
-use Rattle.golf_theory.specs.Maps.{find, Rises}
+use Rattle.golf_theory.specs.Maps.{find, Rises, rank}
 use Rattle.golf_heap.specs.declared.places.ObjectKey.{ObjectKey}
-use Rattle.golf_heap.specs.Objects.{rank}
 use Rattle.golf_heap.specs.Kept.{keyed, gathered, object_in, IsObjectOf, HoldsPlaces}
 
 abbrev pub Slots : Type 0

@@ -1,5 +1,3 @@
-pub mod Ranks
-pub mod Keyed
 pub mod Numbers
 pub mod Gathering
 pub mod Stored
@@ -7,5 +5,3 @@ pub mod Order
 pub mod Freeing
 pub mod Finding
 pub mod Writing
-pub mod Flagged
-pub mod Guesses

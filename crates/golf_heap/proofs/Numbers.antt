@@ -7,8 +7,9 @@ use Rattle.golf_data.specs.declared.value.Object.{Object}
 use Rattle.golf_theory.specs.Maps.{find}
 use Rattle.golf_theory.proofs.MapFinds.{put-none}
 use Rattle.golf_theory.proofs.MapOrder.{Rises-add, AllBelow-add, AllBelow-more, Rises-put, AllBelow-put}
-use Rattle.golf_heap.specs.Objects.{NumberedObjects, IsNumbered, made, replaced, kept}
-use Rattle.golf_heap.proofs.Ranks.{Rises-kept, AllBelow-kept}
+use Rattle.golf_heap.specs.Objects.{NumberedObjects, IsNumbered, made, replaced}
+use Rattle.golf_theory.specs.Flags.{kept}
+use Rattle.golf_theory.proofs.Ranks.{Rises-kept, AllBelow-kept}
 
 absent : {X : Type 0} (o : Option X) → is_some o ≡ false → o ≡ None
 absent None h = refl

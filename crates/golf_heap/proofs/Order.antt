@@ -7,11 +7,10 @@ use Rattle.std.specs.List.Sorted.{IsNonDecreasingBy}
 use Rattle.std.proofs.lemmas.List.{get_or-map}
 use Rattle.slab.specs.Slab.{get}
 use Rattle.golf_data.specs.declared.value.Object.{Object}
-use Rattle.golf_theory.specs.Maps.{Rises, keys}
+use Rattle.golf_theory.specs.Maps.{Rises, keys, rank}
 use Rattle.golf_heap.specs.declared.places.ObjectKey.{ObjectKey}
 use Rattle.golf_heap.specs.Kept.{keyed, gathered, IsObjectOf, HoldsPlaces}
-use Rattle.golf_heap.specs.Objects.{rank}
-use Rattle.golf_heap.proofs.Ranks.{sorted, rank-is}
+use Rattle.golf_theory.proofs.Ranks.{sorted, rank-is}
 use Rattle.golf_heap.proofs.Gathering.{Slots, length-keyed}
 
 pub number-at : (ps : List ObjectKey) (i : ℕ) (d : ObjectKey) (e : ℕ × ℕ) → i < length ps

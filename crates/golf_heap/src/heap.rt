@@ -6,12 +6,14 @@
 ghost use Rattle.std.specs.Prelude.{◌≡◌, ◌+◌, ◌<◌, [], length, is_some, IsSome, option_map, slice_get, Some, IfOk};
 ghost use Rattle.std.specs.Prelude.{OnOk, OnErr};
 ghost use Rattle.std.specs.Borrow.{sem};
-ghost use Rattle.golf_theory.specs.Maps.{find, keys};
-ghost use Rattle.golf_heap.specs.Objects.{IsNumbered, made, replaced, kept, rank};
+ghost use Rattle.golf_theory.specs.Maps.{find, keys, rank};
+ghost use Rattle.golf_heap.specs.Objects.{IsNumbered, made, replaced};
+ghost use Rattle.golf_theory.specs.Flags.{kept};
 ghost use Rattle.golf_heap.specs.Loans.{LendsObject};
 
-use crate::places::{ObjectKey, close_up, free, key_of, rank_of};
+use crate::places::{ObjectKey, free, key_of, rank_of};
 use golf_base::{Memory, ObjectId};
+use golf_blocks::close_up;
 use golf_data::Object;
 use slab::Slab;
 use std::alloc::Global;

@@ -1,11 +1,9 @@
 //! The heap: objects under numbers that are given in order and never used again.
 //!
 //! - `Heap`: the objects that are there, and the last number that was given.
-//! - `close_up`: keeps the items of a vector whose flag is true.
 #![tactic(auto)]
 
 mod heap;
 mod places;
 
 pub use heap::Heap;
-pub use places::close_up;

@@ -4,8 +4,8 @@
 
 ghost use Rattle.std.specs.Prelude.{◌≡◌, ◌+◌, length, None, IfSome};
 ghost use Rattle.slab.specs.Slab.{slab_len, ContainsKey, Updates};
-ghost use Rattle.golf_theory.specs.Maps.{find, Rises};
-ghost use Rattle.golf_heap.specs.Objects.{kept, rank};
+ghost use Rattle.golf_theory.specs.Maps.{find, Rises, rank};
+ghost use Rattle.golf_theory.specs.Flags.{kept};
 ghost use Rattle.golf_heap.specs.Kept.{HoldsPlaces, gathered, keyed};
 
 use golf_data::Object;
@@ -85,19 +85,4 @@ fn empty(slots: &mut Slab<(u32, Object)>, key: usize)
     ensures len { slab_len slots.new + 1 ≡ slab_len slots.old }
 {
     slots.remove(key);
-}
-
-/// Keeps the items whose flag is true. It takes no memory.
-pub fn close_up<T: Drop>(items: &mut Vec<T>, keep: &[bool])
-    requires { length keep.now ≡ length items.old.items }
-    ensures { items.new.items ≡ kept keep.now items.old.items }
-{
-    let mut count = 0;
-    for at in 0..keep.len() {
-        if keep[at] {
-            items.swap(count, at);
-            count += 1;
-        }
-    }
-    items.truncate(count);
 }

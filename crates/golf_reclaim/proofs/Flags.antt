@@ -10,8 +10,8 @@ use Rattle.golf_theory.specs.Maps.{keys, keys_where}
 use Rattle.golf_theory.specs.Membership.{In, is_in}
 use Rattle.golf_theory.proofs.Lists.{In-filter, In-filter_old}
 use Rattle.golf_theory.proofs.Tests.{same_test, In-from, is_in-from}
-use Rattle.golf_heap.specs.Objects.{left_out}
-use Rattle.golf_heap.proofs.Flagged.{left_out-at}
+use Rattle.golf_theory.specs.Flags.{left_out}
+use Rattle.golf_theory.proofs.Flagged.{left_out-at}
 use Rattle.golf_reclaim.specs.Flags.{count_set, either}
 
 -- ---- one place more

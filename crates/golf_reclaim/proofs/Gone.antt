@@ -18,8 +18,8 @@ use Rattle.golf_model.specs.Reports.{numbers}
 use Rattle.golf_model.specs.declared.graph.Marked.{Marked}
 use Rattle.golf_model.proofs.Agreeing.{live_list-sound, live_list-complete, has_goroutine-sound, has_goroutine-complete}
 use Rattle.golf_model.proofs.Agreeing.{keeps-sound, keeps-complete}
-use Rattle.golf_heap.specs.Objects.{left_out}
-use Rattle.golf_heap.proofs.Flagged.{left_out-filter}
+use Rattle.golf_theory.specs.Flags.{left_out}
+use Rattle.golf_theory.proofs.Flagged.{left_out-filter}
 use Rattle.golf_snapshot.specs.Parts.{sleeping, sleeper_of, live_parts}
 use Rattle.golf_snapshot.proofs.Roots.{sleeping-entry}
 use Rattle.golf_mark.specs.MarkingResult.{MarksLeast}

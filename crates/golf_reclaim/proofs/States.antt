@@ -22,8 +22,8 @@ use Rattle.golf_model.specs.Collections.{queue_outside, plain_collect, removed, 
 use Rattle.golf_model.specs.Futures.{Numbered}
 use Rattle.golf_model.specs.Presence.{IsWhole}
 use Rattle.golf_model.proofs.Agreeing.{reach-sound, reach-complete, refs_where-sound, goroutine_refs_where-sound}
-use Rattle.golf_heap.specs.Objects.{kept}
-use Rattle.golf_heap.proofs.Flagged.{kept-only}
+use Rattle.golf_theory.specs.Flags.{kept}
+use Rattle.golf_theory.proofs.Flagged.{kept-only}
 use Rattle.golf_reclaim.proofs.Flags.{among-those}
 use Rattle.golf_model_futures.proofs.Collecting.{In-goroutine_refs_where, reach-from}
 use Rattle.golf_model_futures.proofs.CutCollecting.{queue_outside-same}

@@ -30,8 +30,8 @@ use Rattle.golf_snapshot.proofs.LiveComplete.{live-graph}
 use Rattle.golf_snapshot.proofs.LiveSound.{place-is}
 use Rattle.golf_snapshot.proofs.RetainedLaw.{retained-graph}
 use Rattle.golf_mark.specs.MarkingResult.{MarksLeast}
-use Rattle.golf_heap.specs.Objects.{left_out}
-use Rattle.golf_heap.proofs.Flagged.{left_out-filter}
+use Rattle.golf_theory.specs.Flags.{left_out}
+use Rattle.golf_theory.proofs.Flagged.{left_out-filter}
 use Rattle.golf_reclaim.specs.Flags.{count_set, either}
 use Rattle.golf_reclaim.proofs.Flags.{flags-are, counted, either-map, filter-both, keys_where-filter}
 

@@ -3,7 +3,7 @@ use Rattle.std.specs.Prelude.{◌≡◌, ℕ, Bool, true, false, ◌||◌, List,
 use Rattle.golf_base.specs.declared.ids.GoroutineId.{GoroutineId}
 use Rattle.golf_model.specs.declared.graph.GraphParts.{GraphParts}
 use Rattle.golf_model.specs.declared.graph.Marked.{Marked}
-use Rattle.golf_heap.specs.Objects.{left_out}
+use Rattle.golf_theory.specs.Flags.{left_out}
 use Rattle.golf_final.specs.KeepRule.{HasKept}
 
 -- how many flags are true

@@ -8,7 +8,7 @@ ghost use Rattle.golf_model.specs.LiveSet.{dead, live_objects};
 ghost use Rattle.golf_model.specs.Collections.{removed, retained};
 ghost use Rattle.golf_model.specs.Presence.{IsWhole};
 ghost use Rattle.golf_model.specs.Reports.{numbers, retained_objects};
-ghost use Rattle.golf_heap.specs.Objects.{left_out};
+ghost use Rattle.golf_theory.specs.Flags.{left_out};
 ghost use Rattle.golf_snapshot.specs.Parts.{live_parts, retained_parts};
 ghost use Rattle.golf_mark.specs.MarkingResult.{MarksLeast};
 ghost use Rattle.golf_theory.specs.Membership.{is_in};

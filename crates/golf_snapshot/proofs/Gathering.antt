@@ -15,7 +15,7 @@ use Rattle.golf_model.specs.Values.{value_refs, refs}
 use Rattle.golf_model.specs.Refs.{object_refs, deferred_refs, frame_refs, frames_refs, waited, wait_refs}
 use Rattle.golf_model.specs.Refs.{goroutine_refs, queue_refs, refs_if, refs_where, goroutine_refs_where}
 use Rattle.golf_data.specs.declared.goroutine.Queued.{Queued}
-use Rattle.golf_heap.specs.Objects.{rank}
+use Rattle.golf_theory.specs.Maps.{rank}
 use Rattle.golf_snapshot.specs.Parts.{ranks, is_awake, awake_refs, sleeper_of}
 use Rattle.golf_snapshot.specs.MapEntries.{sleepers_of}
 

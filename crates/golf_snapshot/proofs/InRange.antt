@@ -6,7 +6,7 @@ use Rattle.std.proofs.Common.{◌≡◌, ℕ, suc, ◌+◌, ◌<◌, Bool, List,
 use Rattle.std.proofs.lemmas.List.{length-map}
 use Rattle.std.proofs.lemmas.Option.{slice_get_within}
 use Rattle.golf_theory.specs.Membership.{Every}
-use Rattle.golf_theory.specs.Maps.{Rises}
+use Rattle.golf_theory.specs.Maps.{Rises, rank}
 use Rattle.golf_theory.proofs.Lists.{Every-from, Every-at, Every-map}
 use Rattle.golf_theory.proofs.MapEntries.{Every-Entry}
 use Rattle.golf_base.specs.declared.ids.ObjectId.{ObjectId}
@@ -21,7 +21,6 @@ use Rattle.golf_model.specs.Presence.{Present, IsWhole}
 use Rattle.golf_model.specs.Futures.{Numbered}
 use Rattle.golf_model.specs.declared.graph.GraphParts.{GraphParts}
 use Rattle.golf_model.specs.Sleepers.{Sleeper}
-use Rattle.golf_heap.specs.Objects.{rank}
 use Rattle.golf_snapshot.specs.Parts.{ranks, number_of, row_of, live_roots, sleeping, sleeper_of, parts_of, live_parts}
 use Rattle.golf_snapshot.proofs.LiveSound.{rank-entry, root-live, waited-refs}
 use Rattle.golf_snapshot.proofs.RetainedLaw.{source-present}

@@ -4,7 +4,7 @@
 use Rattle.std.proofs.Common.{◌≡◌, ℕ, ◌+◌, Bool, true, false, ◌||◌, List, length, Some, refl, sym, subst, ◌∙◌}
 use Rattle.std.proofs.Common.{slice_get, ◌==◌}
 use Rattle.golf_theory.specs.Membership.{In}
-use Rattle.golf_theory.specs.Maps.{Entry, keys}
+use Rattle.golf_theory.specs.Maps.{Entry, keys, rank}
 use Rattle.golf_theory.proofs.Lists.{In-left, In-right, In-map, In-slice_get, Every-at}
 use Rattle.golf_theory.proofs.MapEntries.{Entry-keys}
 use Rattle.golf_theory.proofs.MapFinds.{Entry-one}
@@ -21,7 +21,6 @@ use Rattle.golf_model.specs.Graph.{Justifies, Least}
 use Rattle.golf_model.specs.Presence.{Present, IsWhole}
 use Rattle.golf_model.specs.Futures.{Numbered}
 use Rattle.golf_model.proofs.Agreeing.{refs_where-complete}
-use Rattle.golf_heap.specs.Objects.{rank}
 use Rattle.golf_snapshot.specs.Parts.{ranks, is_awake, awake_refs, live_roots, sleeping, live_parts}
 use Rattle.golf_snapshot.specs.Stands.{LivesAlike, LiveGraph}
 use Rattle.golf_snapshot.proofs.Ranking.{Entry-at, at-rank, rank-at}

@@ -8,7 +8,7 @@ use Rattle.std.proofs.lemmas.List.{length-map}
 use Rattle.std.proofs.lemmas.Option.{slice_get-map, slice_get_within}
 use Rattle.std.proofs.lemmas.Bool.{eqb-true}
 use Rattle.golf_theory.specs.Membership.{In, Every}
-use Rattle.golf_theory.specs.Maps.{Entry, keys}
+use Rattle.golf_theory.specs.Maps.{Entry, keys, rank}
 use Rattle.golf_theory.proofs.Lists.{In-right, Every-from, In-cases, In-map_back, In-slice_get, Every-at}
 use Rattle.golf_theory.proofs.MapEntries.{Entry-keys}
 use Rattle.golf_theory.proofs.Derivations.{Reached-root, Reached-step, Reached-least}
@@ -27,7 +27,6 @@ use Rattle.golf_model.specs.Futures.{Numbered}
 use Rattle.golf_model.specs.Sleepers.{Sleeper}
 use Rattle.golf_model.proofs.Agreeing.{refs_where-sound}
 use Rattle.golf_theory.proofs.Tests.{In-from}
-use Rattle.golf_heap.specs.Objects.{rank}
 use Rattle.golf_snapshot.specs.Parts.{ranks, is_awake, awake_refs, live_roots, sleeping, sleeper_of, live_parts}
 use Rattle.golf_snapshot.proofs.Ranking.{Entry-at, at-rank, cases_at, row-at, no_row-at, same-key}
 use Rattle.golf_snapshot.proofs.Roots.{awake-sound, sleeping-entry}

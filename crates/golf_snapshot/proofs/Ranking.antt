@@ -1,5 +1,5 @@
 -- Places of entries in a map whose keys rise, and what stands at a place.
--- For: `rank`, golf_heap/specs/Objects.antt; `Rises`, golf_theory/specs/Maps.antt.
+-- For: `rank`, `Rises`, golf_theory/specs/Maps.antt.
 -- By: induction over the list of entries.
 use Rattle.std.proofs.Common.{◌≡◌, ℕ, zero, suc, ◌<◌, ◌≤◌, cond, List, [], ◌∷◌, map, Option, Some, None, ◌⊎◌, inl, inr}
 use Rattle.std.proofs.Common.{refl, sym, ap, ◌∙◌, arith, slice_get}
@@ -7,9 +7,8 @@ use Rattle.std.specs.Prelude.{option_map, unwrap_or}
 use Rattle.std.proofs.lemmas.Bool.{lt-ltb, le-ltb}
 use Rattle.std.proofs.lemmas.Option.{slice_get-map}
 use Rattle.golf_theory.specs.Membership.{In}
-use Rattle.golf_theory.specs.Maps.{Entry, Rises}
+use Rattle.golf_theory.specs.Maps.{Entry, Rises, rank}
 use Rattle.golf_theory.proofs.MapFinds.{Entry-above}
-use Rattle.golf_heap.specs.Objects.{rank}
 
 module _ {X : Type 0} where
   pub Entry-at : (es : List (ℕ × X)) (k : ℕ) (e : ℕ × X) → slice_get es k ≡ Some e → Entry es e.0 e.1

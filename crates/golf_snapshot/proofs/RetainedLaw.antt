@@ -3,7 +3,7 @@
 -- By: induction over how a place gets into the least closed set, and over how an object is reached.
 use Rattle.std.proofs.Common.{◌≡◌, ℕ, not, List, Some, inl, inr, sym, subst, ◌∙◌, slice_get}
 use Rattle.golf_theory.specs.Membership.{In, is_in}
-use Rattle.golf_theory.specs.Maps.{Entry}
+use Rattle.golf_theory.specs.Maps.{Entry, rank}
 use Rattle.golf_theory.proofs.Lists.{In-cases, In-map, In-map_back, Every-at}
 use Rattle.golf_theory.proofs.Derivations.{Reached-root, Reached-step, Reached-least}
 use Rattle.golf_data.specs.declared.value.Object.{Object}
@@ -15,7 +15,6 @@ use Rattle.golf_model.specs.Reach.{RefersTo, Reach, sources}
 use Rattle.golf_model.specs.Graph.{Justifies, Least, children_of}
 use Rattle.golf_model.specs.Presence.{Present, IsWhole}
 use Rattle.golf_model.specs.Futures.{Numbered}
-use Rattle.golf_heap.specs.Objects.{rank}
 use Rattle.golf_snapshot.specs.Parts.{ranks, retained_parts}
 use Rattle.golf_snapshot.specs.Stands.{IsObject, RetainedGraph}
 use Rattle.golf_snapshot.proofs.Ranking.{Entry-at, at-rank, rank-at, row-at, same-key}

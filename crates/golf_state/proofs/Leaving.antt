@@ -10,7 +10,7 @@ use Rattle.golf_theory.specs.Maps.{Entry, keys}
 use Rattle.golf_theory.specs.Membership.{is_in}
 use Rattle.golf_theory.proofs.MapEntries.{In-keys}
 use Rattle.golf_theory.proofs.Tests.{is_in-from}
-use Rattle.golf_heap.specs.Objects.{kept}
+use Rattle.golf_theory.specs.Flags.{kept}
 use Rattle.golf_model.specs.Views.{GoroutineView}
 use Rattle.golf_model.specs.Waiters.{ticket_of, waits_of}
 use Rattle.golf_state_queues.specs.WaitQueues.{WaitQueues, listed, key, keys_of, leaves, TicketsBelow, IsWithout}

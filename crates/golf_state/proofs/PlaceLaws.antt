@@ -1,17 +1,13 @@
 -- What changes of places do to the map of goroutines, and to the list of those that run.
 -- For: `plain_entries`, `running_of` (golf_state_goroutines/specs/Places.antt) and `Roster::get_mut`
 -- By: induction over the entries of the map for one that is put; otherwise the laws of maps and cases
-use Rattle.std.proofs.Common.{◌≡◌, ℕ, suc, ◌+◌, ◌-◌, ◌<◌, ◌≤◌, Bool, true, false, not, cond, ◌&&◌, ◌||◌, List, [], ◌∷◌}
-use Rattle.std.proofs.Common.{◌++◌, length, filter, Option, Some, None, ◌==◌, refl, sym, ap, ◌∙◌, subst, arith}
-use Rattle.std.proofs.Common.{slice_get, slice_set}
+use Rattle.std.proofs.Common.{◌≡◌, ℕ, suc, ◌-◌, ◌<◌, ◌≤◌, Bool, true, false, not, cond, ◌&&◌, ◌||◌, List, [], ◌∷◌}
+use Rattle.std.proofs.Common.{◌++◌, length, Option, Some, None, ◌==◌, refl, sym, ap, ◌∙◌, subst, arith}
 use Rattle.std.specs.Prelude.{option_map, is_some}
 use Rattle.std.proofs.lemmas.Bool.{not-true, eqb-true, eqb-false, eq-eqb, ne_eqb}
-use Rattle.std.proofs.lemmas.List.{map-append, length-set}
-use Rattle.std.proofs.lemmas.Option.{slice_get-map}
+use Rattle.std.proofs.lemmas.List.{map-append}
 use Rattle.golf_data.specs.declared.goroutine.Goroutine.{Goroutine}
 use Rattle.golf_data.specs.declared.goroutine.Queued.{Queued}
-use Rattle.golf_heap.specs.Objects.{rank}
-use Rattle.golf_heap.proofs.Ranks.{at_key, find-rank}
 use Rattle.golf_theory.specs.Maps.{find, put, add, only, keys_where, Rises, AllBelow}
 use Rattle.golf_theory.specs.Stored.{placed, without}
 use Rattle.golf_theory.proofs.MapFinds.{Entry-above, find-Entry, find-put, find-only}
@@ -28,9 +24,10 @@ use Rattle.golf_state_goroutines.specs.Places.{plain_entry, plain_entries, runni
 use Rattle.golf_state_goroutines.specs.Goroutines.{AllUnder, IsNone}
 use Rattle.golf_state.specs.Ready.{AllReady}
 use Rattle.golf_state.specs.Roominess.{IsReadyIn}
-use Rattle.golf_state_goroutines.specs.declared.places.NumberedGoroutine.{NumberedGoroutine}
-use Rattle.golf_heap.proofs.Keyed.{set-keyed}
-use Rattle.golf_state.proofs.Readiness.{ready-at, ready-set}
+use Rattle.golf_blocks.proofs.Parts.{only-length}
+use Rattle.golf_blocks.proofs.SpotLaws.{put-length}
+use Rattle.golf_state_goroutines.proofs.PlaceLaws.{find-plain, put-plain, only-plain}
+use Rattle.golf_state.proofs.Readiness.{ready-at, ready-put}
 
 -- ---- what is put
 
@@ -90,7 +87,7 @@ pub there-left : (g k : ℕ) (es : List (ℕ × GoroutineView)) → k < g → is
 there-left g k es l h = ap (λ (o : Option GoroutineView). is_some o)
     (find-only (λ h. not (h == g)) es k (ap not (ne_eqb k g (λ e. omega (arith, e, l))))) ∙ h
 
-pub push-at : (gs : List NumberedGoroutine) (q : NumberedGoroutine) (k : ℕ) (v : GoroutineView) → plain_entry q ≡ (k, v)
+pub push-at : (gs : List (ℕ × Goroutine)) (q : ℕ × Goroutine) (k : ℕ) (v : GoroutineView) → plain_entry q ≡ (k, v)
     → plain_entries (gs ++ q ∷ []) ≡ add k v (plain_entries gs)
 push-at gs q k v e = map-append plain_entry gs (q ∷ []) ∙ ap (λ (p : ℕ × GoroutineView). plain_entries gs ++ p ∷ []) e
 
@@ -135,49 +132,32 @@ under-next n es runs is a = rw is (under n es a)
           | false ↦ under n es a.1
         ]
 
-pub number-of : (p : NumberedGoroutine) (n : ℕ) (v : GoroutineView) → plain_entry p ≡ (n, v) → p.number ≡ n
+pub number-of : (p : ℕ × Goroutine) (n : ℕ) (v : GoroutineView) → plain_entry p ≡ (n, v) → p.0 ≡ n
 number-of p n v e = ap (λ (d : ℕ × GoroutineView). d.0) e
 
 -- ---- one has left
 
-pub entries-left : (gs : List NumberedGoroutine) (g : ℕ)
-    → plain_entries (filter (λ p. not (p.number == g)) gs) ≡ only (λ h. not (h == g)) (plain_entries gs)
-entries-left [] g = refl
-entries-left (p ∷ gs) g = elim (p.number == g) as (λ b. plain_entries
-    (cond (not b) (p ∷ filter (λ p. not (p.number == g)) gs) (filter (λ p. not (p.number == g)) gs)) ≡ cond (not b)
-    (plain_entry p ∷ only (λ h. not (h == g)) (plain_entries gs)) (only (λ h. not (h == g)) (plain_entries gs))) [
-      | true ↦ entries-left gs g
-      | false ↦ ap (λ (es : List (ℕ × GoroutineView)). plain_entry p ∷ es) (entries-left gs g)
-    ]
+pub entries-left : (gs : List (ℕ × Goroutine)) (g : ℕ)
+    → plain_entries (only (λ h. not (h == g)) gs) ≡ only (λ h. not (h == g)) (plain_entries gs)
+entries-left gs g = only-plain (λ h. not (h == g)) gs
 
-pub ready-left : (gs : List NumberedGoroutine) (g : ℕ) → AllReady gs → AllReady (filter (λ p. not (p.number == g)) gs)
+pub ready-left : (gs : List (ℕ × Goroutine)) (g : ℕ) → AllReady gs → AllReady (only (λ h. not (h == g)) gs)
 ready-left [] g a = tt
-ready-left (p ∷ gs) g a = elim (p.number == g) as (λ b. AllReady
-    (cond (not b) (p ∷ filter (λ p. not (p.number == g)) gs) (filter (λ p. not (p.number == g)) gs))) [
+ready-left (p ∷ gs) g a = elim (p.0 == g) as (λ b. AllReady
+    (cond (not b) (p ∷ only (λ h. not (h == g)) gs) (only (λ h. not (h == g)) gs))) [
       | true ↦ ready-left gs g a.1
       | false ↦ (a.0, ready-left gs g a.1)
     ]
 
-pub fewer-left : (gs : List NumberedGoroutine) (g : ℕ) → length (filter (λ p. not (p.number == g)) gs) ≤ length gs
-fewer-left [] g = omega arith
-fewer-left (p ∷ gs) g = let rest = fewer-left gs
-    g in elim (p.number == g) as (λ b. length
-    (cond (not b) (p ∷ filter (λ p. not (p.number == g)) gs) (filter (λ p. not (p.number == g)) gs)) ≤ length
-    (p ∷ gs)) [
-      | true ↦ omega (arith, rest)
-      | false ↦ omega (arith, rest)
-    ]
+pub fewer-left : (gs : List (ℕ × Goroutine)) (g : ℕ) → length (only (λ h. not (h == g)) gs) ≤ length gs
+fewer-left gs g = only-length (λ h. not (h == g)) gs
 
--- ---- the goroutine that a roster lends, which stands at its rank
+-- ---- the goroutine that a roster lends
 
-module _ (gs : List NumberedGoroutine) (g : ℕ) (x : Goroutine)
-    (here : slice_get gs (rank g (plain_entries gs)) ≡ Some (record { number = g; goroutine = x }))
+module _ (gs : List (ℕ × Goroutine)) (g : ℕ) (x : Goroutine) (here : find g gs ≡ Some x)
     (rises : Rises 0 (plain_entries gs)) where
   pub lent-found : find g (plain_entries gs) ≡ Some (goroutine_view x)
-  lent-found =
-      find-rank g 0 (plain_entries gs) rises
-      ∙ ap (at_key g) (slice_get-map plain_entry gs (rank g (plain_entries gs)) ∙ ap (option_map plain_entry) here)
-      ∙ ap (λ b. cond b (Some (goroutine_view x)) None) (eq-eqb g g refl)
+  lent-found = find-plain g gs ∙ ap (option_map goroutine_view) here
 
   pub lent-runs : is_running_in (find g (plain_entries gs)) ≡ true → is_running x.mode ≡ true
   lent-runs h = ap is_running_in (sym lent-found) ∙ h
@@ -186,24 +166,18 @@ module _ (gs : List NumberedGoroutine) (g : ℕ) (x : Goroutine)
   lent-blocked h = not-true (is_running x.mode) (ap is_blocked_in (sym lent-found) ∙ h)
 
   pub lent-ready : AllReady gs → IsReadyIn x.mode x.frames
-  lent-ready ready = ready-at gs (rank g (plain_entries gs)) (record { number = g; goroutine = x }) ready here
+  lent-ready ready = ready-at gs g x ready here
 
   -- it becomes another one
-  pub lent-set : (y : Goroutine) → plain_entries
-      (slice_set gs (rank g (plain_entries gs)) (record { number = g; goroutine = y })) ≡ put g (goroutine_view y)
-      (plain_entries gs)
-  lent-set y = set-keyed (λ (p : NumberedGoroutine). p.number) (λ (p : NumberedGoroutine). goroutine_view p.goroutine) 0
-      (rank g (plain_entries gs)) gs (record { number = g; goroutine = x })
-      (record { number = g; goroutine = y }) rises here refl
+  pub lent-set : (y : Goroutine) → plain_entries (put g y gs) ≡ put g (goroutine_view y) (plain_entries gs)
+  lent-set y = put-plain g y gs
 
   -- and those that run with it
   pub lent-kept : {running runs : List ℕ} {next : ℕ} (y : Goroutine) → AreKept gs running next
       → IsReadyIn y.mode y.frames
       → runs ≡ running_of (put g (goroutine_view y) (plain_entries gs))
-      → AreKept (slice_set gs (rank g (plain_entries gs)) (record { number = g; goroutine = y })) runs next
+      → AreKept (put g y gs) runs next
   lent-kept {next = next} y k ready is =
-      let at = rank g (plain_entries gs) in
-      let q : NumberedGoroutine = record { number = g; goroutine = y } in
       let w = goroutine_view y in
       let es = plain_entries gs in
       let e = lent-set y in
@@ -212,13 +186,12 @@ module _ (gs : List NumberedGoroutine) (g : ℕ) (x : Goroutine)
         below = subst (AllBelow next) (sym e) (AllBelow-put next g w es k.below);
         zero = ap (λ (fs : List (ℕ × GoroutineView)). is_some (find 0 fs)) e ∙ there-put g w 0 es k.zero;
         running = is ∙ ap running_of (sym e);
-        few = omega (arith, length-set gs at q, k.few);
+        few = omega (arith, put-length g y gs, k.few);
         limit = k.limit;
-        ready = ready-set gs at q k.ready ready;
+        ready = ready-put gs g y k.ready ready;
       }
 
-  pub put-there : (y : Goroutine) → is_some
-      (find g (plain_entries (slice_set gs (rank g (plain_entries gs)) (record { number = g; goroutine = y })))) ≡ true
+  pub put-there : (y : Goroutine) → is_some (find g (plain_entries (put g y gs))) ≡ true
   put-there y = ap (λ (es : List (ℕ × GoroutineView)). is_some (find g es)) (lent-set y)
       ∙ ap is_some (find-put g (goroutine_view y) (plain_entries gs) (goroutine_view x) lent-found)
 

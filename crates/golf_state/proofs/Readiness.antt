@@ -1,7 +1,7 @@
 -- Goroutines that can be woken without more memory.
 -- For: `AllReady` (golf_state/specs/Ready.antt) and `HasRoom` (golf_state/specs/Roominess.antt)
 -- By: induction over the list of places
-use Rattle.std.proofs.Common.{◌≡◌, ℕ, zero, suc, ◌-◌, ◌<◌, ◌≤◌, true, false, cond, List, [], ◌∷◌, ◌++◌, length, Some}
+use Rattle.std.proofs.Common.{◌≡◌, ℕ, suc, ◌-◌, ◌≤◌, true, false, cond, List, [], ◌∷◌, ◌++◌, length, Some, ◌==◌}
 use Rattle.std.proofs.Common.{refl, sym, ap, ◌∙◌, subst, arith, slice_get, slice_set}
 use Rattle.std.proofs.lemmas.List.{length-set}
 use Rattle.std.proofs.lemmas.Option.{slice_get_within}
@@ -9,17 +9,14 @@ use Rattle.golf_data.specs.declared.goroutine.Frame.{Frame}
 use Rattle.golf_data.specs.declared.goroutine.Mode.{Mode}
 use Rattle.golf_model.specs.Views.{GoroutineView}
 use Rattle.golf_model.specs.State.{is_running}
+use Rattle.golf_theory.specs.Maps.{find, put}
+use Rattle.golf_theory.proofs.Readings.{set-here}
 use Rattle.golf_state_goroutines.specs.Places.{running_of}
 use Rattle.golf_state.specs.Ready.{HasRoomToWake, AllReady}
 use Rattle.golf_state.specs.Roominess.{HasRoom, HasRoomIn, IsReadyIn}
 use Rattle.golf_state.specs.Wakenings.{wakened}
 use Rattle.golf_state.specs.declared.frames.Wakening.{Wakening}
-use Rattle.golf_state_goroutines.specs.declared.places.NumberedGoroutine.{NumberedGoroutine}
-
-set-here : {X : Type 0} (xs : List X) (i : ℕ) (x : X) → i < length xs → slice_get (slice_set xs i x) i ≡ Some x
-set-here [] i x l = absurd (omega arith)
-set-here (y ∷ ys) zero x l = refl
-set-here (y ∷ ys) (suc i) x l = set-here ys i x (omega arith)
+use Rattle.golf_data.specs.declared.goroutine.Goroutine.{Goroutine}
 
 -- the innermost frame was changed
 pub room-set : (fs : List Frame) (f w : Frame) → slice_get fs (length fs - 1) ≡ Some f → 2 ≤ w.operands.spare
@@ -39,19 +36,27 @@ pub blocked-room : (m : Mode) (fs : List Frame) → is_running m ≡ false → I
 blocked-room Mode.Running fs h r = cc
 blocked-room (Mode.Blocked kind line waits ticket) fs h r = r
 
-pub ready-at : (ps : List NumberedGoroutine) (i : ℕ) (p : NumberedGoroutine) → AllReady ps → slice_get ps i ≡ Some p
-    → HasRoomToWake p
-ready-at [] i p r h = cc
-ready-at (q ∷ ps) zero p r h = let same : q ≡ p = cc in subst HasRoomToWake same r.0
-ready-at (q ∷ ps) (suc i) p r h = ready-at ps i p r.1 h
+pub ready-at : (ps : List (ℕ × Goroutine)) (g : ℕ) (x : Goroutine) → AllReady ps → find g ps ≡ Some x
+    → IsReadyIn x.mode x.frames
+ready-at [] g x r h = cc
+ready-at (p ∷ ps) g x r h = elim (g == p.0) as (λ b. cond b (Some p.1) (find g ps) ≡ Some x
+    → IsReadyIn x.mode x.frames) [
+      | true ↦ λ i. let same : p.1 ≡ x = cc in subst (λ (y : Goroutine). IsReadyIn y.mode y.frames) same r.0
+      | false ↦ λ i. ready-at ps g x r.1 i
+    ] h
 
-pub ready-set : (ps : List NumberedGoroutine) (i : ℕ) (q : NumberedGoroutine) → AllReady ps → HasRoomToWake q
-    → AllReady (slice_set ps i q)
-ready-set [] i q r h = tt
-ready-set (p ∷ ps) zero q r h = (h, r.1)
-ready-set (p ∷ ps) (suc i) q r h = (r.0, ready-set ps i q r.1 h)
+pub ready-put : (ps : List (ℕ × Goroutine)) (g : ℕ) (x : Goroutine) → AllReady ps → IsReadyIn x.mode x.frames
+    → AllReady (put g x ps)
+ready-put [] g x r h = tt
+ready-put (p ∷ ps) g x r h = (
+  elim (g == p.0) as (λ b. HasRoomToWake (p.0, cond b x p.1)) [
+    | true ↦ h
+    | false ↦ r.0
+  ],
+  ready-put ps g x r.1 h,
+)
 
-pub ready-push : (ps : List NumberedGoroutine) (q : NumberedGoroutine) → AllReady ps → HasRoomToWake q
+pub ready-push : (ps : List (ℕ × Goroutine)) (q : ℕ × Goroutine) → AllReady ps → HasRoomToWake q
     → AllReady (ps ++ q ∷ [])
 ready-push [] q r h = (h, tt)
 ready-push (p ∷ ps) q r h = (r.0, ready-push ps q r.1 h)

@@ -1,7 +1,7 @@
 -- A value that is a reference.
 -- For: `reference_in` (golf_state/src/operands.rt)
 -- By: cases of the value
-use Rattle.std.proofs.Common.{◌≡◌, ℕ}
+use Rattle.std.proofs.Common.{◌≡◌}
 use Rattle.golf_base.specs.declared.ids.ObjectId.{ObjectId}
 use Rattle.golf_data.specs.declared.value.Value.{Value}
 use Rattle.golf_state.specs.declared.operands.Reference.{Reference}

@@ -16,12 +16,12 @@ use Rattle.golf_model.specs.Laws.{head}
 use Rattle.golf_model.proofs.Firsts.{first-head, waiters-sound}
 use Rattle.golf_model.specs.Views.{GoroutineView}
 use Rattle.golf_model.specs.Waiters.{Waiter, same_side, wait_for, waits_of, waiter_of, first, waiters, earlier}
-use Rattle.golf_state_goroutines.specs.Blocks.{places_in}
+use Rattle.golf_blocks.specs.Blocks.{entries_in}
 use Rattle.golf_state_goroutines.specs.Places.{plain_entry, plain_entries}
 use Rattle.golf_state.specs.Seen.{sooner}
 use Rattle.golf_state.specs.Waited.{waiting_of}
-use Rattle.golf_state_goroutines.specs.declared.blocks.Block.{Block}
-use Rattle.golf_state_goroutines.specs.declared.places.NumberedGoroutine.{NumberedGoroutine}
+use Rattle.golf_blocks.specs.declared.blocks.Block.{Block}
+use Rattle.golf_data.specs.declared.goroutine.Goroutine.{Goroutine}
 use Rattle.golf_state_goroutines.proofs.PlaceLaws.{entries-append}
 
 -- ---- along the waits of a goroutine
@@ -55,7 +55,7 @@ sooner-earlier (Some v) (Some w) =
     (Some (waiting_of v)) ≡ option_map waiting_of (cond b (Some w) (Some v))) [ true ↦ refl | false ↦ refl ]
 
 -- one goroutine more, before the others
-pub seen_more : (gs : List NumberedGoroutine) (at : ℕ) (o : ℕ) (side : Side) (p : NumberedGoroutine)
+pub seen_more : (gs : List (ℕ × Goroutine)) (at : ℕ) (o : ℕ) (side : Side) (p : ℕ × Goroutine)
     (rest : List (ℕ × GoroutineView))
     → at < length gs → p ≡ get_or gs at p
     → sooner (option_map waiting_of (waiter_of o side (plain_entry p)))
@@ -73,12 +73,12 @@ seen_more gs at o side p rest l h =
     (sym (drop_more es at (plain_entry p) within))
 
 -- one block more, before the others
-pub entries-more : (bs : List Block) (at : ℕ) (b : Block) → at < length bs
-    → plain_entries (get_or bs at b).places.items
-    ++ plain_entries (places_in (drop (at + 1) bs)) ≡ plain_entries (places_in (drop at bs))
+pub entries-more : (bs : List (Block Goroutine)) (at : ℕ) (b : Block Goroutine) → at < length bs
+    → plain_entries (get_or bs at b).entries.items
+    ++ plain_entries (entries_in (drop (at + 1) bs)) ≡ plain_entries (entries_in (drop at bs))
 entries-more bs at b l =
-    sym (ap (λ (cs : List Block). plain_entries (places_in cs)) (drop_more bs at b l)
-    ∙ entries-append (get_or bs at b).places.items (places_in (drop (at + 1) bs)))
+    sym (ap (λ (cs : List (Block Goroutine)). plain_entries (entries_in cs)) (drop_more bs at b l)
+    ∙ entries-append (get_or bs at b).entries.items (entries_in (drop (at + 1) bs)))
 
 -- ---- the first waiter is blocked
 

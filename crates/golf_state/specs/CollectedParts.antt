@@ -1,6 +1,6 @@
 -- What a collection removes from a state, by flags.
 use Rattle.std.specs.Prelude.{Bool, List, ◌++◌}
-use Rattle.golf_heap.specs.Objects.{kept, left_out}
+use Rattle.golf_theory.specs.Flags.{kept, left_out}
 use Rattle.golf_model.specs.State.{State}
 use Rattle.golf_model.specs.Collections.{queued}
 

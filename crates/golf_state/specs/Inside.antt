@@ -5,7 +5,7 @@ use Rattle.golf_model.specs.State.{State}
 use Rattle.golf_state_goroutines.specs.Places.{plain_entries, running_of}
 use Rattle.golf_state.specs.Ready.{AllReady}
 use Rattle.golf_state.specs.Enqueued.{AreEnqueued}
-use Rattle.golf_state_goroutines.specs.declared.places.NumberedGoroutine.{NumberedGoroutine}
+use Rattle.golf_data.specs.declared.goroutine.Goroutine.{Goroutine}
 use Rattle.golf_state.specs.declared.state.State.TheInside.{Inside}
 
 -- contracts see only the items of operands
@@ -25,7 +25,7 @@ plain_state s = record {
 
 -- The goroutines are in rising order of number, below the next number, which is below 2^32. Goroutine 0 is there. The
 -- list of running goroutines is theirs, and each blocked one is ready to be woken.
-pub record AreKept (gs : List NumberedGoroutine) (active : List ℕ) (next : ℕ) : Type 0 where
+pub record AreKept (gs : List (ℕ × Goroutine)) (active : List ℕ) (next : ℕ) : Type 0 where
   pub rises : Rises 0 (plain_entries gs)
   pub below : AllBelow next (plain_entries gs)
   pub zero : is_some (find 0 (plain_entries gs)) ≡ true

@@ -18,7 +18,7 @@ ghost use Rattle.golf_model.specs.ClearedSlots.{clears};
 ghost use Rattle.golf_model.specs.Changes.{apply_all, make, replace, set_global, become, block, spawn, leave, finish};
 ghost use Rattle.golf_model.specs.Changes.{set_finaliser, clear_finaliser, take_queued, output as output_of, wake_all};
 ghost use Rattle.golf_model.specs.Changes.{requeue, move_wait};
-ghost use Rattle.golf_heap.specs.Objects.{kept};
+ghost use Rattle.golf_theory.specs.Flags.{kept};
 ghost use Rattle.golf_state_goroutines.specs.Places.{running_of};
 ghost use Rattle.golf_state.specs.CollectedParts.{queue_unflagged};
 ghost use Rattle.golf_state.specs.Looked.{looked_up, runs, is_blocked, frames_of, reframed, advanced, opening};

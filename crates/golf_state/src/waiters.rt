@@ -10,7 +10,7 @@ ghost use Rattle.golf_theory.specs.Maps.{Entry, Rises, find, keys};
 ghost use Rattle.golf_theory.specs.Membership.{is_in};
 ghost use Rattle.golf_model.specs.Waiters.{same_side, wait_for, waiter_of, first};
 ghost use Rattle.golf_model.specs.Views.{GoroutineView};
-ghost use Rattle.golf_state_goroutines.specs.Blocks.{places_in};
+ghost use Rattle.golf_blocks.specs.Blocks.{entries_in};
 ghost use Rattle.golf_model.specs.Changes.{moved, moved_waits};
 ghost use Rattle.golf_state_goroutines.specs.Places.{plain_entry, plain_entries};
 ghost use Rattle.golf_state_queues.specs.WaitQueues.{held, key, wait_queue_at, narrowed, standing, IsWithout};
@@ -21,9 +21,10 @@ ghost use Rattle.golf_state.specs.Left.{leaves_in, leaves_where};
 ghost use Rattle.golf_state.specs.Enqueued.{HasWaiters, has_queue};
 ghost use Rattle.golf_state.specs.Waited.{waiting_of};
 
-use golf_base::{GoroutineId, List, ObjectId};
-use golf_data::{Mode, Side, Wait};
-use golf_state_goroutines::{Block, NumberedGoroutine, Roster};
+use golf_base::{Boxed, GoroutineId, List, ObjectId};
+use golf_blocks::Block;
+use golf_data::{Goroutine, Mode, Side, Wait};
+use golf_state_goroutines::Roster;
 use golf_state_queues::{Queues, TicketHolder, side_number};
 
 /// A goroutine that waits on an object, with its first wait there, and its ticket.
@@ -69,15 +70,15 @@ pub fn wait_for(waits: &[Wait], object: ObjectId, side: Side) -> Option<Wait>
 }
 
 // The goroutine at a place as a waiter, if it waits on the object with that side.
-fn waiter_in(place: &NumberedGoroutine, object: ObjectId, side: Side) -> Option<Waiting>
+fn waiter_in(place: &(u32, Boxed<Goroutine>), object: ObjectId, side: Side) -> Option<Waiting>
     ensures { result ≡ option_map waiting_of (waiter_of object.0 side (plain_entry place.now)) }
 {
-    match &place.goroutine.get().mode {
+    match &place.1.get().mode {
         Mode::Running => None,
         Mode::Blocked { waits, ticket, .. } => {
             let wait = wait_for(waits.as_slice(), object, side)?;
             Some(Waiting {
-                goroutine: GoroutineId(place.number),
+                goroutine: GoroutineId(place.0),
                 wait,
                 ticket: *ticket,
             })
@@ -185,7 +186,7 @@ pub fn narrow_queues(queues: &mut Queues, roster: &Roster, were: usize)
 // The waiter with the smallest ticket among the goroutines of the places and `later`, which comes after
 // them.
 fn first_of(
-    places: &[NumberedGoroutine],
+    places: &[(u32, Boxed<Goroutine>)],
     object: ObjectId,
     side: Side,
     later: Option<Waiting>,
@@ -202,14 +203,18 @@ fn first_of(
 }
 
 /// Returns the first waiter of the object on this side, or `None`. It looks at all goroutines.
-pub fn first_waiter(blocks: &[Block], object: ObjectId, side: Side) -> Option<Waiting>
-    ensures { result ≡ option_map waiting_of (first object.0 side (plain_entries (places_in blocks.now))) }
+pub fn first_waiter(
+    blocks: &[Block<Boxed<Goroutine>>],
+    object: ObjectId,
+    side: Side,
+) -> Option<Waiting>
+    ensures { result ≡ option_map waiting_of (first object.0 side (plain_entries (entries_in blocks.now))) }
 {
     let mut best = None;
     let mut at = blocks.len();
     while at > 0 {
         at -= 1;
-        best = first_of(blocks[at].places.as_slice(), object, side, best);
+        best = first_of(blocks[at].entries.as_slice(), object, side, best);
     }
     best
 }

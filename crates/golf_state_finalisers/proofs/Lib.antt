@@ -1,6 +1,1 @@
-mod PairLaws
-mod Parts
-mod BlockLaws
-mod Places
-mod Halves
 mod Queueing

@@ -1,15 +1,15 @@
 -- The queue's entries for finalisers whose flag is false, one after another.
 -- For: `add_unflagged`, `unflagged_in` (src/walks.rt)
--- By: the laws of flagged lists (golf_heap/proofs/Flagged.antt)
+-- By: the laws of flagged lists (golf_theory/proofs/Flagged.antt)
 use Rattle.std.proofs.Common.{◌≡◌, ℕ, ◌+◌, ◌<◌, Bool, true, false, List, [], ◌∷◌, ◌++◌, length, take, drop, get_or, sym}
 use Rattle.std.proofs.Common.{ap, ◌∙◌, append_assoc}
 use Rattle.std.proofs.lemmas.List.{append-nil, map-append}
 use Rattle.std.proofs.lemmas.Option.{slice_get-get_or}
 use Rattle.golf_data.specs.declared.goroutine.Queued.{Queued}
 use Rattle.golf_model.specs.Collections.{queued}
-use Rattle.golf_heap.specs.Objects.{left_out}
-use Rattle.golf_heap.proofs.Flagged.{left_out-at}
-use Rattle.golf_state_finalisers.proofs.Parts.{left-split}
+use Rattle.golf_theory.specs.Flags.{left_out}
+use Rattle.golf_theory.proofs.Flagged.{left_out-at}
+use Rattle.golf_blocks.proofs.Parts.{left-split}
 
 abbrev entry : ℕ × ℕ → Queued
 entry e = record { object = record { 0 = e.0 }; function = e.1 }

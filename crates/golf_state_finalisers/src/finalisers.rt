@@ -1,18 +1,15 @@
 //! All finalisers of a running program.
 //!
-//! The invariant: the blocks are in order, no block is empty, and the count is that of all finalisers.
+//! They are the entries of a block map.
 
 ghost use Rattle.std.specs.Prelude.{◌≡◌, ◌==◌, [], None, not, length, IfOk, OnOk, OnErr};
 ghost use Rattle.golf_theory.specs.Maps.{find, insert, only};
-ghost use Rattle.golf_heap.specs.Objects.{kept, left_out};
+ghost use Rattle.golf_theory.specs.Flags.{kept, left_out};
 ghost use Rattle.golf_model.specs.Collections.{queued};
 
-use crate::blocks::{Block, block_of};
-use crate::insertions::put_in;
-use crate::pairs::function_in;
-use crate::removals::{retain_from, take_from};
-use crate::walks::{count_pairs, list_pairs, unflagged_in};
+use crate::walks::{list_pairs, unflagged_in};
 use golf_base::{List, Memory};
+use golf_blocks::BlockMap;
 use golf_data::Queued;
 use std::alloc::Global;
 use std::marker::Model;
@@ -24,8 +21,7 @@ use std::marker::Model;
 /// A call that answers `Memory` leaves the finalisers unchanged.
 #[derive(Debug, Drop)]
 pub struct Finalisers {
-    blocks: Vec<Block>,
-    count: usize,
+    entries: BlockMap<u32>,
 }
 
 impl Model for Finalisers {
@@ -33,11 +29,7 @@ impl Model for Finalisers {
 
     ghost Value = { List (ℕ × ℕ) };
 
-    ghost use Rattle.golf_state_finalisers.specs.Inside.{finalisers_of, AreFinalisers};
-
-    ghost view = { finalisers_of };
-
-    ghost invariant = { AreFinalisers };
+    ghost view = { λ s. s.entries };
 }
 
 impl Finalisers {
@@ -46,8 +38,7 @@ impl Finalisers {
         ensures { result ≡ [] }
     {
         Finalisers {
-            blocks: Vec::new(alloc),
-            count: 0,
+            entries: BlockMap::new(alloc),
         }
     }
 
@@ -55,16 +46,14 @@ impl Finalisers {
     pub fn count(&self) -> usize
         ensures { result ≡ length self.now }
     {
-        self.count
+        self.entries.count()
     }
 
     /// Returns the function of the object's finaliser, or `None`.
     pub fn function_of(&self, object: u32) -> Option<u32>
         ensures { result ≡ find object self.now }
     {
-        let blocks = self.blocks.as_slice();
-        let block = blocks.get(block_of(blocks, object))?;
-        function_in(block.pairs.as_slice(), object)
+        self.entries.get(object).copied()
     }
 
     /// Sets the finaliser of an object that has none.
@@ -73,24 +62,21 @@ impl Finalisers {
         ensures ok { OnOk result (self.new ≡ insert object function self.old) }
         ensures err { OnErr result (self.new ≡ self.old) }
     {
-        put_in(&mut self.blocks, object, function)?;
-        self.count += 1;
-        Ok(())
+        self.entries.put(object, function)
     }
 
     /// Removes the object's finaliser, if it has one. It takes no memory.
     pub fn take(&mut self, object: u32)
         ensures { self.new ≡ only (λ p. not (p == object)) self.old }
     {
-        let gone = take_from(&mut self.blocks, object);
-        self.count -= gone;
+        self.entries.take(object);
     }
 
     /// Returns all finalisers in rising order of their objects' numbers.
     pub fn list(&self, alloc: Global) -> Result<List<(u32, u32)>, Memory>
         ensures { IfOk result (λ pairs. pairs ≡ self.now) }
     {
-        list_pairs(alloc, self.blocks.as_slice())
+        list_pairs(alloc, self.entries.blocks())
     }
 
     /// Returns the entries of the finaliser queue for the finalisers whose flag is false. The flags are
@@ -99,7 +85,7 @@ impl Finalisers {
         requires { length stays.now ≡ length self.now }
         ensures { IfOk result (λ entries. entries ≡ queued (left_out stays.now self.now)) }
     {
-        unflagged_in(alloc, self.blocks.as_slice(), stays)
+        unflagged_in(alloc, self.entries.blocks(), stays)
     }
 
     /// Keeps the finalisers whose flag is true. The flags are in rising order of the objects' numbers.
@@ -108,7 +94,6 @@ impl Finalisers {
         requires { length stays.now ≡ length self.old }
         ensures { self.new ≡ kept stays.now self.old }
     {
-        retain_from(&mut self.blocks, stays);
-        self.count = count_pairs(self.blocks.as_slice());
+        self.entries.retain(stays);
     }
 }

@@ -4,12 +4,7 @@
 //!   at most the others of its block. If it makes or removes a block, it moves the later blocks too.
 #![tactic(auto)]
 
-mod blocks;
 mod finalisers;
-mod full_blocks;
-mod insertions;
-mod pairs;
-mod removals;
 mod walks;
 
 pub use finalisers::Finalisers;

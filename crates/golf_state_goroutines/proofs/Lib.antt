@@ -1,16 +1,10 @@
 pub mod Rises
-pub mod Numbered
-pub mod Listing
-pub mod Ranges
-pub mod Middles
-pub mod Gathers
+mod Numbered
+mod Listing
+mod Ranges
+mod Middles
+mod Splits
+mod Summing
+mod BlockLaws
+mod RunLaws
 pub mod PlaceLaws
-pub mod Splits
-pub mod Found
-pub mod Summing
-pub mod BlockLaws
-pub mod Openings
-pub mod Rosters
-pub mod Present
-pub mod Retains
-pub mod Readings

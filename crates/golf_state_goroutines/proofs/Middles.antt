@@ -1,45 +1,35 @@
 -- What concerns one number in a list of three parts, of which the first has smaller numbers and the last greater ones.
--- For: `places_in`, `running_in` (golf_state_goroutines/specs/Blocks.antt)
+-- For: `running_in` (golf_state_goroutines/specs/RunBlocks.antt)
 -- By: induction over the first part, and over the second
-use Rattle.std.proofs.Common.{◌≡◌, ℕ, zero, suc, ◌+◌, ◌<◌, ◌≤◌, Bool, true, false, cond, not, List, [], ◌∷◌, ◌++◌}
-use Rattle.std.proofs.Common.{length, filter, Option, Some, None, ◌==◌, nat_lt, refl, ap, ◌∙◌, arith, slice_get}
-use Rattle.std.proofs.Common.{slice_set}
+use Rattle.std.proofs.Common.{◌≡◌, ℕ, suc, ◌≤◌, Bool, true, false, cond, not, List, [], ◌∷◌, ◌++◌}
+use Rattle.std.proofs.Common.{length, filter, ◌==◌, nat_lt, refl, ap, ◌∙◌, arith}
 use Rattle.std.proofs.lemmas.Bool.{ne_eqb, lt-ltb, le-ltb}
-use Rattle.golf_theory.specs.Maps.{find, keys, Rises}
 use Rattle.golf_theory.specs.Stored.{placed, without}
-use Rattle.golf_theory.proofs.MapFinds.{find_below}
-use Rattle.golf_heap.specs.Objects.{rank}
 use Rattle.golf_state_goroutines.specs.RisingLists.{RisesFrom}
-use Rattle.golf_state_goroutines.specs.Goroutines.{AllUnder}
+use Rattle.golf_state_goroutines.specs.Goroutines.{AllUnder, IsNone}
 use Rattle.golf_state_goroutines.proofs.Rises.{without-above}
 
-module _ {X : Type 0} (p : X → Bool) where
-  pub filter-append : (xs ys : List X) → filter p (xs ++ ys) ≡ filter p xs ++ filter p ys
-  filter-append [] ys = refl
-  filter-append (x ∷ xs) ys = elim (p x) as (λ b. cond b (x ∷ filter p (xs ++ ys)) (filter p (xs ++ ys)) ≡ cond b
-      (x ∷ filter p xs) (filter p xs) ++ filter p ys) [
-        | true ↦ ap (λ (zs : List X). x ∷ zs) (filter-append xs ys)
-        | false ↦ filter-append xs ys
-      ]
+filter-append : {X : Type 0} (p : X → Bool) (xs ys : List X) → filter p (xs ++ ys) ≡ filter p xs ++ filter p ys
+filter-append p [] ys = refl
+filter-append {X} p (x ∷ xs) ys = elim (p x) as (λ b. cond b (x ∷ filter p (xs ++ ys)) (filter p (xs ++ ys)) ≡ cond b
+    (x ∷ filter p xs) (filter p xs) ++ filter p ys) [
+      | true ↦ ap (λ (zs : List X). x ∷ zs) (filter-append p xs ys)
+      | false ↦ filter-append p xs ys
+    ]
 
-  pub filter-length : (xs : List X) → length (filter p xs) ≤ length xs
-  filter-length [] = omega arith
-  filter-length (x ∷ xs) = let h = filter-length
-      xs in elim (p x) as (λ b. length (cond b (x ∷ filter p xs) (filter p xs)) ≤ suc (length xs)) [
-        | true ↦ omega (arith, h)
-        | false ↦ omega (arith, h)
-      ]
+pub filter-length : {X : Type 0} (p : X → Bool) (xs : List X) → length (filter p xs) ≤ length xs
+filter-length p [] = omega arith
+filter-length p (x ∷ xs) = let h = filter-length p
+    xs in elim (p x) as (λ b. length (cond b (x ∷ filter p xs) (filter p xs)) ≤ suc (length xs)) [
+      | true ↦ omega (arith, h)
+      | false ↦ omega (arith, h)
+    ]
 
--- ---- numbers
-
-without-under : (g : ℕ) (xs : List ℕ) → AllUnder g xs → without g xs ≡ xs
+pub without-under : (g : ℕ) (xs : List ℕ) → AllUnder g xs → without g xs ≡ xs
 without-under g [] u = refl
 without-under g (x ∷ xs) u =
     ap (λ b. cond (not b) (x ∷ without g xs) (without g xs)) (ne_eqb x g (λ e. omega (arith, u.0, e)))
     ∙ ap (λ (zs : List ℕ). x ∷ zs) (without-under g xs u.1)
-
-pub without-all : (g : ℕ) (xs : List ℕ) → AllUnder g xs → without g xs ≡ xs
-without-all g xs u = without-under g xs u
 
 pub without-middle : (g : ℕ) (us ms bs : List ℕ) → AllUnder g us → RisesFrom (suc g) bs
     → without g (us ++ (ms ++ bs)) ≡ us ++ (without g ms ++ bs)
@@ -65,61 +55,13 @@ placed-middle g (a ∷ us) ms bs u r =
     ap (λ t. cond t (g ∷ a ∷ (us ++ (ms ++ bs))) (a ∷ placed g (us ++ (ms ++ bs)))) (le-ltb g a (omega (arith, u.0)))
     ∙ ap (λ (zs : List ℕ). a ∷ zs) (placed-middle g us ms bs u.1 r)
 
--- ---- entries
+-- a number above all others comes last
+pub placed-last : (g : ℕ) (ns : List ℕ) → AllUnder g ns → placed g ns ≡ ns ++ g ∷ []
+placed-last g [] u = refl
+placed-last g (x ∷ ns) u =
+    ap (λ t. cond t (g ∷ x ∷ ns) (x ∷ placed g ns)) (le-ltb g x (omega (arith, u.0)))
+    ∙ ap (λ (zs : List ℕ). x ∷ zs) (placed-last g ns u.1)
 
-module _ {X : Type 0} where
-  find-left : (g : ℕ) (ms bs : List (ℕ × X)) → Rises (suc g) bs → find g (ms ++ bs) ≡ find g ms
-  find-left g [] bs r = find_below g (suc g) bs (omega arith) r
-  find-left g (m ∷ ms) bs r = ap (λ (o : Option X). cond (g == m.0) (Some m.1) o) (find-left g ms bs r)
-
-  pub find-middle : (g : ℕ) (us ms bs : List (ℕ × X)) → AllUnder g (keys us) → Rises (suc g) bs
-      → find g (us ++ (ms ++ bs)) ≡ find g ms
-  find-middle g [] ms bs u r = find-left g ms bs r
-  find-middle g (a ∷ us) ms bs u r =
-      ap (λ b. cond b (Some a.1) (find g (us ++ (ms ++ bs)))) (ne_eqb g a.0 (λ e. omega (arith, u.0, e)))
-      ∙ find-middle g us ms bs u.1 r
-
-  pub find-under : (g : ℕ) (us : List (ℕ × X)) → AllUnder g (keys us) → find g us ≡ None
-  find-under g [] u = refl
-  find-under g (a ∷ us) u = ap (λ b. cond b (Some a.1) (find g us)) (ne_eqb g a.0 (λ e. omega (arith, u.0, e)))
-      ∙ find-under g us u.1
-
-  rank-left : (g : ℕ) (ms bs : List (ℕ × X)) → Rises (suc g) bs → rank g (ms ++ bs) ≡ rank g ms
-  rank-left g [] [] r = refl
-  rank-left g [] (b ∷ bs) r = ap (λ t. cond t (suc (rank g bs)) 0) (le-ltb b.0 g (omega (arith, r.0)))
-  rank-left g (m ∷ ms) bs r = ap (λ n. cond (nat_lt m.0 g) (suc n) 0) (rank-left g ms bs r)
-
-  pub rank-middle : (g : ℕ) (us ms bs : List (ℕ × X)) → AllUnder g (keys us) → Rises (suc g) bs
-      → rank g (us ++ (ms ++ bs)) ≡ length us + rank g ms
-  rank-middle g [] ms bs u r = let h = rank-left g ms bs r in omega (arith, h)
-  rank-middle g (a ∷ us) ms bs u r =
-      let h = rank-middle g us ms bs u.1 r in
-      ap (λ t. cond t (suc (rank g (us ++ (ms ++ bs)))) 0) (lt-ltb a.0 g u.0)
-      ∙ (let q : suc (rank g (us ++ (ms ++ bs))) ≡ suc (length us) + rank g ms = omega (arith, h) in q)
-
--- ---- by index
-
-module _ {X : Type 0} where
-  get-left : (ms bs : List X) (i : ℕ) → i < length ms → slice_get (ms ++ bs) i ≡ slice_get ms i
-  get-left [] bs i l = absurd (omega (arith, l))
-  get-left (m ∷ ms) bs zero l = refl
-  get-left (m ∷ ms) bs (suc i) l = get-left ms bs i (omega (arith, l))
-
-  pub get-middle : (us ms bs : List X) (i j : ℕ) → i < length ms → j ≡ length us + i
-      → slice_get (us ++ (ms ++ bs)) j ≡ slice_get ms i
-  get-middle [] ms bs i j l e = ap (slice_get (ms ++ bs)) (let q : j ≡ i = omega (arith, e) in q) ∙ get-left ms bs i l
-  get-middle (a ∷ us) ms bs i zero l e = absurd (omega (arith, e))
-  get-middle (a ∷ us) ms bs i (suc j) l e = get-middle us ms bs i j l (omega (arith, e))
-
-  set-left : (ms bs : List X) (i : ℕ) (x : X) → i < length ms → slice_set (ms ++ bs) i x ≡ slice_set ms i x ++ bs
-  set-left [] bs i x l = absurd (omega (arith, l))
-  set-left (m ∷ ms) bs zero x l = refl
-  set-left (m ∷ ms) bs (suc i) x l = ap (λ (zs : List X). m ∷ zs) (set-left ms bs i x (omega (arith, l)))
-
-  pub set-middle : (us ms bs : List X) (i j : ℕ) (x : X) → i < length ms → j ≡ length us + i
-      → slice_set (us ++ (ms ++ bs)) j x ≡ us ++ (slice_set ms i x ++ bs)
-  set-middle [] ms bs i j x l e = ap (λ (k : ℕ). slice_set (ms ++ bs) k x) (let q : j ≡ i = omega (arith, e) in q)
-      ∙ set-left ms bs i x l
-  set-middle (a ∷ us) ms bs i zero x l e = absurd (omega (arith, e))
-  set-middle (a ∷ us) ms bs i (suc j) x l e =
-      ap (λ (zs : List X). a ∷ zs) (set-middle us ms bs i j x l (omega (arith, e)))
+pub under-none : (g : ℕ) (ns : List ℕ) → AllUnder g ns → IsNone g ns
+under-none g [] u = tt
+under-none g (x ∷ ns) u = (λ e. omega (arith, u.0, e), under-none g ns u.1)

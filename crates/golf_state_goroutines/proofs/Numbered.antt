@@ -1,11 +1,11 @@
 -- The list of goroutines as a list of numbers.
--- For: `numbers` (golf_state_goroutines/specs/Blocks.antt) and `put_in`, `leave_out` (src/rising_lists.rt)
+-- For: `numbers` (golf_state_goroutines/specs/RunBlocks.antt) and `put_in`, `leave_out` (src/rising_lists.rt)
 -- By: induction over the list of goroutines, and over how many of them are taken or dropped
 use Rattle.std.proofs.Common.{◌≡◌, ℕ, zero, suc, List, [], ◌∷◌, ◌++◌, take, drop, refl, ap, ◌∙◌}
 use Rattle.std.specs.Prelude.{insert, remove}
 use Rattle.std.proofs.lemmas.List.{map-append}
 use Rattle.golf_base.specs.declared.ids.GoroutineId.{GoroutineId}
-use Rattle.golf_state_goroutines.specs.Blocks.{numbers}
+use Rattle.golf_state_goroutines.specs.RunBlocks.{numbers}
 
 numbers-take : (n : ℕ) (xs : List GoroutineId) → numbers (take n xs) ≡ take n (numbers xs)
 numbers-take zero xs = refl

@@ -1,14 +1,12 @@
 -- Numbers that rise within bounds.
--- For: `RisesIn` (golf_state_goroutines/specs/Blocks.antt)
--- By: induction over the list of numbers or of entries
+-- For: `RisesIn` (golf_state_goroutines/specs/RunBlocks.antt)
+-- By: induction over the list of numbers
 use Rattle.std.proofs.Common.{◌≡◌, ℕ, suc, ◌+◌, ◌<◌, ◌≤◌, Bool, true, false, cond, List, [], ◌∷◌, ◌++◌, length, filter}
 use Rattle.std.proofs.Common.{nat_lt, refl, sym, arith}
 use Rattle.std.proofs.lemmas.Bool.{ltb-true, ltb-false}
-use Rattle.golf_theory.specs.Maps.{keys, keys_where, Rises}
 use Rattle.golf_theory.specs.Stored.{placed}
-use Rattle.golf_heap.specs.Objects.{kept}
 use Rattle.golf_state_goroutines.specs.RisingLists.{RisesFrom}
-use Rattle.golf_state_goroutines.specs.Blocks.{RisesIn}
+use Rattle.golf_state_goroutines.specs.RunBlocks.{RisesIn}
 use Rattle.golf_state_goroutines.specs.Goroutines.{AllUnder, IsNone}
 
 pub in-length : (lo hi : ℕ) (xs : List ℕ) → RisesIn lo hi xs → lo + length xs ≤ hi
@@ -27,10 +25,6 @@ pub in-from : (j lo hi : ℕ) (xs : List ℕ) → j ≤ lo → RisesIn lo hi xs 
 in-from j lo hi [] l r = tt
 in-from j lo hi (x ∷ xs) l r = (omega (arith, l, r.0), in-from (suc x) (suc x) hi xs (omega arith) r.1)
 
-pub in-rises : {X : Type 0} (j lo hi : ℕ) (es : List (ℕ × X)) → j ≤ lo → RisesIn lo hi (keys es) → Rises j es
-in-rises j lo hi [] l r = tt
-in-rises j lo hi (e ∷ es) l r = (omega (arith, l, r.0), in-rises (suc e.0) (suc e.0) hi es (omega arith) r.1)
-
 pub in-under : (n lo hi : ℕ) (xs : List ℕ) → hi ≤ n → RisesIn lo hi xs → AllUnder n xs
 in-under n lo hi [] l r = tt
 in-under n lo hi (x ∷ xs) l r = let h = in-length
@@ -43,31 +37,9 @@ in-filter p lo hi (x ∷ xs) r = elim (p x) as (λ b. RisesIn lo hi (cond b (x �
   | false ↦ in-less lo (suc x) hi (filter p xs) (omega (arith, r.0)) (in-filter p (suc x) hi xs r.1)
 ]
 
-pub in-kept : (bs : List Bool) (lo hi : ℕ) (xs : List ℕ) → RisesIn lo hi xs → RisesIn lo hi (kept bs xs)
-in-kept [] lo hi xs r = let h = in-length lo hi xs r in omega (arith, h)
-in-kept (b ∷ bs) lo hi [] r = r
-in-kept (b ∷ bs) lo hi (x ∷ xs) r = elim b as (λ b. RisesIn lo hi (cond b (x ∷ kept bs xs) (kept bs xs))) [
-  | true ↦ (r.0, in-kept bs (suc x) hi xs r.1)
-  | false ↦ in-less lo (suc x) hi (kept bs xs) (omega (arith, r.0)) (in-kept bs (suc x) hi xs r.1)
-]
-
-pub in-keys_where : {X : Type 0} (p : ℕ → X → Bool) (lo hi : ℕ) (es : List (ℕ × X)) → RisesIn lo hi (keys es)
-    → RisesIn lo hi (keys_where p es)
-in-keys_where p lo hi [] r = r
-in-keys_where p lo hi (e ∷ es) r = elim (p e.0 e.1) as (λ b. RisesIn lo hi
-    (cond b (e.0 ∷ keys_where p es) (keys_where p es))) [
-      | true ↦ (r.0, in-keys_where p (suc e.0) hi es r.1)
-      | false ↦ in-less lo (suc e.0) hi (keys_where p es) (omega (arith, r.0)) (in-keys_where p (suc e.0) hi es r.1)
-    ]
-
 pub in-append : (lo mid hi : ℕ) (xs ys : List ℕ) → RisesIn lo mid xs → RisesIn mid hi ys → RisesIn lo hi (xs ++ ys)
 in-append lo mid hi [] ys r s = in-less lo mid hi ys r s
 in-append lo mid hi (x ∷ xs) ys r s = (r.0, in-append (suc x) mid hi xs ys r.1 s)
-
-pub in-push : (lo hi g : ℕ) (xs : List ℕ) → RisesIn lo hi xs → AllUnder g xs → lo ≤ g → g < hi
-    → RisesIn lo hi (xs ++ g ∷ [])
-in-push lo hi g [] r u l h = (l, omega (arith, h))
-in-push lo hi g (x ∷ xs) r u l h = (r.0, in-push (suc x) hi g xs r.1 u.1 (omega (arith, u.0)) h)
 
 other : (x g : ℕ) → g ≤ x → (x ≡ g → ⊥) → g < x
 other x g l n = omega (arith, l, n)

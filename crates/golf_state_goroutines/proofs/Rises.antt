@@ -12,7 +12,7 @@ use Rattle.std.proofs.lemmas.Option.{slice_get_read, slice_get-map, slice_get-ge
 use Rattle.golf_base.specs.declared.ids.GoroutineId.{GoroutineId}
 use Rattle.golf_theory.specs.Maps.{keys_where, Rises}
 use Rattle.golf_theory.specs.Stored.{placed, without}
-use Rattle.golf_state_goroutines.specs.Blocks.{numbers}
+use Rattle.golf_state_goroutines.specs.RunBlocks.{numbers}
 use Rattle.golf_state_goroutines.specs.RisingLists.{RisesFrom, leading}
 
 -- ---- keys rise

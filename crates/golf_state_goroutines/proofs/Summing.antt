@@ -1,15 +1,17 @@
 -- How many run in each 64 blocks, once one block has changed.
 -- For: `HasSums` (golf_state_goroutines/specs/Sums.antt)
 -- By: cases of the block's number and of the 64 blocks
-use Rattle.std.proofs.Common.{◌≡◌, ℕ, zero, suc, ◌+◌, ◌*◌, ◌/◌, ◌<◌, ◌≤◌, List, [], ◌∷◌, ◌++◌, length, take, get_or}
+use Rattle.std.proofs.Common.{◌≡◌, ℕ, zero, suc, ◌+◌, ◌*◌, ◌/◌, ◌<◌, ◌≤◌, List, [], ◌∷◌, length, take, get_or}
 use Rattle.std.proofs.Common.{Some, inl, inr, refl, sym, ap, ◌∙◌, arith, slice_get, slice_set}
 use Rattle.std.proofs.lemmas.Bool.{cases_lt}
-use Rattle.std.proofs.lemmas.List.{length-map, length-set, length-append, take-take, take_all, length-take-le}
+use Rattle.std.proofs.lemmas.List.{length-map, length-set, take-take, take_all, length-take-le}
 use Rattle.golf_base.specs.declared.ids.GoroutineId.{GoroutineId}
-use Rattle.golf_state_goroutines.specs.Blocks.{numbers, running_in, runs_before}
+use Rattle.golf_state_goroutines.specs.RunBlocks.{numbers, running_in, runs_before}
 use Rattle.golf_state_goroutines.specs.Sums.{AreSums, HasSums}
-use Rattle.golf_state_goroutines.specs.declared.blocks.Block.{Block}
-use Rattle.golf_state_goroutines.proofs.Gathers.{gather-change, gather-before, gather-empty, gather-less, gather-next}
+use Rattle.golf_state_goroutines.specs.declared.run_blocks.RunBlock.{RunBlock}
+use Rattle.golf_blocks.specs.Gather.{gather}
+use Rattle.golf_blocks.proofs.Gathers.{gather-change, gather-before, gather-less, gather-next}
+use Rattle.golf_state_goroutines.proofs.BlockLaws.{numbers-length}
 
 pub get-same : (ns : List ℕ) (i v : ℕ) → i < length ns → get_or (slice_set ns i v) i 0 ≡ v
 get-same [] i v l = absurd (omega (arith, l))
@@ -54,46 +56,26 @@ pub inside : (i n m : ℕ) → i < n → n ≤ 64 * m → i / 64 < m
 inside i n m a b = omega (arith, a, b)
 
 -- one block changes
-pub sums-set : (bs : List Block) (ns : List ℕ) (i d e v : ℕ) (b c : Block) → HasSums bs ns → slice_get bs i ≡ Some b
+pub sums-set : (bs : List RunBlock) (ns : List ℕ) (i d e v : ℕ) (b c : RunBlock) → HasSums bs ns → slice_get bs i ≡ Some b
     → i < length bs
     → length c.running.items + e ≡ length b.running.items + d → v + e ≡ get_or ns (i / 64) 0 + d
     → HasSums (slice_set bs i c) (slice_set ns (i / 64) v)
 sums-set bs ns i d e v b c s h l is vs = record {
   each = sums-change (runs_before bs) (runs_before (slice_set bs i c)) ns i d e v s.each
       (inside i (length bs) (length ns) l s.enough)
-      (λ n k. ap (λ (xs : List ℕ). length xs) (gather-before (λ (b : Block). numbers b.running.items) bs i n c k))
+      (λ n k. ap (λ (xs : List ℕ). length xs) (gather-before (λ (b : RunBlock). numbers b.running.items) bs i n c k))
       (λ n k.
-      let r = gather-change (λ (b : Block). numbers b.running.items) bs i n b c k h in
+      let r = gather-change (λ (b : RunBlock). numbers b.running.items) bs i n b c k h in
       let x = length-map b.running.items (λ (g : GoroutineId). g.0) in
       let y = length-map c.running.items (λ (g : GoroutineId). g.0) in
       omega (arith, r, x, y, is)) vs;
   enough = omega (arith, length-set bs i c, length-set ns (i / 64) v, s.enough);
 }
 
--- those that run there do not change
-pub sums-same : (bs : List Block) (ns : List ℕ) (i : ℕ) (b c : Block) → HasSums bs ns → slice_get bs i ≡ Some b
-    → numbers c.running.items ≡ numbers b.running.items → HasSums (slice_set bs i c) ns
-sums-same bs ns i b c s h e = record {
-  each = λ j.
-      let x = same (64 * j + 64) in
-      let y = same (64 * j) in
-      omega (arith, x, y, s.each j);
-  enough = omega (arith, length-set bs i c, s.enough);
-}
-  where
-    same : (n : ℕ) → runs_before (slice_set bs i c) n ≡ runs_before bs n
-    same n = elim (cases_lt i n) [
-      | inl l ↦
-          let r = gather-change (λ (b : Block). numbers b.running.items) bs i n b c l h in
-          let q = ap (λ (xs : List ℕ). length xs) e in
-          omega (arith, r, q)
-      | inr l ↦ ap (λ (xs : List ℕ). length xs) (gather-before (λ (b : Block). numbers b.running.items) bs i n c l)
-    ]
-
 -- one sum is at most all
-pub sum-few : (bs : List Block) (ns : List ℕ) (j : ℕ) → HasSums bs ns → get_or ns j 0 ≤ length (running_in bs)
+pub sum-few : (bs : List RunBlock) (ns : List ℕ) (j : ℕ) → HasSums bs ns → get_or ns j 0 ≤ length (running_in bs)
 sum-few bs ns j s = let a = s.each j in let b =
-    gather-less (λ (b : Block). numbers b.running.items) bs (64 * j + 64) in omega (arith, a, b)
+    gather-less (λ (b : RunBlock). numbers b.running.items) bs (64 * j + 64) in omega (arith, a, b)
 
 -- what is read within a list does not depend on what stands past its end
 pub read-any : (ns : List ℕ) (i d v : ℕ) → i < length ns → v ≡ get_or ns i d → v ≡ get_or ns i 0
@@ -106,44 +88,65 @@ runs-none zero = refl
 runs-none (suc n) = refl
 
 -- one block more is summed up
-pub sums-more : (bs : List Block) (ns : List ℕ) (i v : ℕ) (b : Block) → AreSums (runs_before (take i bs)) ns
+pub sums-more : (bs : List RunBlock) (ns : List ℕ) (i v : ℕ) (b : RunBlock) → AreSums (runs_before (take i bs)) ns
     → slice_get bs i ≡ Some b → i < length bs → i / 64 < length ns
     → v ≡ get_or ns (i / 64) 0 + length b.running.items
     → AreSums (runs_before (take (i + 1) bs)) (slice_set ns (i / 64) v)
 sums-more bs ns i v b a h l within is =
     sums-change (runs_before (take i bs)) (runs_before (take (i + 1) bs)) ns i (length b.running.items) 0 v a within
-    (λ n k. ap (λ (cs : List Block). length (running_in cs))
+    (λ n k. ap (λ (cs : List RunBlock). length (running_in cs))
     (take-take n (i + 1) bs (omega (arith, k)) ∙ sym (take-take n i bs k)))
     (λ n k.
-    let x = ap (λ (cs : List Block). length (running_in cs))
+    let x = ap (λ (cs : List RunBlock). length (running_in cs))
     (take_all n (take (i + 1) bs) (omega (arith, k, length-take-le (i + 1) bs (omega (arith, l))))) in
-    let y = ap (λ (cs : List Block). length (running_in cs))
+    let y = ap (λ (cs : List RunBlock). length (running_in cs))
     (take_all n (take i bs) (omega (arith, k, length-take-le i bs (omega (arith, l))))) in
-    let z = gather-next (λ (b : Block). numbers b.running.items) bs i b h in
+    let z = gather-next (λ (b : RunBlock). numbers b.running.items) bs i b h in
     omega (arith, x, y, z, length-map b.running.items (λ (g : GoroutineId). g.0)))
     (omega (arith, is))
 
 -- a sum, and one block's more, are at most all
-pub sum-next : (bs : List Block) (ns : List ℕ) (i : ℕ) (b : Block) → AreSums (runs_before (take i bs)) ns
+pub sum-next : (bs : List RunBlock) (ns : List ℕ) (i : ℕ) (b : RunBlock) → AreSums (runs_before (take i bs)) ns
     → slice_get bs i ≡ Some b → get_or ns (i / 64) 0 + length b.running.items ≤ length (running_in bs)
 sum-next bs ns i b a h =
     let j = i / 64 in
     let x = a j in
-    let y = gather-less (λ (b : Block). numbers b.running.items) (take i bs) (64 * j + 64) in
-    let z = gather-next (λ (b : Block). numbers b.running.items) bs i b h in
-    let w = gather-less (λ (b : Block). numbers b.running.items) bs (i + 1) in
+    let y = gather-less (λ (b : RunBlock). numbers b.running.items) (take i bs) (64 * j + 64) in
+    let z = gather-next (λ (b : RunBlock). numbers b.running.items) bs i b h in
+    let w = gather-less (λ (b : RunBlock). numbers b.running.items) bs (i + 1) in
     omega (arith, x, y, z, w, length-map b.running.items (λ (g : GoroutineId). g.0))
 
--- a block in which nobody runs, after the others
-pub sums-push : (bs : List Block) (ns : List ℕ) (c : Block) → AreSums (runs_before bs) ns → c.running.items ≡ []
-    → length bs + 1 ≤ 64 * length ns → HasSums (bs ++ c ∷ []) ns
-sums-push bs ns c a e l = record {
-  each = λ j.
-      let none = ap (λ (gs : List GoroutineId). numbers gs) e in
-      let x = ap (λ (xs : List ℕ). length xs)
-      (gather-empty (λ (b : Block). numbers b.running.items) bs (64 * j + 64) c none) in
-      let y = ap (λ (xs : List ℕ). length xs)
-      (gather-empty (λ (b : Block). numbers b.running.items) bs (64 * j) c none) in
-      omega (arith, x, y, a j);
-  enough = omega (arith, length-append bs (c ∷ []), l);
-}
+-- ---- what runs in one block is at most the sum, and the sum at most all
+
+module _ {X Y : Type 0} (f : X → List Y) where
+  gather-mono : (xs : List X) (m n : ℕ) → m ≤ n → length (gather f (take m xs)) ≤ length (gather f (take n xs))
+  gather-mono xs m n l =
+      let a = gather-less f (take n xs) m in
+      let b = ap (λ (ys : List X). length (gather f ys)) (take-take m n xs l) in
+      omega (arith, a, b)
+
+  pub gather-holds : (xs : List X) (i : ℕ) (x : X) → slice_get xs i ≡ Some x → length (f x) ≤ length (gather f xs)
+  gather-holds xs i x h = let a = gather-next f xs i x h in let b = gather-less f xs (i + 1) in omega (arith, a, b)
+
+  pub gather-between : (xs : List X) (i m n : ℕ) (x : X) → slice_get xs i ≡ Some x → m ≤ i → i + 1 ≤ n
+      → length (gather f (take m xs)) + length (f x) ≤ length (gather f (take n xs))
+  gather-between xs i m n x h l k =
+      let a = gather-next f xs i x h in
+      let b = gather-mono xs m i l in
+      let c = gather-mono xs (i + 1) n k in
+      omega (arith, a, b, c)
+
+-- the sum of 64 blocks is at least what runs in one of them
+pub sum-holds : (bs : List RunBlock) (ns : List ℕ) (i : ℕ) (b : RunBlock) → HasSums bs ns → slice_get bs i ≡ Some b
+    → length b.running.items ≤ get_or ns (i / 64) 0
+sum-holds bs ns i b s h =
+    let j = i / 64 in
+    let a = s.each j in
+    let c = gather-between (λ (b : RunBlock). numbers b.running.items) bs i (64 * j) (64 * j + 64) b h (low i) (high i) in
+    omega (arith, a, c, numbers-length b.running.items)
+  where
+    low : (i : ℕ) → 64 * (i / 64) ≤ i
+    low i = omega arith
+
+    high : (i : ℕ) → i + 1 ≤ 64 * (i / 64) + 64
+    high i = omega arith

@@ -1,23 +1,21 @@
 -- The model of a roster: the goroutines that are there, and how each operation changes them.
-use Rattle.std.specs.Prelude.{◌≡◌, ℕ, ◌<◌, ◌==◌, not, List, [], ◌∷◌, ◌++◌, filter, slice_set}
+use Rattle.std.specs.Prelude.{◌≡◌, ℕ, ◌<◌, ◌==◌, not, List, [], ◌∷◌, ◌++◌}
+use Rattle.golf_theory.specs.Maps.{put, only}
 use Rattle.golf_theory.specs.Stored.{placed, without}
 use Rattle.golf_data.specs.declared.goroutine.Goroutine.{Goroutine}
-use Rattle.golf_heap.specs.Objects.{rank}
-use Rattle.golf_state_goroutines.specs.Places.{plain_entries}
-use Rattle.golf_state_goroutines.specs.declared.places.NumberedGoroutine.{NumberedGoroutine}
 
 -- the goroutines in rising order of number, and the numbers of those that run in rising order
 pub record Goroutines : Type 0 where
-  pub places : List NumberedGoroutine
+  pub places : List (ℕ × Goroutine)
   pub running : List ℕ
 
 -- adds a running goroutine after the others
-abbrev pub added : NumberedGoroutine → Goroutines → Goroutines
-added p r = record { places = r.places ++ p ∷ []; running = r.running ++ p.number ∷ [] }
+abbrev pub added : ℕ × Goroutine → Goroutines → Goroutines
+added p r = record { places = r.places ++ p ∷ []; running = r.running ++ p.0 ∷ [] }
 
 -- removes the goroutine of this number
 abbrev pub parted : ℕ → Goroutines → Goroutines
-parted g r = record { places = filter (λ p. not (p.number == g)) r.places; running = without g r.running }
+parted g r = record { places = only (λ h. not (h == g)) r.places; running = without g r.running }
 
 -- removes the number from those that run
 abbrev pub stopped : ℕ → Goroutines → Goroutines
@@ -29,10 +27,7 @@ started g r = record r { running = placed g r.running }
 
 -- this goroutine replaces the one of this number, which is there
 abbrev pub changed : ℕ → Goroutine → Goroutines → Goroutines
-changed g x r = record r {
-  places = slice_set r.places (rank g (plain_entries r.places))
-      (record { number = g; goroutine = x });
-}
+changed g x r = record r { places = put g x r.places }
 
 -- all numbers are below n
 abbrev pub AllUnder : ℕ → List ℕ → Type 0

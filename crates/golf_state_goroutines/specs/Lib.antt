@@ -1,7 +1,9 @@
 pub mod Places
 pub mod RisingLists
 pub mod Goroutines
-pub mod Blocks
+pub mod RunBlocks
+pub mod RunLists
 pub mod Sums
+pub mod InsideRuns
 pub mod Inside
 pub mod Loans

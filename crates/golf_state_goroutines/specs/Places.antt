@@ -1,15 +1,15 @@
--- How the places of goroutines in memory map to the model: goroutine views by number.
+-- How the goroutines in memory map to the model: goroutine views by number.
 use Rattle.std.specs.Prelude.{ℕ, Bool, false, not, ◌==◌, ◌&&◌, List, [], ◌∷◌, map}
 use Rattle.golf_theory.specs.Maps.{keys_where}
+use Rattle.golf_data.specs.declared.goroutine.Goroutine.{Goroutine}
 use Rattle.golf_model.specs.Views.{GoroutineView, goroutine_view}
 use Rattle.golf_model.specs.State.{is_running, not_empty}
-use Rattle.golf_state_goroutines.specs.declared.places.NumberedGoroutine.{NumberedGoroutine}
 
-abbrev pub plain_entry : NumberedGoroutine → ℕ × GoroutineView
-plain_entry p = (p.number, goroutine_view p.goroutine)
+abbrev pub plain_entry : ℕ × Goroutine → ℕ × GoroutineView
+plain_entry p = (p.0, goroutine_view p.1)
 
 -- the goroutines by number
-abbrev pub plain_entries : List NumberedGoroutine → List (ℕ × GoroutineView)
+abbrev pub plain_entries : List (ℕ × Goroutine) → List (ℕ × GoroutineView)
 plain_entries ps = map plain_entry ps
 
 -- the numbers of the goroutines that are not blocked, in rising order

@@ -1,53 +1,32 @@
-//! Adds blocks, and removes blocks without a goroutine.
+//! Blocks of running goroutines are added, and removed if they are not needed.
 //!
-//! A block is added only at the end, for a number above all others. Blocks without a goroutine stay until a
-//! block is added or goroutines are removed in one batch.
+//! A block is needed if a goroutine of its numbers runs, or is there: then it can start to run.
 
-ghost use Rattle.std.specs.Prelude.{◌≡◌, ◌≤◌, ◌<◌, ◌+◌, ◌-◌, ◌*◌, ◌^◌, true, length, slice_get, OnOk};
-ghost use Rattle.golf_theory.specs.Maps.{AllBelow};
-ghost use Rattle.golf_state_goroutines.specs.Places.{plain_entries};
-ghost use Rattle.golf_state_goroutines.specs.Goroutines.{AllUnder};
-ghost use Rattle.golf_state_goroutines.specs.Blocks.{AreBlocks, AreFull, is_full, has_key, keyed_blocks, places_in};
-ghost use Rattle.golf_state_goroutines.specs.Blocks.{running_in};
+ghost use Rattle.std.specs.Prelude.{◌≡◌, ◌≤◌, ◌<◌, ◌+◌, ◌*◌, ◌^◌, ◌&&◌, ℕ, false, true, nat_lt, length, slice_get, OnOk};
+ghost use Rattle.golf_theory.specs.Maps.{rank};
+ghost use Rattle.golf_theory.specs.Membership.{In};
+ghost use Rattle.golf_state_goroutines.specs.RunBlocks.{AreRunBlocks, block_keys, keyed_blocks, running_in};
+ghost use Rattle.golf_state_goroutines.specs.RunLists.{has_place, is_needed, is_open};
 ghost use Rattle.golf_state_goroutines.specs.Sums.{HasSums};
 
-use crate::blocks::Block;
-use crate::counts::recount;
+use crate::run_blocks::RunBlock;
+use crate::sums::recount;
 use golf_base::Memory;
+use golf_blocks::BlockMap;
 
-// Whether the block has a goroutine.
-fn is_full(block: &Block) -> bool
-    ensures { result ≡ is_full block.now }
+/// Returns whether the block at this place is there, and has the key.
+#[inline(always)]
+pub fn is_open(blocks: &[RunBlock], at: usize, key: u32) -> bool
+    ensures { result ≡ is_open key (slice_get blocks.now at) }
 {
-    !block.places.is_empty() || !block.running.is_empty()
-}
-
-// Whether the last block has the key.
-fn ends_with(blocks: &[Block], key: u32) -> bool
-    ensures { result ≡ has_key key (slice_get blocks.now (length blocks.now - 1)) }
-{
-    match blocks.last() {
+    match blocks.get(at) {
         Some(block) => block.key == key,
         None => false,
     }
 }
 
-/// Removes the blocks without a goroutine, and makes the sums anew. It takes no memory.
-pub fn close_blocks(blocks: &mut Vec<Block>, sums: &mut Vec<usize>)
-    requires blocks { AreBlocks 0 blocks.old.items }
-    requires enough { length blocks.old.items ≤ 64 * length sums.old.items }
-    ensures blocks { AreBlocks 0 blocks.new.items }
-    ensures full { AreFull blocks.new.items }
-    ensures places { places_in blocks.new.items ≡ places_in blocks.old.items }
-    ensures running { running_in blocks.new.items ≡ running_in blocks.old.items }
-    ensures sums { HasSums blocks.new.items sums.new.items }
-{
-    blocks.retain(|block| is_full(block));
-    recount(blocks.as_slice(), sums);
-}
-
 // Makes room in the sums for one more block.
-fn make_sum(blocks: &[Block], sums: &mut Vec<usize>) -> Result<(), Memory>
+fn make_sum(blocks: &[RunBlock], sums: &mut Vec<usize>) -> Result<(), Memory>
     requires { HasSums blocks.now sums.old.items }
     ensures sums { HasSums blocks.now sums.new.items }
     ensures more { OnOk result (length blocks.now + 1 ≤ 64 * length sums.new.items) }
@@ -58,50 +37,66 @@ fn make_sum(blocks: &[Block], sums: &mut Vec<usize>) -> Result<(), Memory>
     Ok(())
 }
 
-// Adds a block without a goroutine after the others.
-fn add_block(blocks: &mut Vec<Block>, sums: &mut Vec<usize>, key: u32) -> Result<(), Memory>
-    requires blocks { AreBlocks 0 blocks.old.items }
-    requires below { AllBelow key (keyed_blocks blocks.old.items) }
+/// Adds a block in which no goroutine runs at this place, which is that of its key.
+pub fn add_block(
+    blocks: &mut Vec<RunBlock>,
+    sums: &mut Vec<usize>,
+    at: usize,
+    key: u32,
+) -> Result<(), Memory>
+    requires blocks { AreRunBlocks 0 blocks.old.items }
+    requires place { at ≡ rank key (keyed_blocks blocks.old.items) }
+    requires other { is_open key (slice_get blocks.old.items at) ≡ false }
     requires limit { key < 2 ^ 24 }
     requires sums { HasSums blocks.old.items sums.old.items }
-    ensures last { OnOk result (has_key key (slice_get blocks.new.items (length blocks.new.items - 1)) ≡ true) }
-    ensures blocks { AreBlocks 0 blocks.new.items }
-    ensures places { places_in blocks.new.items ≡ places_in blocks.old.items }
+    ensures blocks { AreRunBlocks 0 blocks.new.items }
     ensures running { running_in blocks.new.items ≡ running_in blocks.old.items }
+    ensures opened { OnOk result (In key (block_keys blocks.new.items)) }
+    ensures keys { (k : ℕ) → In k (block_keys blocks.old.items) → In k (block_keys blocks.new.items) }
     ensures sums { HasSums blocks.new.items sums.new.items }
 {
-    let alloc = *blocks.allocator();
-    let running = Vec::with_capacity(alloc, 256)?;
+    let running = Vec::with_capacity(*blocks.allocator(), 256)?;
     make_sum(blocks.as_slice(), sums)?;
-    blocks.push(Block {
-        key,
-        places: Vec::new(alloc),
-        running,
-    })?;
+    blocks.insert(at, RunBlock { key, running })?;
+    recount(blocks.as_slice(), sums);
     Ok(())
 }
 
-/// Makes the block of this key the last one. No number is above that block. On `Err` the goroutines are
-/// unchanged.
-pub fn open(blocks: &mut Vec<Block>, sums: &mut Vec<usize>, key: u32) -> Result<(), Memory>
-    requires blocks { AreBlocks 0 blocks.old.items }
-    requires below { AllBelow (key * 256 + 256) (plain_entries (places_in blocks.old.items)) }
-    requires under { AllUnder (key * 256 + 256) (running_in blocks.old.items) }
-    requires limit { key < 2 ^ 24 }
-    requires sums { HasSums blocks.old.items sums.old.items }
-    ensures last { OnOk result (has_key key (slice_get blocks.new.items (length blocks.new.items - 1)) ≡ true) }
-    ensures blocks { AreBlocks 0 blocks.new.items }
-    ensures places { places_in blocks.new.items ≡ places_in blocks.old.items }
+// Whether there is an entry for one of the 256 numbers of the block of this key.
+fn has_place<V: Drop>(places: &BlockMap<V>, key: u32) -> bool
+    ensures { result ≡ (nat_lt key (2 ^ 24) && has_place key places.now) }
+{
+    match key.checked_mul(256) {
+        Some(low) => {
+            match places.next(low) {
+                Some(number) => number / 256 == key,
+                None => false,
+            }
+        }
+        None => false,
+    }
+}
+
+// Whether a goroutine of the block runs, or is there.
+fn is_needed<V: Drop>(places: &BlockMap<V>, block: &RunBlock) -> bool
+    ensures { result ≡ is_needed places.now block.now }
+{
+    !block.running.is_empty() || has_place(places, block.key)
+}
+
+/// Removes the blocks that are not needed, and makes the sums anew. It takes no memory.
+pub fn close_blocks<V: Drop>(
+    blocks: &mut Vec<RunBlock>,
+    sums: &mut Vec<usize>,
+    places: &BlockMap<V>,
+)
+    requires blocks { AreRunBlocks 0 blocks.old.items }
+    requires enough { length blocks.old.items ≤ 64 * length sums.old.items }
+    ensures blocks { AreRunBlocks 0 blocks.new.items }
     ensures running { running_in blocks.new.items ≡ running_in blocks.old.items }
+    ensures keys { (k : ℕ) → In k (block_keys blocks.old.items) → has_place k places.now ≡ true → In k (block_keys blocks.new.items) }
     ensures sums { HasSums blocks.new.items sums.new.items }
 {
-    if ends_with(blocks.as_slice(), key) {
-        return Ok(());
-    }
-    close_blocks(blocks, sums);
-    if ends_with(blocks.as_slice(), key) {
-        return Ok(());
-    }
-    add_block(blocks, sums, key)?;
-    Ok(())
+    blocks.retain(|block| is_needed(places, block));
+    recount(blocks.as_slice(), sums);
 }

@@ -1,20 +1,16 @@
-//! Walks over the blocks: to the k-th goroutine that runs, and over all numbers.
+//! Walks over the blocks of running goroutines: to the k-th that runs, and to all of them.
 //!
 //! The sums of 64 blocks each make the way to the k-th goroutine short.
 
-ghost use Rattle.std.specs.Prelude.{◌≡◌, ◌+◌, map, option_map, slice_get, IfOk};
-ghost use Rattle.golf_theory.specs.Maps.{keys};
-ghost use Rattle.golf_state_goroutines.specs.Places.{plain_entries};
-ghost use Rattle.golf_state_goroutines.specs.Blocks.{places_in, running_in, runs_before};
+ghost use Rattle.std.specs.Prelude.{◌≡◌, ◌+◌, [], option_map, slice_get, length};
+ghost use Rattle.golf_state_goroutines.specs.RunBlocks.{AreRunBlocks, block_keys, running_in, runs_before};
 ghost use Rattle.golf_state_goroutines.specs.Sums.{HasSums};
 
-use crate::blocks::Block;
-use crate::places::add_numbers;
-use golf_base::{GoroutineId, List, Memory};
-use std::alloc::Global;
+use crate::run_blocks::RunBlock;
+use golf_base::GoroutineId;
 
 // The goroutine at this place among those that run, counted from the block at `start`.
-fn running_from(blocks: &[Block], start: usize, k: usize) -> Option<GoroutineId>
+fn running_from(blocks: &[RunBlock], start: usize, k: usize) -> Option<GoroutineId>
     ensures { option_map (λ g. g.0) result ≡ slice_get (running_in blocks.now) (runs_before blocks.now start + k) }
 {
     let mut rest = k;
@@ -30,7 +26,7 @@ fn running_from(blocks: &[Block], start: usize, k: usize) -> Option<GoroutineId>
 
 /// Returns the goroutine at this place among those that run, or `None`. It looks at one sum for each 64
 /// blocks, and then at no more than 64 blocks.
-pub fn running_at(blocks: &[Block], sums: &[usize], k: usize) -> Option<GoroutineId>
+pub fn running_at(blocks: &[RunBlock], sums: &[usize], k: usize) -> Option<GoroutineId>
     requires { HasSums blocks.now sums.now }
     ensures { option_map (λ g. g.0) result ≡ slice_get (running_in blocks.now) k }
 {
@@ -44,13 +40,15 @@ pub fn running_at(blocks: &[Block], sums: &[usize], k: usize) -> Option<Goroutin
     None
 }
 
-/// Returns the numbers of all goroutines in rising order. The only error is `Memory`.
-pub fn numbers(alloc: Global, blocks: &[Block]) -> Result<List<GoroutineId>, Memory>
-    ensures { IfOk result (λ gs. map (λ g. g.0) gs ≡ keys (plain_entries (places_in blocks.now))) }
+/// Empties the list of each block. It takes no memory.
+pub fn empty_all(blocks: &mut Vec<RunBlock>)
+    requires { AreRunBlocks 0 blocks.old.items }
+    ensures blocks { AreRunBlocks 0 blocks.new.items }
+    ensures none { running_in blocks.new.items ≡ [] }
+    ensures keys { block_keys blocks.new.items ≡ block_keys blocks.old.items }
+    ensures len { length blocks.new.items ≡ length blocks.old.items }
 {
-    let mut list = List::new(alloc);
     for at in 0..blocks.len() {
-        add_numbers(&mut list, blocks[at].places.as_slice())?;
+        blocks[at].running.clear();
     }
-    Ok(list)
 }

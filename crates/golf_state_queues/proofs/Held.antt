@@ -8,11 +8,10 @@ use Rattle.std.specs.Prelude.{remove, IfSome}
 use Rattle.std.proofs.lemmas.Bool.{cases_lt, ltb-true, ltb-false}
 use Rattle.std.proofs.lemmas.List.{map-append}
 use Rattle.std.proofs.lemmas.Option.{slice_get-get_or}
-use Rattle.golf_theory.specs.Maps.{Entry, Rises, AllBelow}
+use Rattle.golf_theory.specs.Maps.{Entry, Rises, AllBelow, rank}
 use Rattle.golf_theory.proofs.MapFinds.{Entry-above, Entry-below}
 use Rattle.golf_theory.proofs.MapEntries.{Entry-add_new}
 use Rattle.golf_theory.proofs.MapOrder.{Rises-less}
-use Rattle.golf_heap.specs.Objects.{rank}
 use Rattle.golf_state_queues.specs.Lines.{spots}
 use Rattle.golf_state_queues.specs.WaitQueues.{held, has_anyone}
 use Rattle.golf_state_queues.specs.declared.holders.TicketHolder.{TicketHolder}

@@ -11,17 +11,16 @@ use Rattle.std.proofs.lemmas.Option.{slice_get-map, get_or_from_slice_get}
 use Rattle.golf_base.specs.declared.ids.ObjectId.{ObjectId}
 use Rattle.golf_data.specs.declared.goroutine.Side.{Side}
 use Rattle.golf_data.specs.declared.goroutine.Wait.{Wait}
-use Rattle.golf_theory.specs.Maps.{Entry, find, put, insert, Rises, AllBelow}
+use Rattle.golf_theory.specs.Maps.{Entry, find, put, insert, Rises, AllBelow, rank}
 use Rattle.golf_theory.proofs.MapFinds.{cases_find, find-put, find-put_other}
 use Rattle.golf_theory.proofs.MapOrder.{Rises-put}
 use Rattle.golf_theory.proofs.Insert.{find-insert, find-insert_other, Rises-insert}
-use Rattle.golf_heap.specs.Objects.{rank}
-use Rattle.golf_heap.proofs.Ranks.{at_key, find-rank}
+use Rattle.golf_theory.proofs.Ranks.{at_key, find-rank}
 use Rattle.golf_state_queues.specs.WaitQueues.{WaitQueues, IsInOrder, AllRise, key, held, wait_queues_of, wait_queue_in}
 use Rattle.golf_state_queues.specs.WaitQueues.{wait_queue_at, has_key, TicketsBelow, KeepsIn, KeepsWaiters, StandsIn}
 use Rattle.golf_state_queues.specs.WaitQueues.{StandsInAll}
 use Rattle.golf_state_queues.specs.declared.queues.Queue.{Queue}
-use Rattle.golf_heap.proofs.Keyed.{set-keyed}
+use Rattle.golf_theory.proofs.Keyed.{set-keyed}
 
 -- ---- if a queue stands
 

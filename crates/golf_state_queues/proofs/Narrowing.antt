@@ -5,9 +5,8 @@ use Rattle.std.proofs.Common.{◌≡◌, ℕ, zero, suc, ◌<◌, ◌≤◌, tru
 use Rattle.std.proofs.Common.{nat_lt, Some, ◌==◌, inl, inr, refl, sym, ap, ◌∙◌, subst, arith, slice_get, slice_set}
 use Rattle.std.proofs.lemmas.Bool.{eq-eqb, ne_eqb, ltb-true, ltb-false, cases_eq}
 use Rattle.golf_base.specs.declared.ids.GoroutineId.{GoroutineId}
-use Rattle.golf_theory.specs.Maps.{Entry, find, Rises, AllBelow}
+use Rattle.golf_theory.specs.Maps.{Entry, find, Rises, AllBelow, rank}
 use Rattle.golf_theory.specs.Membership.{is_in}
-use Rattle.golf_heap.specs.Objects.{rank}
 use Rattle.golf_state_queues.specs.declared.holders.TicketHolder.{TicketHolder}
 use Rattle.golf_state_queues.proofs.Partings.{Entry-filter, AllBelow-filter, Rises-filter}
 use Rattle.golf_state_queues.specs.WaitQueues.{WaitQueues, IsInOrder, AllRise, held, wait_queue_in, wait_queue_at}

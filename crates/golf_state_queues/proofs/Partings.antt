@@ -8,11 +8,10 @@ use Rattle.std.specs.Prelude.{remove}
 use Rattle.std.proofs.lemmas.Bool.{cases_eq, ltb-true, ltb-false, eq-eqb, ne_eqb, true≢false}
 use Rattle.std.proofs.lemmas.Option.{slice_get_within}
 use Rattle.golf_data.specs.declared.goroutine.Wait.{Wait}
-use Rattle.golf_theory.specs.Maps.{Entry, find, Rises, AllBelow}
+use Rattle.golf_theory.specs.Maps.{Entry, find, Rises, AllBelow, rank}
 use Rattle.golf_theory.specs.Membership.{is_in}
 use Rattle.golf_theory.proofs.MapOrder.{Rises-less}
 use Rattle.golf_theory.proofs.Lists.{Every-from, filter-all, filter-same}
-use Rattle.golf_heap.specs.Objects.{rank}
 use Rattle.golf_state_queues.specs.Lines.{spots}
 use Rattle.golf_state_queues.specs.WaitQueues.{WaitQueues, key, keys_of, held, wait_queue_in, wait_queue_at, is_holder}
 use Rattle.golf_state_queues.specs.WaitQueues.{is_held_in, parted, leaves, IsWithout, TicketsBelow, KeepsWaiters}

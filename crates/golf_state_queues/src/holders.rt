@@ -5,9 +5,8 @@
 
 ghost use Rattle.std.specs.Prelude.{◌≡◌, ◌<◌, ◌≤◌, ◌+◌, ◌-◌, ◌&&◌, false, not, drop, filter, length, slice_get, take};
 ghost use Rattle.std.specs.Prelude.{IfSome, OnOk};
-ghost use Rattle.golf_theory.specs.Maps.{keys, Entry, Rises, AllBelow};
+ghost use Rattle.golf_theory.specs.Maps.{keys, Entry, Rises, AllBelow, rank};
 ghost use Rattle.golf_theory.specs.Membership.{is_in};
-ghost use Rattle.golf_heap.specs.Objects.{rank};
 ghost use Rattle.golf_state_goroutines.specs.Places.{plain_entries};
 ghost use Rattle.golf_state_queues.specs.Lines.{spots};
 ghost use Rattle.golf_state_queues.specs.WaitQueues.{held, has_anyone, is_held_in, parted, AddsOnlyIn, KeepsIn};

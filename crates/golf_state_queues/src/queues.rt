@@ -3,9 +3,8 @@
 //! The invariant: the queues are in rising order of object and side, and the tickets of each rise.
 
 ghost use Rattle.std.specs.Prelude.{◌≡◌, ◌<◌, ◌≤◌, ◌+◌, ℕ, [], ◌∷◌, true, length, OnOk, slice_get};
-ghost use Rattle.golf_theory.specs.Maps.{keys, Entry, Rises};
+ghost use Rattle.golf_theory.specs.Maps.{keys, Entry, Rises, rank};
 ghost use Rattle.golf_theory.specs.Membership.{is_in};
-ghost use Rattle.golf_heap.specs.Objects.{rank};
 ghost use Rattle.golf_model.specs.Waiters.{side_number};
 ghost use Rattle.golf_state_goroutines.specs.Places.{plain_entries};
 ghost use Rattle.golf_state_queues.specs.Lines.{spots};

@@ -7,10 +7,10 @@ use std::test::Fail;
 
 /// The usage of the program.
 pub const USAGE: &str =
-    "usage: golf-explore all [--states N] < FILE\n       golf-explore search [--preemptions K] [--states N] [--seconds S] [--for leak|panic|asleep] < FILE\n       golf-explore trace [--schedule S] [--turns N] [--every N] [--markers N] [--recover] [--why] < FILE\n       golf-explore trace --threads N < FILE\n";
+    "usage: golf-explore all [--states N] < FILE\n       golf-explore search [--preemptions K] [--states N] [--seconds S] [--for leak|panic|asleep] < FILE\n       golf-explore trace [--schedule S] [--turns N] [--every N] [--markers N] [--recover] [--why] < FILE\n       golf-explore trace --threads N < FILE\n       golf-explore --version\n";
 
 // Words that are no command line of the program.
-const MISUSED: [&str; 14] = [
+const MISUSED: [&str; 17] = [
     "",
     "run",
     "all all",
@@ -25,6 +25,9 @@ const MISUSED: [&str; 14] = [
     "trace --threads 2 --every 5",
     "trace --turns 0",
     "trace all",
+    "--version all",
+    "all --version",
+    "--versions",
 ];
 
 // The source fails if it is read.
@@ -43,6 +46,32 @@ fn words_that_are_no_line_have_the_usage_and_read_nothing(rt: HostRuntime) -> Re
             status: Status::Usage,
             out: "",
             err: USAGE,
+        };
+        expect_row(&rt, &row)?;
+    }
+    Ok(())
+}
+
+// The source fails if it is read.
+#[test]
+fn the_version_is_told_and_nothing_is_read(rt: HostRuntime) -> Result<(), Fail> {
+    for (out, status, got) in &[
+        (0, Status::Clean, "golf-explore 1.0.0\n"),
+        (1, Status::WriteFault, ""),
+        (2, Status::WriteFault, "golf-explore 1.0"),
+    ] {
+        let row = Row {
+            shows: *got,
+            line: "--version",
+            file: "",
+            failing: Failing {
+                source: 1,
+                out: *out,
+                err: 0,
+            },
+            status: *status,
+            out: *got,
+            err: "",
         };
         expect_row(&rt, &row)?;
     }

@@ -5,6 +5,11 @@ pub mod MapFinds
 pub mod MapCuts
 pub mod MapKeys
 pub mod MapOrder
+pub mod Ranks
+pub mod Keyed
+pub mod Guesses
+pub mod Flagged
+pub mod Readings
 pub mod Derivations
 pub mod LeastLaws
 pub mod Sums

@@ -7,3 +7,4 @@ pub mod Counts
 pub mod Laws
 pub mod Agreement
 pub mod Stored
+pub mod Flags

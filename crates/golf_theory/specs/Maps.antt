@@ -58,3 +58,8 @@ IsRising es = Rises 0 es
 abbrev pub AllBelow : {X : Type 0} → ℕ → List (ℕ × X) → Type 0
 AllBelow n [] = Unit {0}
 AllBelow n (e ∷ es) = (e.0 < n) × AllBelow n es
+
+-- how many entries at the front have a smaller key
+abbrev pub rank : {X : Type 0} → ℕ → List (ℕ × X) → ℕ
+rank k [] = 0
+rank k (e ∷ es) = cond (nat_lt e.0 k) (suc (rank k es)) 0

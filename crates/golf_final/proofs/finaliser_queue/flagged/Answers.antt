@@ -1,10 +1,11 @@
 use Rattle.std.proofs.Common.{◌≡◌, ◌++◌, ◌∷◌, [], ℕ, List, Bool, false, length, Some, get_or, slice_get, sym, ap, ◌∙◌}
 use Rattle.std.proofs.Common.{arith}
 use Rattle.std.proofs.lemmas.Option.{slice_get-get_or}
-use Rattle.golf_theory.specs.Maps.{keys}
+use Rattle.golf_theory.specs.Maps.{keys, rank}
 use Rattle.golf_theory.specs.Membership.{is_in}
 use Rattle.golf_theory.proofs.MapEntries.{Entry-keys}
-use Rattle.golf_heap.specs.Objects.{NumberedObjects, kept, rank}
+use Rattle.golf_heap.specs.Objects.{NumberedObjects}
+use Rattle.golf_theory.specs.Flags.{kept}
 use Rattle.golf_snapshot.proofs.Ranking.{Entry-at}
 use Rattle.golf_snapshot.proofs.Stepping.{map-next, map-done}
 use Rattle.golf_final.proofs.Flagging.{flag-of, is-flag}

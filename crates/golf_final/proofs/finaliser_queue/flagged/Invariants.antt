@@ -1,7 +1,7 @@
 use Rattle.std.proofs.Common.{◌≡◌, map, take}
 use Rattle.golf_theory.specs.Maps.{keys}
 use Rattle.golf_theory.specs.Membership.{is_in}
-use Rattle.golf_heap.specs.Objects.{kept}
+use Rattle.golf_theory.specs.Flags.{kept}
 use Rattle.golf_final.proofs.finaliser_queue.flagged.Given as goal
 
 -- those so far

@@ -4,10 +4,10 @@ use Rattle.std.specs.Prelude.{IsSome}
 use Rattle.slab.specs.Slab.{get}
 use Rattle.golf_data.specs.declared.value.Object.{Object}
 use Rattle.golf_heap.specs.declared.places.ObjectKey.{ObjectKey}
-use Rattle.golf_heap.specs.Objects.{kept}
+use Rattle.golf_theory.specs.Flags.{kept}
 use Rattle.golf_heap.proofs.Order.{held-index}
-use Rattle.golf_heap.proofs.Freeing.{Spared, spared-less, spared-freed, gathered-kept, HoldsPlaces-kept, kept_more}
-use Rattle.golf_heap.proofs.Freeing.{is-filled}
+use Rattle.golf_blocks.proofs.ClosingUp.{kept_more}
+use Rattle.golf_heap.proofs.Freeing.{Spared, spared-less, spared-freed, gathered-kept, HoldsPlaces-kept, is-filled}
 use Rattle.golf_heap.proofs.places.free.Goals as goal
 
 pub empty-requires : goal.empty-requires

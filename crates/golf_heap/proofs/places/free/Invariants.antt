@@ -1,6 +1,6 @@
 use Rattle.std.proofs.Common.{◌≡◌, ◌≤◌, ◌+◌, length, drop}
 use Rattle.slab.specs.Slab.{slab_len}
-use Rattle.golf_heap.specs.Objects.{kept}
+use Rattle.golf_theory.specs.Flags.{kept}
 use Rattle.golf_heap.proofs.Freeing.{Spared}
 use Rattle.golf_heap.proofs.places.free.Given as goal
 

@@ -3,8 +3,8 @@ use Rattle.std.specs.Prelude.{option_map}
 use Rattle.std.proofs.lemmas.Option.{slice_get-map}
 use Rattle.golf_heap.specs.declared.places.ObjectKey.{ObjectKey}
 use Rattle.golf_heap.specs.Kept.{keyed}
-use Rattle.golf_heap.proofs.Finding.{item-at}
-use Rattle.golf_heap.proofs.Guesses.{rank-there}
+use Rattle.golf_theory.proofs.Readings.{item-at}
+use Rattle.golf_theory.proofs.Guesses.{rank-there}
 use Rattle.golf_heap.proofs.places.index_of.Goals as goal
 
 pub returns-then-place-number : goal.returns-then-place-number

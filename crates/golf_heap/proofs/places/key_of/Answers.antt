@@ -1,4 +1,5 @@
-use Rattle.golf_heap.proofs.Finding.{item-at, no_item-at, there, elsewhere, nowhere}
+use Rattle.golf_heap.proofs.Finding.{there, elsewhere, nowhere}
+use Rattle.golf_theory.proofs.Readings.{item-at, no_item-at}
 use Rattle.golf_heap.proofs.places.key_of.Goals as goal
 
 pub returns-in_err-place : goal.returns-in_err-place

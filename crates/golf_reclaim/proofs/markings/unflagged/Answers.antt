@@ -3,7 +3,7 @@ use Rattle.std.proofs.lemmas.List.{length-map}
 use Rattle.std.proofs.lemmas.Option.{slice_get-map, slice_get-get_or}
 use Rattle.golf_base.specs.declared.ids.GoroutineId.{GoroutineId}
 use Rattle.golf_model.specs.Sleepers.{Sleeper}
-use Rattle.golf_heap.proofs.Flagged.{left_out-all, left_out-short}
+use Rattle.golf_theory.proofs.Flagged.{left_out-all, left_out-short}
 use Rattle.golf_reclaim.proofs.Flags.{left_out-more}
 use Rattle.golf_reclaim.proofs.markings.unflagged.Goals as goal
 use Rattle.golf_reclaim.proofs.markings.unflagged.Goals.{then-not-flags-sleeper+in_ok-push, else-not-flags-sleeper}

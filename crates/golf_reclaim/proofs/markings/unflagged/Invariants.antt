@@ -1,5 +1,5 @@
 use Rattle.std.proofs.Common.{◌≡◌, map, take}
-use Rattle.golf_heap.specs.Objects.{left_out}
+use Rattle.golf_theory.specs.Flags.{left_out}
 use Rattle.golf_reclaim.proofs.markings.unflagged.Given as goal
 
 -- those so far

@@ -1,5 +1,5 @@
 use Rattle.std.proofs.Common.{refl, ◌∙◌, ap, ◌++◌, ◌∷◌, []}
-use Rattle.golf_heap.specs.Objects.{rank}
+use Rattle.golf_theory.specs.Maps.{rank}
 use Rattle.golf_snapshot.proofs.Gathering.{one-more, QueueNodes}
 use Rattle.golf_snapshot.proofs.goroutines.add_queue.Goals as goal
 

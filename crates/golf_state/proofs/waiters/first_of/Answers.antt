@@ -8,11 +8,11 @@ use Rattle.golf_state_goroutines.specs.Places.{plain_entry, plain_entries}
 use Rattle.golf_state.specs.Seen.{sooner}
 use Rattle.golf_state.specs.Waited.{waiting_of}
 use Rattle.golf_state.specs.declared.waiters.Waiting.{Waiting}
-use Rattle.golf_state_goroutines.specs.declared.places.NumberedGoroutine.{NumberedGoroutine}
+use Rattle.golf_data.specs.declared.goroutine.Goroutine.{Goroutine}
 use Rattle.golf_state.proofs.WaiterLaws.{seen_more}
 use Rattle.golf_state.proofs.waiters.first_of.Goals as goal
 
-end : (gs : List NumberedGoroutine) (n : ℕ) → n ≡ length gs → [] ≡ drop n (plain_entries gs)
+end : (gs : List (ℕ × Goroutine)) (n : ℕ) → n ≡ length gs → [] ≡ drop n (plain_entries gs)
 end gs n e = sym (drop_of_length-le (plain_entries gs) (omega (arith, e, length-map gs plain_entry)))
 
 pub loop-at-init : goal.loop-at-init
@@ -30,7 +30,7 @@ loop-at-preserved c =
     let side = c.args.side in
     let next : c.loop-at.at ≡ at + 1 = omega arith in
     let within : at < length gs = omega (arith, c.loop-at.invariant.within) in
-    let p : NumberedGoroutine = c.index-places-at.result in
+    let p : ℕ × Goroutine = c.index-places-at.result in
     record {
       within = omega (arith, c.loop-at.invariant.within);
       best = λ rest h.

@@ -1,5 +1,5 @@
 use Rattle.std.proofs.Common.{◌≡◌, ◌++◌, take}
-use Rattle.golf_heap.specs.Objects.{left_out}
+use Rattle.golf_theory.specs.Flags.{left_out}
 use Rattle.golf_model.specs.Collections.{queued}
 use Rattle.golf_state_finalisers.proofs.walks.add_unflagged.Given as goal
 

@@ -2,9 +2,9 @@ use Rattle.std.proofs.Common.{◌≡◌, ℕ, ◌+◌, Bool, List, ◌∷◌, �
 use Rattle.std.proofs.lemmas.List.{length-append, drop_more}
 use Rattle.golf_data.specs.declared.goroutine.Queued.{Queued}
 use Rattle.golf_model.specs.Collections.{queued}
-use Rattle.golf_heap.specs.Objects.{left_out}
-use Rattle.golf_state_finalisers.specs.Blocks.{pairs_in}
-use Rattle.golf_state_finalisers.specs.declared.blocks.Block.{Block}
+use Rattle.golf_theory.specs.Flags.{left_out}
+use Rattle.golf_blocks.specs.Blocks.{entries_in}
+use Rattle.golf_blocks.specs.declared.blocks.Block.{Block}
 use Rattle.golf_state_finalisers.proofs.Queueing.{queued-split}
 use Rattle.golf_state_finalisers.proofs.walks.unflagged_in.Goals as goal
 
@@ -16,12 +16,12 @@ loop-at-preserved c =
     let ps = c.as_slice-pairs.result.now in
     let rest = c.loop-at.rest.now in
     let m : ℕ = length ps in
-    let R = pairs_in (drop (i + 1) bs) in
-    let left : pairs_in (drop i bs) ≡ b.pairs.items ++ R =
-    ap (λ (cs : List Block). pairs_in cs)
-    (drop_more bs i b c.loop-at-test.true ∙ ap (λ (w : Block). w ∷ drop (i + 1) bs) (sym c.index-blocks-at.is)) in
-    let these : ps ≡ b.pairs.items = c.as_slice-pairs.ensures.value
-    ∙ ap (λ (w : Block). w.pairs.items) (sym c.index-blocks-at.is) in
+    let R = entries_in (drop (i + 1) bs) in
+    let left : entries_in (drop i bs) ≡ b.entries.items ++ R =
+    ap (λ (cs : List (Block ℕ)). entries_in cs)
+    (drop_more bs i b c.loop-at-test.true ∙ ap (λ (w : Block ℕ). w ∷ drop (i + 1) bs) (sym c.index-blocks-at.is)) in
+    let these : ps ≡ b.entries.items = c.as_slice-pairs.ensures.value
+    ∙ ap (λ (w : Block ℕ). w.entries.items) (sym c.index-blocks-at.is) in
     record {
       flags = omega (
         arith,
@@ -29,7 +29,7 @@ loop-at-preserved c =
         c.loop-at.invariant.flags,
         ap (λ (xs : List (ℕ × ℕ)). length xs) these,
         ap (λ (xs : List (ℕ × ℕ)). length xs) left,
-        length-append b.pairs.items R,
+        length-append b.entries.items R,
       );
       entries =
           ap (λ (z : List Queued). z ++ queued (left_out c.split_at.result.1.now R))

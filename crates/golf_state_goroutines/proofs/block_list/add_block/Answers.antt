@@ -1,62 +1,79 @@
-use Rattle.std.proofs.Common.{◌≡◌, ◌+◌, ◌-◌, ◌*◌, List, [], ◌∷◌, ◌++◌, length, Option, refl, sym, ap, ◌∙◌, subst, arith}
-use Rattle.std.proofs.Common.{slice_get, length-append, eq-eqb}
+use Rattle.std.proofs.Common.{◌≡◌, ℕ, ◌+◌, ◌*◌, List, [], rules, refl, sym, ap, ◌∙◌, subst, arith, slice_get}
+use Rattle.std.specs.Prelude.{insert}
+use Rattle.std.proofs.lemmas.List.{length-map}
 use Rattle.golf_base.specs.declared.ids.GoroutineId.{GoroutineId}
-use Rattle.golf_theory.specs.Maps.{keys}
-use Rattle.golf_state_goroutines.specs.Places.{plain_entries}
-use Rattle.golf_state_goroutines.specs.Blocks.{numbers, places_in, running_in, RisesIn, IsBlock, AreBlocks, has_key}
-use Rattle.golf_state_goroutines.specs.Sums.{HasSums}
-use Rattle.golf_state_goroutines.specs.declared.blocks.Block.{Block}
-use Rattle.golf_state_goroutines.specs.declared.places.NumberedGoroutine.{NumberedGoroutine}
-use Rattle.golf_state_goroutines.proofs.Gathers.{gather-none}
-use Rattle.golf_state_goroutines.proofs.Openings.{blocks-push, last-push}
-use Rattle.golf_state_goroutines.proofs.Summing.{sums-push}
+use Rattle.golf_theory.specs.Membership.{In}
+use Rattle.golf_theory.proofs.Ranks.{rank-within}
+use Rattle.golf_state_goroutines.specs.RunBlocks.{numbers, running_in, block_keys, RisesIn, AreRunBlocks, keyed_blocks}
+use Rattle.golf_state_goroutines.specs.RunLists.{is_open}
+use Rattle.golf_state_goroutines.specs.declared.run_blocks.RunBlock.{RunBlock}
+use Rattle.golf_state_goroutines.proofs.RunLaws.{blocks-insert, running-insert, keys-new, keys-old}
+use Rattle.golf_state_goroutines.proofs.block_list.add_block.Goals.{After-insert}
 use Rattle.golf_state_goroutines.proofs.block_list.add_block.Goals as goal
 
+-- the blocks with the new one
+record IsAdded (bs now : List RunBlock) (at key : ℕ) : Type 0 where
+  block : RunBlock
+  is : now ≡ insert bs at block
+  same : block.key ≡ key
+  none : numbers block.running.items ≡ []
+  blocks : AreRunBlocks 0 now
+
+added : (c : After-insert) → c.insert.new.self.items ≡ insert c.args.blocks.now.items c.args.at
+    (record { key = c.args.key; running = c.in_ok-running.running })
+    → IsAdded c.args.blocks.now.items c.insert.new.self.items c.args.at c.args.key
+added c inserted =
+    let bs = c.args.blocks.now.items in
+    let k = c.args.key in
+    let b : RunBlock = record { key = k; running = c.in_ok-running.running } in
+    let empty : numbers b.running.items ≡ [] = ap (λ (gs : List GoroutineId). numbers gs) c.in_ok-running.ensures.items in
+    record {
+      block = b;
+      is = inserted;
+      same = refl;
+      none = empty;
+      blocks = subst (AreRunBlocks 0) (sym (inserted ∙ ap (λ (n : ℕ). insert bs n b) c.requires.place))
+          (blocks-insert 0 k bs b c.requires.blocks refl (omega arith) (record {
+            running = subst (RisesIn (k * 256) (k * 256 + 256)) (sym empty) (omega arith);
+            room = omega (arith, c.in_ok-running.ensures.capacity);
+            limit = c.requires.limit;
+          }) (ap (λ (n : ℕ). is_open k (slice_get bs n)) (sym c.requires.place) ∙ c.requires.other));
+    }
+
+pub insert-requires : goal.insert-requires
+insert-requires c =
+    let bs = c.args.blocks.now.items in
+    let f : RunBlock → ℕ × RunBlock = λ b. (b.key, b) in
+    omega (
+      arith,
+      c.requires.place,
+      rank-within c.args.key (keyed_blocks bs),
+      length-map bs f,
+      c.args.blocks.now.ok.0,
+    )
+
+pub recount-requires-clause-blocks : goal.recount-requires-clause-blocks
+recount-requires-clause-blocks c =
+    let a = added (goal.at.recount-requires-clause-blocks c).After-insert (search rules) in
+    subst (AreRunBlocks 0) (sym c.as_slice-2.ensures.value) a.blocks
+
 pub returns-clause-blocks : goal.returns-clause-blocks
-returns-clause-blocks c =
-    let bs = c.args.blocks.now.items in
-    let b : Block = record { key = c.args.key; places = c.new.result; running = c.in_ok-running.running } in
-    let is : IsBlock b = record {
-      places = subst (λ (ps : List NumberedGoroutine). RisesIn (c.args.key * 256) (c.args.key * 256 + 256)
-          (keys (plain_entries ps))) (sym c.new.ensures.items) (omega arith);
-      running = subst (λ (gs : List GoroutineId). RisesIn (c.args.key * 256) (c.args.key * 256 + 256) (numbers gs))
-          (sym c.in_ok-running.ensures.items) (omega arith);
-      room = omega (arith, c.in_ok-running.ensures.capacity);
-      limit = c.requires.limit;
-    } in
-    subst (AreBlocks 0) (sym c.in_ok-push.ensures.items)
-    (blocks-push 0 bs b c.requires.blocks c.requires.below (omega arith) is)
-
-pub returns-clause-last : goal.returns-clause-last
-returns-clause-last c =
-    let bs = c.args.blocks.now.items in
-    let b : Block = record { key = c.args.key; places = c.new.result; running = c.in_ok-running.running } in
-    let n : length (bs ++ b ∷ []) - 1 ≡ length bs = omega (arith, length-append bs (b ∷ [])) in
-    ap (λ (cs : List Block). has_key c.args.key (slice_get cs (length cs - 1))) c.in_ok-push.ensures.items
-    ∙ ap (λ (o : Option Block). has_key c.args.key o) (last-push bs b (length (bs ++ b ∷ []) - 1) n)
-    ∙ eq-eqb c.args.key c.args.key refl
-
-pub returns-clause-places : goal.returns-clause-places
-returns-clause-places c =
-    let bs = c.args.blocks.now.items in
-    let b : Block = record { key = c.args.key; places = c.new.result; running = c.in_ok-running.running } in
-    ap (λ (cs : List Block). places_in cs) c.in_ok-push.ensures.items
-    ∙ gather-none (λ (b : Block). b.places.items) bs b c.new.ensures.items
+returns-clause-blocks c = (added (goal.at.returns-clause-blocks c).After-insert (search rules)).blocks
 
 pub returns-clause-running : goal.returns-clause-running
 returns-clause-running c =
-    let bs = c.args.blocks.now.items in
-    let b : Block = record { key = c.args.key; places = c.new.result; running = c.in_ok-running.running } in
-    ap (λ (cs : List Block). running_in cs) c.in_ok-push.ensures.items
-    ∙ gather-none (λ (b : Block). numbers b.running.items) bs b
-    (ap (λ (gs : List GoroutineId). numbers gs) c.in_ok-running.ensures.items)
+    let a = added (goal.at.returns-clause-running c).After-insert (search rules) in
+    ap (λ (cs : List RunBlock). running_in cs) a.is ∙ running-insert c.args.blocks.now.items c.args.at a.block a.none
 
-pub returns-clause-sums : goal.returns-clause-sums
-returns-clause-sums c =
-    let bs = c.args.blocks.now.items in
-    let b : Block = record { key = c.args.key; places = c.new.result; running = c.in_ok-running.running } in
-    let s = subst (λ (cs : List Block). HasSums cs c.make_sum.new.sums.items) c.as_slice.ensures.value
-    c.in_ok-make_sum.ensures.sums in
-    subst (λ (cs : List Block). HasSums cs c.make_sum.new.sums.items) (sym c.in_ok-push.ensures.items)
-    (sums-push bs c.make_sum.new.sums.items b s.each c.in_ok-running.ensures.items
-    (omega (arith, c.in_ok-make_sum.ensures.more, ap (λ (cs : List Block). length cs) c.as_slice.ensures.value)))
+pub returns-clause-opened : goal.returns-clause-opened
+returns-clause-opened c =
+    let a = added (goal.at.returns-clause-opened c).After-insert (search rules) in
+    subst (λ (cs : List RunBlock). In c.args.key (block_keys cs)) (sym a.is)
+    (subst (λ (k : ℕ). In k (block_keys (insert c.args.blocks.now.items c.args.at a.block))) a.same
+    (keys-new c.args.blocks.now.items c.args.at a.block))
+
+pub returns-clause-keys : goal.returns-clause-keys
+returns-clause-keys c = λ k h.
+    let a = added (goal.at.returns-clause-keys c).After-insert (search rules) in
+    subst (λ (cs : List RunBlock). In k (block_keys cs)) (sym a.is)
+    (keys-old c.args.blocks.now.items c.args.at a.block k h)

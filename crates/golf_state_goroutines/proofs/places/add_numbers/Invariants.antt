@@ -1,7 +1,7 @@
 use Rattle.std.proofs.Common.{◌≡◌, ◌++◌, take}
 use Rattle.golf_theory.specs.Maps.{keys}
 use Rattle.golf_state_goroutines.specs.Places.{plain_entries}
-use Rattle.golf_state_goroutines.specs.Blocks.{numbers}
+use Rattle.golf_state_goroutines.specs.RunBlocks.{numbers}
 use Rattle.golf_state_goroutines.proofs.places.add_numbers.Given as goal
 
 -- those so far

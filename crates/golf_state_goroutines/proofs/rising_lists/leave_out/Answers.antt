@@ -3,7 +3,7 @@ use Rattle.std.specs.Prelude.{remove}
 use Rattle.std.proofs.lemmas.Option.{slice_get_past}
 use Rattle.std.proofs.lemmas.List.{length-map}
 use Rattle.golf_base.specs.declared.ids.GoroutineId.{GoroutineId}
-use Rattle.golf_state_goroutines.specs.Blocks.{numbers}
+use Rattle.golf_state_goroutines.specs.RunBlocks.{numbers}
 use Rattle.golf_state_goroutines.specs.RisingLists.{leading}
 use Rattle.golf_state_goroutines.proofs.Numbered.{numbers-remove}
 use Rattle.golf_state_goroutines.proofs.Rises.{at-number, without-there, without-absent}

@@ -1,7 +1,7 @@
 use Rattle.std.proofs.Common.{◌≡◌, ℕ, ◌+◌, List, length, sym, ap, ◌∙◌, arith}
 use Rattle.std.specs.Prelude.{insert}
 use Rattle.golf_base.specs.declared.ids.GoroutineId.{GoroutineId}
-use Rattle.golf_state_goroutines.specs.Blocks.{numbers}
+use Rattle.golf_state_goroutines.specs.RunBlocks.{numbers}
 use Rattle.golf_state_goroutines.specs.RisingLists.{leading}
 use Rattle.golf_state_goroutines.proofs.Numbered.{numbers-insert}
 use Rattle.golf_state_goroutines.proofs.Rises.{placed-leading}

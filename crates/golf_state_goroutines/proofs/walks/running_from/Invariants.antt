@@ -1,5 +1,5 @@
 use Rattle.std.proofs.Common.{◌≡◌, ◌+◌}
-use Rattle.golf_state_goroutines.specs.Blocks.{runs_before}
+use Rattle.golf_state_goroutines.specs.RunBlocks.{runs_before}
 use Rattle.golf_state_goroutines.proofs.walks.running_from.Given as goal
 
 -- what is left after the blocks so far

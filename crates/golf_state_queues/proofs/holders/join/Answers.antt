@@ -1,8 +1,7 @@
 use Rattle.std.proofs.Common.{◌≡◌, ℕ, ◌+◌, ◌<◌, List, [], ◌∷◌, ◌++◌, false, take, subst, sym, ap, ◌∙◌, arith}
-use Rattle.golf_theory.specs.Maps.{Entry, Rises, AllBelow}
+use Rattle.golf_theory.specs.Maps.{Entry, Rises, AllBelow, rank}
 use Rattle.golf_theory.proofs.MapOrder.{Rises-add, AllBelow-add, AllBelow-more}
 use Rattle.golf_theory.proofs.MapEntries.{Entry-add_old, Entry-add_new}
-use Rattle.golf_heap.specs.Objects.{rank}
 use Rattle.golf_state_queues.specs.Lines.{spots}
 use Rattle.golf_state_queues.specs.WaitQueues.{held, AddsOnlyIn}
 use Rattle.golf_state_queues.specs.declared.holders.TicketHolder.{TicketHolder}

@@ -3,7 +3,7 @@ use Rattle.std.specs.List.Sorted.{IsNonDecreasingBy}
 use Rattle.std.proofs.lemmas.Bool.{ltb-true, ltb-false}
 use Rattle.std.proofs.lemmas.List.Sorted.{IsPartitionedBy-ltb, IsPartitionPoint-from_clause}
 use Rattle.golf_state_queues.specs.declared.holders.TicketHolder.{TicketHolder}
-use Rattle.golf_heap.proofs.Keyed.{sorted-keyed, rank-keyed}
+use Rattle.golf_theory.proofs.Keyed.{sorted-keyed, rank-keyed}
 use Rattle.golf_state_queues.proofs.holders.rank_of.Goals as goal
 
 pub returns-clause-place : goal.returns-clause-place

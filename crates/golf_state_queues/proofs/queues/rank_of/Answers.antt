@@ -4,7 +4,7 @@ use Rattle.std.proofs.lemmas.Bool.{ltb-true, ltb-false}
 use Rattle.std.proofs.lemmas.List.Sorted.{IsPartitionedBy-ltb, IsPartitionPoint-from_clause}
 use Rattle.golf_state_queues.specs.declared.queues.Queue.{Queue}
 use Rattle.golf_state_queues.specs.WaitQueues.{key, held}
-use Rattle.golf_heap.proofs.Keyed.{sorted-keyed, rank-keyed}
+use Rattle.golf_theory.proofs.Keyed.{sorted-keyed, rank-keyed}
 use Rattle.golf_state_queues.proofs.queues.rank_of.Goals as goal
 
 pub returns-clause-place : goal.returns-clause-place

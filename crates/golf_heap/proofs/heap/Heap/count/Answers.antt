@@ -1,6 +1,6 @@
 use Rattle.std.proofs.Common.{◌+◌, arith}
 use Rattle.golf_heap.specs.Kept.{gathered}
-use Rattle.golf_heap.proofs.Ranks.{few}
+use Rattle.golf_theory.proofs.Ranks.{few}
 use Rattle.golf_heap.proofs.Gathering.{length-gathered}
 use Rattle.golf_heap.proofs.heap.Heap.count.Goals as goal
 

@@ -2,8 +2,8 @@ use Rattle.std.proofs.Common.{◌≡◌, ℕ, List, Some, refl, sym, ap, ◌∙�
 use Rattle.std.specs.Prelude.{IsSome, is_some}
 use Rattle.std.proofs.lemmas.Option.{slice_get_within}
 use Rattle.golf_data.specs.declared.value.Object.{Object}
-use Rattle.golf_theory.specs.Maps.{find, put}
-use Rattle.golf_heap.specs.Objects.{NumberedObjects, rank}
+use Rattle.golf_theory.specs.Maps.{find, put, rank}
+use Rattle.golf_heap.specs.Objects.{NumberedObjects}
 use Rattle.golf_heap.specs.Kept.{gathered, keyed}
 use Rattle.golf_heap.proofs.Gathering.{Rises-keyed}
 use Rattle.golf_heap.proofs.Finding.{present, placed, slot-of, there, found-at}

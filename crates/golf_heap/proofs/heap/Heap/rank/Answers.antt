@@ -1,7 +1,7 @@
 use Rattle.std.proofs.Common.{◌≡◌, ◌+◌, arith, ◌∙◌}
-use Rattle.golf_heap.specs.Objects.{rank}
+use Rattle.golf_theory.specs.Maps.{rank}
 use Rattle.golf_heap.specs.Kept.{gathered}
-use Rattle.golf_heap.proofs.Ranks.{few, rank-within}
+use Rattle.golf_theory.proofs.Ranks.{few, rank-within}
 use Rattle.golf_heap.proofs.Gathering.{Rises-keyed, rank-gathered}
 use Rattle.golf_heap.proofs.heap.Heap.rank.Goals as goal
 

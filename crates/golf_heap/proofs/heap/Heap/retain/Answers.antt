@@ -1,6 +1,7 @@
 use Rattle.std.proofs.Common.{◌≡◌, ℕ, List, length, sym, ap, ◌∙◌, subst}
 use Rattle.golf_data.specs.declared.value.Object.{Object}
-use Rattle.golf_heap.specs.Objects.{NumberedObjects, IsNumbered, kept}
+use Rattle.golf_heap.specs.Objects.{NumberedObjects, IsNumbered}
+use Rattle.golf_theory.specs.Flags.{kept}
 use Rattle.golf_heap.specs.Kept.{gathered}
 use Rattle.golf_heap.proofs.Numbers.{IsNumbered-kept}
 use Rattle.golf_heap.proofs.Gathering.{Rises-keyed, length-gathered}

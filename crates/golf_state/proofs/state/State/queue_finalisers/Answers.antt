@@ -1,6 +1,6 @@
 use Rattle.std.proofs.Common.{sym, subst}
 use Rattle.golf_theory.specs.Maps.{Rises}
-use Rattle.golf_state.proofs.Retaining.{Rises-kept}
+use Rattle.golf_theory.proofs.Ranks.{Rises-kept}
 use Rattle.golf_state.proofs.state.State.queue_finalisers.Goals as goal
 
 pub invariant_of-self-2 : goal.invariant_of-self-2

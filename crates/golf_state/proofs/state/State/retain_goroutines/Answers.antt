@@ -3,15 +3,17 @@ use Rattle.std.proofs.lemmas.List.{length-map}
 use Rattle.std.specs.Prelude.{is_some}
 use Rattle.golf_theory.specs.Maps.{keys, find, Rises, AllBelow}
 use Rattle.golf_theory.specs.Membership.{is_in}
-use Rattle.golf_heap.specs.Objects.{kept}
+use Rattle.golf_theory.specs.Flags.{kept}
 use Rattle.golf_model.specs.Views.{GoroutineView}
 use Rattle.golf_model.specs.State.{State}
 use Rattle.golf_state.specs.Inside.{plain_state}
 use Rattle.golf_state_goroutines.specs.Places.{plain_entry, plain_entries}
 use Rattle.golf_state.specs.Ready.{AllReady}
 use Rattle.golf_state.specs.Enqueued.{AreEnqueued}
-use Rattle.golf_state_goroutines.specs.declared.places.NumberedGoroutine.{NumberedGoroutine}
-use Rattle.golf_state.proofs.Retaining.{map-kept, kept-short, Rises-kept, AllBelow-kept, ready-kept}
+use Rattle.golf_data.specs.declared.goroutine.Goroutine.{Goroutine}
+use Rattle.golf_theory.proofs.Ranks.{Rises-kept, AllBelow-kept}
+use Rattle.golf_blocks.proofs.Parts.{kept-length}
+use Rattle.golf_state.proofs.Retaining.{map-kept, ready-kept}
 use Rattle.golf_state.proofs.Leaving.{enqueued-kept}
 use Rattle.golf_state_queues.specs.WaitQueues.{KeepsWaiters}
 use Rattle.golf_state.proofs.state.State.retain_goroutines.Goals as goal
@@ -34,9 +36,9 @@ invariant_of-self c =
     let es = plain_entries ps in
     let e : plain_entries qs ≡ kept stays es = ap plain_entries c.retain.ensures.places
     ∙ map-kept plain_entry stays ps in
-    let fewer : length qs ≤ length ps = subst (λ (qs : List NumberedGoroutine). length qs ≤ length ps)
+    let fewer : length qs ≤ length ps = subst (λ (qs : List (ℕ × Goroutine)). length qs ≤ length ps)
     (sym c.retain.ensures.places)
-    (kept-short stays ps) in
+    (kept-length stays ps) in
     record {
       kept = record {
         rises = subst (Rises 0) (sym e) (Rises-kept 0 stays es k.rises);

@@ -47,7 +47,7 @@ invariant_of-self-2 c =
                 ∙ ap running_of (sym e);
             few = omega (arith, length-append gs (q ∷ []), next, k.few);
             limit = search rules;
-            ready = ready-push gs q k.ready (running-ready q.goroutine.mode q.goroutine.frames
+            ready = ready-push gs q k.ready (running-ready q.1.mode q.1.frames
                 (ap (λ (d : ℕ × GoroutineView). is_running d.1.mode) c.in_ok-place.ensures));
           });
       enqueued = subst (λ (fs : List (ℕ × GoroutineView)). AreEnqueued s.are_mutexes_enqueued fs s.waiting

@@ -1,0 +1,5 @@
+pub mod Gather
+pub mod Blocks
+pub mod Inside
+pub mod Loans
+pub mod Spots
