@@ -2,8 +2,9 @@
 """Prints what the gate costs: the minutes of processor that each crate took, and the longest path.
 
 It runs a command, by default `rt ci`, at the top of the repository. It prints a table of what each crate took for its
-proof, its tests and its must-fail edits, and then the longest path of crates that depend on each other. The command's
-own output goes to gate.log in the folder for temporary files.
+proof, its tests and its must-fail edits, and then the longest path of crates that depend on each other. With `--write`
+the table becomes docs/gate.tsv, if the command succeeds, and its last row alone is printed. The command's own output
+goes to gate.log in the folder for temporary files.
 
 A kit whose `rt ci` takes over what it has proved before has `rt ci --anew`, which proves all from nothing: give it as
 the command, as the last words.
@@ -23,6 +24,7 @@ from shared import ROOT, Words, crates
 MARK = f"GATE_OF={os.getpid()}"
 TICK = os.sysconf("SC_CLK_TCK")
 LOG = Path(tempfile.gettempdir()) / "gate.log"
+TABLE = ROOT / "docs" / "gate.tsv"
 PHASES = ("proof", "tests", "edits")
 
 
@@ -72,7 +74,14 @@ def times_of(command):
 
 def row(name, parts):
     """Returns a row of the table, of seconds."""
-    return f"| {name} | " + " | ".join(f"{it / 60:.1f}" for it in [*parts, sum(parts)]) + " |"
+    return "\t".join([name, *(f"{it / 60:.1f}" for it in [*parts, sum(parts)])])
+
+
+def table(took):
+    """Returns the lines of the table: a head, the crates from dear to cheap, and the sums over all."""
+    dear = sorted(took, key=lambda it: -sum(took[it].values()))
+    sums = row("all", [sum(it[phase] for it in took.values()) for phase in PHASES])
+    return ["\t".join(["crate", *PHASES, "all"]), *(row(crate, took[crate].values()) for crate in dear), sums]
 
 
 def longest_path(took):
@@ -86,13 +95,15 @@ def longest_path(took):
 
 def main():
     options = Words(__doc__)
+    options.add_argument("--write", action="store_true", help="write the table to docs/gate.tsv")
     options.add_argument("command", nargs=argparse.REMAINDER, metavar="COMMAND", help="rt ci, if left out")
-    command, began = options.parse_args().command or ["rt", "ci"], time.time()
-    status, took = times_of(command)
-    print("| crate | proof | tests | edits | all |\n|---|---|---|---|---|")
-    for crate in sorted(took, key=lambda it: -sum(took[it].values())):
-        print(row(crate, took[crate].values()))
-    print(row("all", [sum(it[phase] for it in took.values()) for phase in PHASES]))
+    words, began = options.parse_args(), time.time()
+    status, took = times_of(words.command or ["rt", "ci"])
+    lines = table(took)
+    if words.write and took and status == 0:
+        TABLE.write_text("".join(f"{line}\n" for line in lines), encoding="utf-8")
+        lines = lines[-1:]
+    print("\n".join(lines))
     seconds, way = longest_path(took)
     print(f"\nlongest path: {seconds / 60:.1f} minutes of processor: {' '.join(way)}")
     print(f"wall: {(time.time() - began) / 60:.1f} minutes; the last line of {LOG}:")

@@ -8,7 +8,6 @@ status is 1 if a proof fails, and then the programs of before stay.
 """
 
 import os
-import re
 import shutil
 import subprocess
 import sys
@@ -23,9 +22,9 @@ OUT = ROOT / "out"
 
 
 def costs(names, known):
-    """Returns the minutes of processor that these proofs take by docs/GATE.md, and those of their longest path."""
-    rows = re.findall(r"^\| (\w+) \| ([\d.]+) \|", text_of(ROOT / "docs" / "GATE.md"), re.M)
-    took, path = {name: float(minutes) for name, minutes in rows}, {}
+    """Returns the minutes of processor that these proofs take by docs/gate.tsv, and those of their longest path."""
+    rows = [line.split("\t") for line in text_of(ROOT / "docs" / "gate.tsv").splitlines()[1:]]
+    took, path = {row[0]: float(row[1]) for row in rows}, {}
     for name in (name for name in known if name in names):
         path[name] = took.get(name, 0) + max((path.get(it, 0) for it in known[name].uses), default=0)
     return sum(took.get(name, 0) for name in names), max(path.values())

@@ -5,13 +5,14 @@ It begins with the definitions that the two clauses name (ROOTS) and goes on alo
 each definition that its text names, of the same file or of a `use` line, also by a short name of a module. These things
 are checked:
 
-- The list of files between the two marks of THEOREM is that of the files that have a definition which is reached.
+- docs/REACHED.md, which `--write` makes, lists the files that have a definition which is reached.
 - Each code block of a page stands in src/top.rt or specs/ of a crate of TOPS, line by line.
 - Each file that a page names is there. If THEOREM names one of specs/, or REVIEW one to read, it is reached.
 - Each word that stands with a file in parentheses is in that file.
 - Each wrong body that stands behind its crate and a colon is there.
 - The numbers of lines in the reading list of REVIEW are those of the files, and their sum.
-- The minutes behind a wrong body there are those of its crate and the crates below it in docs/GATE.md.
+- The minutes behind a wrong body there are those of its crate and the crates below it in docs/gate.tsv.
+- The sums in docs/GATE.md are those of docs/gate.tsv.
 """
 
 import re
@@ -33,7 +34,13 @@ ROOTS = [
     (CRATES / "golf_explore_command" / "specs" / "Means.antt", "CallTells"),
 ]
 TOPS = ["golf_command", "golf_explore_command"]
-MARKS = ("<!-- the list of checks/theorem.py begins -->", "<!-- the list of checks/theorem.py ends -->")
+LIST = ROOT / "docs" / "REACHED.md"
+HEAD_OF_LIST = """# Every file that the clauses reach
+
+`checks/theorem.py --write` makes this page. It begins at `Tells` and `CallTells` and follows each name to its
+definition, along the `use` lines. Files of the reading lists of `docs/THEOREM.md` and `docs/REVIEW.md` are bold. Types
+of the code are in `src/`.
+"""
 # The layers of crates.txt, those that matter first.
 LAYERS = ["program", "definitions", "ground", "laws", "collector", "machine", "checker", "lexer and parser", "reader",
           "generator"]
@@ -115,10 +122,10 @@ def reached():
     return lines
 
 
-def listed(lines, page):
-    """Returns the list, a line a crate: its files, first those that the page names, in bold."""
+def listed(lines, pages):
+    """Returns the list, a line a crate: its files, first those that the pages name, in bold."""
     of = {name: crate.layer.split(":")[0] for name, crate in crates().items()}
-    named = set(re.findall(r"`(golf_\w+/specs/[\w/]+\.antt)`", page))
+    named = set(re.findall(r"`(golf_\w+/specs/[\w/]+\.antt)`", pages))
     rows = defaultdict(list)
     for file in {file for file, _ in lines}:
         place = file.relative_to(CRATES)
@@ -182,7 +189,7 @@ def faults_of_lines(page):
 
 
 def with_minutes(page):
-    """Returns the page with the minutes of processor that docs/GATE.md has for the crates of its wrong bodies."""
+    """Returns the page with the minutes of processor that docs/gate.tsv has for the crates of its wrong bodies."""
     known = crates()
 
     def renewed(row):
@@ -193,33 +200,36 @@ def with_minutes(page):
     return DEAR.sub(renewed, page)
 
 
+def faults_of_sums():
+    """Returns what is wrong with docs/GATE.md: it has the sums of the last row of docs/gate.tsv."""
+    rows = [line.split("\t") for line in text_of(ROOT / "docs" / "gate.tsv").splitlines()]
+    sums = ", ".join(f"{phase} {minutes}" for phase, minutes in zip(rows[0][1:], rows[-1][1:]))
+    page = single_blanks(text_of(ROOT / "docs" / "GATE.md"))
+    return [] if f"{sums}." in page else [f"GATE lacks the sums: {sums}"]
+
+
 def main():
     options = Words(__doc__)
-    options.add_argument("--write", action="store_true", help="write the list of files and the minutes anew")
+    options.add_argument("--write", action="store_true", help="write docs/REACHED.md and the minutes anew")
     write = options.parse_args().write
     lines, page, review = reached(), text_of(PAGE), text_of(REVIEW)
     if write:
         review = with_minutes(review)
         REVIEW.write_text(review, encoding="utf-8")
     files, count = {file for file, _ in lines}, sum(lines.values())
-    begin, end = (page.find(mark) for mark in MARKS)
-    if begin < 0 or end < begin:
-        return ended("theorem", [f"no list in {PAGE.relative_to(ROOT)}"])
-    rest = page[:begin] + page[end:]
     told = f"{len(files)} files, and {count:,} of their lines, without blank lines and comments."
-    told = "\n".join([MARKS[0], "", told, "", *listed(lines, rest + review), "", ""])
+    told = "\n".join([HEAD_OF_LIST, told, "", *listed(lines, page + review), ""])
     if write:
-        page = page[:begin] + told + page[end:]
-        PAGE.write_text(page, encoding="utf-8")
-    named = {name for name, _, _ in NAMED.findall(rest) if "/specs/" in name}
+        LIST.write_text(told, encoding="utf-8")
+    named = {name for name, _, _ in NAMED.findall(page) if "/specs/" in name}
     faults = faults_of_blocks(page) + faults_of_files(page, files, named) + faults_of_wrong_bodies(page)
     to_read = {name for name, _ in TO_READ.findall(review)}
     bad = faults_of_files(review, files, to_read) + faults_of_wrong_bodies(review) + faults_of_lines(review)
-    faults = [f"THEOREM: {fault}" for fault in faults] + [f"REVIEW: {fault}" for fault in bad]
+    faults = [f"THEOREM: {fault}" for fault in faults] + [f"REVIEW: {fault}" for fault in bad] + faults_of_sums()
     if with_minutes(review) != review:
         faults.append("the minutes of REVIEW are stale: python3 checks/theorem.py --write")
-    if told not in page:
-        faults.append("the list of files is stale: python3 checks/theorem.py --write")
+    if not LIST.is_file() or told != text_of(LIST):
+        faults.append("docs/REACHED.md is stale: python3 checks/theorem.py --write")
     return ended(f"{len(files)} files and {count} lines are reached", faults)
 
 

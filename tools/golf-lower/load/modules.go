@@ -16,11 +16,14 @@ import (
 	"slices"
 	"strconv"
 	"strings"
+	"unicode"
+	"unicode/utf8"
 )
 
 // Unit is a package that is run, or whose tests are called.
 type Unit struct {
 	Path    string
+	Dir     string
 	Main    bool
 	Program *Program
 	Tests   []string // the names of its tests, in the order of the files
@@ -173,7 +176,7 @@ func missing(l *listed) error {
 
 // unit is a package that the patterns match, as a program.
 func (m *modules) unit(l *listed, tests bool) *Unit {
-	u := &Unit{Path: l.ImportPath, Main: l.Name == "main", Err: m.missing}
+	u := &Unit{Path: l.ImportPath, Dir: l.Dir, Main: l.Name == "main", Err: m.missing}
 	if l.Error != nil {
 		u.Err = missing(l)
 	}
@@ -250,7 +253,12 @@ func TestNames(files []Source) []string {
 
 // isTest: the declaration has the form of a test.
 func isTest(fd *ast.FuncDecl) bool {
-	name := fd.Name.Name
-	return fd.Recv == nil && strings.HasPrefix(name, "Test") && name != "TestMain" &&
-		fd.Type.Params.NumFields() == 1 && fd.Type.TypeParams == nil
+	return fd.Recv == nil && IsTestName(fd.Name.Name) && fd.Type.Params.NumFields() == 1 && fd.Type.TypeParams == nil
+}
+
+// IsTestName: the command go test takes a function of this name as a test.
+func IsTestName(name string) bool {
+	rest, ok := strings.CutPrefix(name, "Test")
+	first, _ := utf8.DecodeRuneInString(rest)
+	return ok && name != "TestMain" && !unicode.IsLower(first)
 }

@@ -58,9 +58,10 @@ func (p *prog) ordered() []*buffer {
 
 // Place is a place in the user's files: no line stands for generated code.
 type Place struct {
-	File string
-	Line int
-	Func string // the function around it, by the name that Go's stacks have
+	File   string
+	Line   int
+	Column int    // of its statement
+	Func   string // the function around it, by the name that Go's stacks have
 }
 
 // Output is the lowered file and its map.
@@ -72,6 +73,10 @@ type Output struct {
 	Clock    bool    // the program has a clock
 	Recovers bool    // the program recovers panics: one that golf itself raises is no answer
 	Sites    []Place // Sites[k-1] is the place of the panic with number k
+
+	Starts bool // a test starts goroutines, or has parts in parallel
+
+	Plain *Output // the same without holds, if there are some
 }
 
 // Map has a line for each line of the output: its file, by the name that name gives it, its line and function, or 0 if it
@@ -88,31 +93,36 @@ func (out *Output) Map(name func(string) string) string {
 	return sb.String()
 }
 
-// finish makes the tree of the lines, changes it, and prints it.
+// finish makes the output of the lines, and of a program with holds also that of the lines without them: one lowering serves
+// both.
 func (p *prog) finish(parts ...*buffer) (*Output, error) {
 	var lines []tree.Line
 	for _, b := range parts {
 		lines = append(lines, b.lines...)
 	}
+	if !p.opt.Hold {
+		return p.output(lines, false)
+	}
+	plain, err := p.output(p.withoutStalls(lines), false)
+	if err != nil {
+		return nil, err
+	}
+	out, err := p.output(lines, true)
+	if err == nil {
+		out.Plain = plain
+	}
+	return out, err
+}
+
+// output makes the tree of the lines, changes it, and prints it.
+func (p *prog) output(lines []tree.Line, holds bool) (*Output, error) {
 	file, err := tree.Parse(lines)
 	if err != nil {
 		return nil, &load.Error{Msg: fmt.Sprintf("the lowering fails: what it writes is no Go: %v", err)}
 	}
-	file.DropUnused()
-	file.DropUnreachable()
-	if p.opt.Late {
-		file.Late(p.stdFunc("time", "Late"), p.fresh)
-	}
-	if p.clock {
-		file.Count(p.stdFunc("time", "clock"))
-	}
-	if p.unwind {
-		file.Unwind(p.unwinding())
-	} else {
-		file.DropQuestions()
-	}
-	file.Chains(p.fresh)
-	out := &Output{Files: p.userFiles(), Recovers: p.unwind, Clock: p.clock || p.timed}
+	starts := p.opt.Tests && (p.parallel && p.parts || file.Starts(p.stdFunc("testing", "runner")))
+	p.passes(file, holds)
+	out := &Output{Files: p.userFiles(), Recovers: p.unwind, Clock: p.clock || p.timed, Starts: starts}
 	places := p.newPlaces()
 	var sb strings.Builder
 	for _, l := range file.Print() {
@@ -125,6 +135,27 @@ func (p *prog) finish(parts ...*buffer) (*Output, error) {
 		out.Sites = append(out.Sites, places.of(pos))
 	}
 	return out, nil
+}
+
+// passes change the tree.
+func (p *prog) passes(file *tree.File, holds bool) {
+	file.DropUnused()
+	file.DropUnreachable()
+	if p.opt.Late {
+		file.Late(p.stdFunc("time", "Late"), p.fresh)
+	}
+	if holds {
+		file.Late(p.stall(), p.fresh)
+	}
+	if p.clock {
+		file.Count(p.stdFunc("time", "clock"))
+	}
+	if p.unwind {
+		file.Unwind(p.unwinding())
+	} else {
+		file.DropQuestions()
+	}
+	file.Chains(p.fresh)
 }
 
 // userFiles is the number of the user's files.

@@ -337,6 +337,9 @@ func merge(pieces []piece) []piece {
 	return r
 }
 
+// fewPieces is how many strings are joined one after the other, which takes fewer turns than a list of them.
+const fewPieces = 8
+
 // textOfPieces is the text that the pieces make.
 func (p *prog) textOfPieces(pieces []piece) string {
 	var xs []string
@@ -355,8 +358,13 @@ func (p *prog) textOfPieces(pieces []piece) string {
 		return "nil"
 	case 1:
 		return xs[0]
-	case 2:
-		return p.golf("Join", xs...)
+	}
+	if len(xs) <= fewPieces {
+		joined := xs[0]
+		for _, x := range xs[1:] {
+			joined = p.golf("Join", joined, x)
+		}
+		return joined
 	}
 	text := "*" + p.structName(p.textType())
 	return p.golf("Concat", p.sliceOf(types.NewPointer(p.textType()), "[]"+text+"{"+strings.Join(xs, ", ")+"}", len(xs)))

@@ -23,6 +23,7 @@ type fctx struct {
 	label   string          // of the statement that comes next
 	taken   map[string]bool // names of its variables
 	testVar *types.Var      // the testing.T of a test
+	helper  bool            // it calls Helper: what it tells has the place of its caller
 	wrapped *string         // gets the operand of %w
 	hard    bool            // on the left of a, b = ..: a variable may change before it is used
 
@@ -188,6 +189,7 @@ func (p *prog) functionBuf(fn *function) *buffer {
 		f.testVar = fn.sig.Params().At(0)
 	}
 	f.at(fn.pos)
+	f.helper = p.opt.Tests && f.user() && p.callsHelper(fn.body)
 	entry := &buffer{}
 	params, args := f.params(fn, entry)
 	shared := false

@@ -65,6 +65,8 @@ func (f *fctx) intrinsic(fn *types.Func, c *ast.CallExpr) (string, bool) {
 			return p.stdFunc("time", "round") + "()", true
 		}
 		return "golf_quiet()", true
+	case "testing.Short":
+		return fmt.Sprint(p.opt.Short), true
 	case "os.write":
 		return p.golf("Write", f.expr(c.Args[0])), true
 	case "os.writeErr":

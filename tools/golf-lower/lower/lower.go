@@ -22,9 +22,11 @@ type Options struct {
 	Collect bool   // a collection before main returns
 	Late    bool   // a goroutine that the files start waits before its first statement
 	Pause   bool   // a goroutine waits, now and then, before a statement that can block
+	Hold    bool   // a goroutine waits, where the schedule chooses so, before it begins and before what others can see
 	Loose   bool   // time passes while goroutines run
 	Tests   bool   // main calls the tests of the files
 	Only    string // the only test that is called
+	Short   bool   // testing.Short
 }
 
 // Lower lowers a program.
@@ -207,6 +209,8 @@ type prog struct {
 	siteNumbers map[token.Pos]int // and their numbers
 	inner       map[string]string // the inner function of one that keeps its results for deferred calls
 	timed       bool              // the clock is reached
+	parallel    bool              // T.Parallel is reached
+	parts       bool              // T.Run is reached
 	rawNative   bool              // a method of sync is called as it is (clock.go)
 
 	open    []string          // types that are being held (types.go)

@@ -104,7 +104,7 @@ func (pl *places) of(pos token.Pos) Place {
 	if load.IsStandard(q.Filename) {
 		return Place{}
 	}
-	r := Place{File: q.Filename, Line: q.Line}
+	r := Place{File: q.Filename, Line: q.Line, Column: q.Column}
 	for _, f := range pl.funcs {
 		if f.pos <= pos && pos < f.end {
 			r.Func = f.name

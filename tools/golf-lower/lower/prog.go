@@ -57,6 +57,8 @@ func (p *prog) funcRef(fn *types.Func, args []types.Type) string {
 	if fn.Pkg() != nil {
 		p.reached[fn.Pkg()] = true
 	}
+	p.parallel = p.parallel || fn.FullName() == "(*testing.T).Parallel"
+	p.parts = p.parts || fn.FullName() == "(*testing.T).Run"
 	fd := p.bodies[fn]
 	if fd == nil || fd.Body == nil {
 		p.refuse("function %s", fn.FullName())
@@ -147,6 +149,13 @@ func (p *prog) whole() {
 	}
 	if p.opt.Late {
 		p.stdFunc("time", "Late")
+	}
+	if p.opt.Hold {
+		p.stall()
+		p.resume()
+	}
+	if p.opt.Tests && p.clock {
+		p.stdFunc("time", "settle")
 	}
 	p.unwindHelpers()
 	p.clockHelpers()
@@ -242,11 +251,17 @@ func (p *prog) collector() string {
 }
 
 // lastCollector is a function that collects once the other goroutines have had some turns, so that one that has just been
-// started can come to where it blocks.
+// started can come to where it blocks. In a test they have some time too, and those that are held go on.
 func (p *prog) lastCollector() string {
 	p.imports["runtime"] = true
 	return p.aux("golf", "last gc", func(name string, b *buffer) {
 		b.add(0, "func %s() {", name)
+		if p.opt.Hold {
+			b.add(0, "%s()", p.resume())
+		}
+		if p.opt.Tests && p.clock {
+			b.add(0, "%s()", p.stdFunc("time", "settle"))
+		}
 		b.add(0, "for i := 0; i < 300; i++ {")
 		b.add(0, "}")
 		b.add(0, "runtime.GC()")

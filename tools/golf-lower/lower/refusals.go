@@ -117,7 +117,7 @@ func (p *prog) try(g func()) (done bool) {
 // stmt lowers a statement. If all refusals are wanted, one in its head does not keep those in its bodies from being found.
 func (f *fctx) stmt(s ast.Stmt) {
 	old := *f
-	if f.p.try(func() { f.lowerStmt(s) }) {
+	if f.p.try(func() { f.helped(s) }) {
 		return
 	}
 	f.out, f.stack, f.hard, f.label = old.out, old.stack, old.hard, ""

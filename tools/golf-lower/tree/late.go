@@ -33,7 +33,7 @@ func lateFunc(fd *ast.FuncDecl, late, wait string) *ast.FuncDecl {
 	body := []ast.Stmt{call(pos, wait), call(pos, fd.Name.Name, paramNames(pos, fd.Type.Params)...)}
 	return &ast.FuncDecl{
 		Name: name(pos, late),
-		Type: &ast.FuncType{Func: pos, Params: fd.Type.Params},
+		Type: &ast.FuncType{Func: pos, Params: &ast.FieldList{List: fd.Type.Params.List}},
 		Body: &ast.BlockStmt{Lbrace: pos, List: body, Rbrace: pos},
 	}
 }

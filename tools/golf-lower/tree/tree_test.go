@@ -177,3 +177,12 @@ func TestLateGoroutinesWaitBeforeTheyBegin(t *testing.T) {
 		t.Errorf("got\n%s", got)
 	}
 }
+
+func TestStarts(t *testing.T) {
+	for in, want := range map[string]bool{"": false, "go run(1)": false, "for {\ngo f(2)\n}": true, "go run(1)\ngo f(2)": true} {
+		f := parse(t, "package main\nfunc main() {\n"+in+"\n}\nfunc run(a int) {\n}\nfunc f(a int) {\n}")
+		if got := f.Starts("run"); got != want {
+			t.Errorf("%q: %v", in, got)
+		}
+	}
+}

@@ -131,3 +131,14 @@ func TestGoroutinesAreCounted(t *testing.T) {
 		"func main() {\n\tgolf_busy.Add(1)\n\tif a {\n\t\tgolf_busy.Add(1)\n\t\tgo golf_run_f(1)\n\t}\n\tgo clock()\n}",
 		"func golf_run_f(a int) {\n\tf(a)\n\tgolf_busy.Done()\n}")
 }
+
+// A function that waits before it calls another one has parameters of its own: each of the two gets the state once.
+func TestALateFunctionGetsTheStateOnce(t *testing.T) {
+	f := parse(t, "package main\nfunc main() {\ngo f(1)\n}\nfunc f(a int) {\ngolf_g.p = nil\n}\nfunc wait() {\n}")
+	f.Late("wait", func(s string) string { return s })
+	f.Unwind(Unwinding{})
+	got := printed(f)
+	if strings.Contains(got, "golf_g *golf_G, golf_g *golf_G") || strings.Count(got, "(golf_g *golf_G, a int)") != 2 {
+		t.Errorf("got\n%s", got)
+	}
+}

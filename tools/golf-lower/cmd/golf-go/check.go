@@ -74,6 +74,7 @@ func (r *refusals) write(to io.Writer) {
 		for _, i := range instead {
 			if strings.HasPrefix(reason, i.begin) {
 				fmt.Fprintf(to, "\tinstead: %s\n", i.text)
+				break
 			}
 		}
 	}
@@ -88,6 +89,16 @@ var instead = []struct{ begin, text string }{
 	{"cap of a channel", "keep the size in a variable"},
 	{"defer in a range over", "collect the values first, and range over the slice"},
 	{"sort.Slice of a value", "give the slice its type before it is sorted"},
+	{"type complex", "two floats"},
+	{"the verb %#v", "%+v, or a method String"},
+	{"the verb %p", "a name or a number that the program gives"},
+	{"function (*testing.T).TempDir", "test what reads and writes behind an io.Reader or io.Writer, and files in a test of their own"},
+	{"function (*testing.T).", "hand on what is set as a parameter"},
+	{"runtime.SetFinalizer", "a method Close that the owner calls"},
+	{"os.", "an io.Reader or io.Writer as a parameter: there are no files"},
+	{"reflect.", "a method of an interface, or type parameters: there is no reflection beside DeepEqual"},
+	{"so long a literal", "several shorter literals"},
+	{"type parameter", "a parameter of an interface type"},
 }
 
 // checkUnit counts what of a package is accepted.

@@ -6,12 +6,13 @@
 //	golf-go explore PACKAGE [words]        looks at every schedule, by golf-explore all
 //	golf-go search PACKAGE [words]         looks for a schedule that shows a bug, by golf-explore search
 //	golf-go page PACKAGE [words] > PAGE    writes the page of a run
+//	golf-go test PACKAGES [words]          runs each test alone, and looks for goroutines that it leaves
 //	golf-go check PACKAGES                 lowers the packages and their tests, and runs nothing
 //
 //	golf-go --help, golf-go WORD --help    shows the words
 //	golf-go --version                      shows the release
 //
-// Words are --late, --pause, --clock loose, and the words of the program that is run. The programs are $GOLF, $GOLF_EXPLORE
+// Words are --late, --pause, --hold, --clock loose, and the words of the program that is run. The programs are $GOLF, $GOLF_EXPLORE
 // and $GOLF_PAGE, or golf, golf-explore and golf-page beside the executable, or those on the path. $GOLF_LOWERED names a file
 // for the lowered text.
 package main
@@ -53,7 +54,7 @@ func main() {
 }
 
 // modes are the first words, beside files.
-var modes = []string{"run", "explore", "search", "page", "check"}
+var modes = []string{"run", "test", "explore", "search", "page", "check"}
 
 // words are the words of the command line.
 type words struct {
@@ -61,6 +62,7 @@ type words struct {
 	paths   []string
 	late    bool
 	pause   bool
+	hold    bool
 	loose   bool
 	wrong   string   // what is wrong with the words
 	golf    []string // those of the program that is run
@@ -105,6 +107,9 @@ func (w *words) take(args []string) []string {
 		return args
 	case word == "--pause":
 		w.pause = true
+		return args
+	case word == "--hold":
+		w.hold = true
 		return args
 	case name == "--clock" && !whole && len(args) == 0:
 		w.wrong = "no value after --clock"
@@ -166,10 +171,13 @@ func (w words) line() []string {
 
 func (w words) options() lower.Options {
 	loose := w.loose || w.mode == "explore" || w.mode == "search"
-	return lower.Options{Collect: true, Late: w.late, Pause: w.pause, Loose: loose}
+	return lower.Options{Collect: true, Late: w.late, Pause: w.pause, Hold: w.hold, Loose: loose}
 }
 
 func run(ctx context.Context, args []string, stdout, stderr io.Writer) int {
+	if len(args) > 0 && args[0] == "test" && !slices.Contains(args, "--help") {
+		return test(ctx, args[1:], stdout, stderr)
+	}
 	w := parseWords(args)
 	switch {
 	case slices.Contains(args, "--help"):

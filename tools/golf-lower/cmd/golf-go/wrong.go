@@ -50,6 +50,14 @@ var mostChoices = map[bool]int{true: 100000, false: 4096}
 
 // wrongWord says which of the words is none of the program that a mode runs.
 func wrongWord(mode string, words []string) string {
+	if fault := faultOf(mode, words); fault != "" {
+		return fault
+	}
+	return "the words are not those of " + optionsOf[mode].program
+}
+
+// faultOf is what is wrong with the words of the program that a mode runs, "" if nothing is.
+func faultOf(mode string, words []string) string {
 	program := optionsOf[mode].program
 	var seen []string
 	for len(words) > 0 {
@@ -84,7 +92,7 @@ func wrongWord(mode string, words []string) string {
 	if i := slices.IndexFunc(seen, func(s string) bool { return s != "--threads" }); i >= 0 && slices.Contains(seen, "--threads") {
 		return "not beside --threads: " + seen[i]
 	}
-	return "the words are not those of " + program
+	return ""
 }
 
 // takes: the option takes the value.

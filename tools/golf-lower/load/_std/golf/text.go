@@ -102,10 +102,10 @@ func Len(t *Text) int {
 
 // Join is a + b.
 func Join(a, b *Text) *Text {
-	if Len(a) == 0 {
+	if a == nil || a.n == 0 {
 		return b
 	}
-	if Len(b) == 0 {
+	if b == nil || b.n == 0 {
 		return a
 	}
 	return &Text{kind: isPair, n: a.n + b.n, left: a, right: b}

@@ -4,7 +4,11 @@ package testing
 import (
 	"context"
 	"os"
+	"sync"
 )
+
+// mu guards what several goroutines may change of a test.
+var mu sync.Mutex
 
 // T is a test. What it and its parts have to tell is kept until it ends.
 type T struct {
@@ -24,6 +28,7 @@ type T struct {
 	subs     []*T          // those that run in parallel
 	parallel bool
 	done     bool
+	where    string // of the call of a helper
 }
 
 // Context is cancelled before the functions of Cleanup are called.
@@ -50,6 +55,35 @@ func (t *T) Skip(args ...any)
 func (t *T) Skipf(format string, args ...any)
 func (t *T) FailNow()
 func (t *T) SkipNow()
+
+// These touch files, or the process: a test that calls them is refused.
+func (t *T) TempDir() string
+func (t *T) Setenv(key, value string)
+func (t *T) Chdir(dir string)
+
+// TB is what helpers of tests and of benchmarks take. Only tests are run.
+type TB interface {
+	Chdir(dir string)
+	Cleanup(f func())
+	Context() context.Context
+	Error(args ...any)
+	Errorf(format string, args ...any)
+	Fail()
+	FailNow()
+	Failed() bool
+	Fatal(args ...any)
+	Fatalf(format string, args ...any)
+	Helper()
+	Log(args ...any)
+	Logf(format string, args ...any)
+	Name() string
+	Setenv(key, value string)
+	Skip(args ...any)
+	SkipNow()
+	Skipf(format string, args ...any)
+	Skipped() bool
+	TempDir() string
+}
 
 func (t *T) Fail()         { t.failed = true }
 func (t *T) Failed() bool  { return t.failed }
@@ -115,7 +149,27 @@ func top(name string, f func(t *T)) {
 
 // note keeps a line of the log.
 func note(t *T, text string) {
-	t.log += indent(t.depth+1) + text + "\n"
+	text = indent(t.depth+1) + text + "\n"
+	mu.Lock()
+	t.log += text
+	mu.Unlock()
+}
+
+// enter notes where a helper is called, and returns what was noted before.
+func enter(t *T, where string) string {
+	old := t.where
+	t.where = where
+	return old
+}
+
+func leaveTo(t *T, old string) { t.where = old }
+
+// place is the place that a helper tells.
+func place(t *T, own string) string {
+	if t.where != "" {
+		return t.where
+	}
+	return own
 }
 
 func fail(t *T) { t.failed = true }
@@ -144,6 +198,29 @@ func clean(t *T) {
 // finish ends a test.
 func finish(t *T) {
 	clean(t)
+	if t.parent != nil {
+		finishPart(t)
+		return
+	}
+	switch {
+	case t.failed:
+		failed = true
+		head("FAIL", t.name)
+	case t.skipped:
+		head("SKIP", t.name)
+	default:
+		head("PASS", t.name)
+	}
+	if t.log != "" {
+		write(t.log)
+	}
+	if t.parts != "" {
+		write(t.parts)
+	}
+}
+
+// finishPart ends a part, whose parent tells of it.
+func finishPart(t *T) {
 	word := "PASS"
 	if t.failed {
 		word = "FAIL"
@@ -151,38 +228,87 @@ func finish(t *T) {
 		word = "SKIP"
 	}
 	s := indent(t.depth) + "--- " + word + ": " + t.name + "\n" + t.log + t.parts
-	if t.parent == nil {
-		write(s)
-		failed = failed || t.failed
-		return
-	}
+	mu.Lock()
 	t.parent.parts += s
 	t.parent.failed = t.parent.failed || t.failed
+	mu.Unlock()
 }
 
-// write is lowered where it is called.
+// These are lowered where they are called. head writes the line of a test.
 func write(s string)
+func head(word, name string)
 
 var failed bool
 
 func end() {
+	verdict()
 	if failed {
-		write("FAIL\n")
 		os.Exit(1)
 	}
-	write("PASS\n")
 }
 
-// B and M are for the functions that are not called here.
+// B and F are for the functions that are not called here.
 type B struct{ N int }
 
 func (b *B) ResetTimer()
 func (b *B) ReportAllocs()
 func (b *B) Loop() bool
 
-type M struct{ n int }
+type F struct{ n int }
 
-func (m *M) Run() int
+func (f *F) Add(args ...any)
+func (f *F) Fuzz(ff any)
 
-func Short() bool   { return false }
+// M runs the tests that are planned, if the files have a TestMain.
+type M struct{ code int }
+
+type planned struct {
+	name string
+	f    func(t *T)
+	next *planned
+}
+
+var first, last *planned
+
+// plan keeps a test for M.Run.
+func plan(name string, f func(t *T)) {
+	p := &planned{name: name, f: f}
+	if last == nil {
+		first = p
+	} else {
+		last.next = p
+	}
+	last = p
+}
+
+func newM() *M { return &M{} }
+
+func (m *M) Run() int {
+	for p := first; p != nil; p = p.next {
+		top(p.name, p.f)
+	}
+	m.code = 0
+	if failed {
+		m.code = 1
+	}
+	verdict()
+	return m.code
+}
+
+// leave ends the program once TestMain has returned.
+func leave(m *M) { os.Exit(m.code) }
+
+// verdict writes the last line.
+func verdict() {
+	if failed {
+		write("FAIL\n")
+	} else {
+		write("PASS\n")
+	}
+}
+
+// Short is lowered where it is called.
+func Short() bool
+
 func Verbose() bool { return false }
+func Testing() bool { return true }

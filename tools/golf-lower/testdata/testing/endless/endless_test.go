@@ -1,0 +1,8 @@
+package endless
+
+import "testing"
+
+func TestEndless(t *testing.T) {
+	for n := 0; n >= 0; n++ {
+	}
+}
