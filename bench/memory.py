@@ -8,9 +8,16 @@ more than twice as much for 800 as for 100.
 Then it runs a file that starts 400,000 goroutines, each of which waits on a channel of its own that no other
 goroutine has, and collects, which reports them all. It prints the peak memory, and what it is for each goroutine,
 that of the run of 1,000 taken off.
+
+At last it counts by valgrind, if that is there, how many requests for memory two goroutines make that send to each
+other: the difference of a run of 6,100,000 turns, in which there are a million operations on channels, and of one of
+100,000. It fails if there are any.
 """
 
-from shared import Words, give_up, measured
+import re
+import shutil
+
+from shared import ROOT, Words, give_up, measured, run, text_of
 
 LOOP = """package main
 import "runtime"
@@ -39,6 +46,7 @@ func main() {
 	runtime.GC()
 }
 """
+PING_PONG = ROOT / "bench" / "rounds" / "ping_pong.go"
 # How a file collects, and after which slices of ten: after none if it is over 9.
 WAYS = (("collected after each tenth", 9), ("at the end alone", 10))
 
@@ -58,6 +66,26 @@ def of_goroutines(program):
     print(f"400,000 goroutines, each on a channel of its own, reported: {many:.0f} MB, {each:.0f} bytes each")
 
 
+def requests(program, turns):
+    """Returns how many requests for memory a run of so many turns makes."""
+    command = ["valgrind", "--leak-check=no", program, "run", "--turns", str(turns)]
+    found = re.search(r"total heap usage: ([\d,]+) allocs", run(command, text_of(PING_PONG)).stderr.decode())
+    if not found:
+        give_up("valgrind counted nothing")
+    return int(found[1].replace(",", ""))
+
+
+def of_operations(program):
+    """Prints how many requests for memory operations on channels make, and fails if there are any."""
+    if not shutil.which("valgrind"):
+        print("requests for memory: left out, since valgrind is not installed: apt install valgrind")
+        return
+    few, many = (requests(program, turns) for turns in (100_000, 6_100_000))
+    print(f"two goroutines that send to each other: {many - few} requests for memory in 6,000,000 turns")
+    if many != few:
+        give_up("an operation asks for memory")
+
+
 def main():
     options = Words(__doc__)
     options.add_program()
@@ -69,6 +97,7 @@ def main():
     if peaks[9, 800] > 2 * peaks[9, 100]:
         give_up("memory is not given back")
     of_goroutines(program)
+    of_operations(program)
 
 
 if __name__ == "__main__":

@@ -1,7 +1,7 @@
 #!/usr/bin/env python3
 """Compares golf-explore and golf with a model in Python, on examples and on generated programs.
 
-    tests/explored.py compare PROGRAM     compares the answers of `PROGRAM all`
+    tests/explored.py compare PROGRAM     compares the answers of `PROGRAM all` and `PROGRAM search`
     tests/explored.py check [PROGRAM]     compares runs of `golf`, turn by turn
     tests/explored.py all < FILE          what all schedules of a file come to, in the words of golf-explore
     tests/explored.py generate NUMBER     prints a generated program
@@ -9,7 +9,7 @@
 `compare` looks at the status, whether a run leaks, whether a run panics or falls asleep, and whether each run ends. The
 model looks at each turn of each state for these. The number of states is that of the model if frame-local turns follow
 each turn; with `--any-states` it may differ. The choices of a leak are replayed by the model, and with `--golf` by that
-program too.
+program too. `search` must find a leak exactly when the model does, with as few preemptions, or keep as many states.
 
 `check` runs the model and `golf run --every 1` on five schedules of each program. It compares output, reports,
 collections, endings and statuses turn by turn. For each line that a report can have in the model, it runs a shortest
@@ -26,16 +26,19 @@ import sys
 from model.code import code_of
 from model.machine import Run
 from model.programs import Counts, Maker, example_programs, made_programs, schedules_of
-from model.states import Explored, Settled, always_ends, plain_states
+from model.states import Explored, Searched, Settled, always_ends, plain_states, preemptions_of
 from model.syntax import Unread
 from shared import REPORTED, ROOT, Words, program, released, run, text_of
 
 DEFAULT_STATES = 1_000_000
 MOST_STATES_COUNTED_TWICE = 1_000
+MOST_STATES_SEARCHED_TWICE = 20_000
 FEW_STATES = 2_000
+MOST_PREEMPTIONS = 2
 MOST_TOLD = 20
 EVERY = re.compile(r"every schedule: (\d+) states, no leak")
 LEAK = re.compile(r"leak: --every (\d+) --schedule choices:(\d+(?:,\d+)*)")
+NOTHING = re.compile(rf"nothing found: (\d+) states, at most {MOST_PREEMPTIONS} preemptions")
 
 
 def lines_of(lines):
@@ -178,11 +181,11 @@ def check(given):
 class Told:
     """What golf-explore tells of a file."""
 
-    def __init__(self, explore, text, most):
-        ran = run([explore, "all", "--states", str(most)], text, 3600)
+    def __init__(self, explore, text, most, *words):
+        ran = run([explore, *(words or ("all",)), "--states", str(most)], text, 3600)
         self.lines = (ran.stdout + ran.stderr).decode().splitlines()
         self.status = ran.returncode
-        self.every, self.leak = self.first(EVERY), self.first(LEAK)
+        self.every, self.leak, self.nothing = self.first(EVERY), self.first(LEAK), self.first(NOTHING)
         self.reports = [line for line in self.lines if REPORTED.fullmatch(line)]
 
     def first(self, form):
@@ -224,6 +227,26 @@ def faults_of_leak(told, made, golf):
     return faults
 
 
+def faults_of_search(told, made):
+    """Returns what is wrong with the answer of a search by preemptions."""
+    searched = Searched(made.explored, MOST_PREEMPTIONS)
+    faults = []
+    if made.explored.states <= MOST_STATES_SEARCHED_TWICE:
+        plain = Searched(made.explored, MOST_PREEMPTIONS, settles=False)
+        if plain.found != searched.found:
+            faults.append(f"{searched.found} preemptions, {plain.found} without frame-local turns, both by the model")
+    if searched.found is None:
+        if told.status != 0 or not told.nothing or int(told.nothing[1]) != searched.visits:
+            faults.append(f"nothing in {searched.visits} states by the model")
+        return faults
+    if told.status != 1 or not told.leak:
+        return [*faults, f"a leak after {searched.found} preemptions by the model"]
+    preemptions = preemptions_of(made.code, [int(number) for number in told.leak[2].split(",")])
+    if preemptions != searched.found:
+        faults.append(f"a leak after {preemptions} preemptions, {searched.found} by the model")
+    return faults
+
+
 class Comparing:
     """The answers of a program beside the model's."""
 
@@ -240,6 +263,13 @@ class Comparing:
             self.leaks += 1
             self.shortest += bool(told.leak) and int(told.leak[1]) == len(made.explored.leak)
         self.bad += [f"program {made.name}: {fault}; told: {told.lines[:3]!r}" for fault in faults]
+        self.search(made)
+
+    def search(self, made):
+        """Compares the answer of a search by preemptions."""
+        told = Told(self.given.program, made.text, DEFAULT_STATES, "search", "--preemptions", str(MOST_PREEMPTIONS))
+        self.bad += [f"program {made.name}, search: {fault}; told: {told.lines[:3]!r}"
+                     for fault in faults_of_search(told, made)]
 
     def stops(self, name, most, line):
         """Looks whether the program stops on a file of examples/ with this line, and status 3."""

@@ -87,8 +87,8 @@ class Trial:
         link.unlink(missing_ok=True)
         link.symlink_to(prefix / "bin" / "golf-go")
         for program in (prefix / "bin" / "golf-go", link):
-            for words, status, part in (([LEAK], 1, b"goroutine 2: chan receive at line 5 in recv"),
-                                        (["explore", LEAK], 1, b"goroutine 2: chan receive at line 5 in recv"),
+            for words, status, part in (([LEAK], 1, b"goroutine 2: chan receive at leak.go:5:2 in recv"),
+                                        (["explore", LEAK], 1, b"goroutine 2: chan receive at leak.go:5:2 in recv"),
                                         (["page", LEAK], 0, b"<!doctype html>"),
                                         (["--help"], 0, b"golf-go run PACKAGE")):
                 found, output, errors = end_of([*user, str(program), *map(str, words)])

@@ -5,14 +5,25 @@ States are kept whole and compared exactly.
 
 from .machine import choices_of, dead_of, ending, goroutine_references, report_line, runnable, start, turn
 
-# Instructions that read and change nothing but the frames of their goroutine. The goroutine after such a turn is
-# computed once. This saves time alone: each turn of each goroutine is still taken in each state.
+# Instructions that read and change nothing but the frames of their goroutine; output is not compared. The goroutine
+# after such a turn is computed once. This saves time alone: each turn of each goroutine is still taken in each state.
 LOCAL = {"Int", "Bool", "Text", "Unit", "Nil", "Load", "Store", "Drop", "Neg", "Not", "Add", "Sub", "Mul", "Div", "Rem",
          "Eq", "Less", "AtMost", "Jump", "JumpIfNot", "Call", "Defer", "Print", "Panic"}
 
-# Those that read and change its innermost frame alone.
-FRAME_LOCAL = LOCAL - {"Call", "Print"}
+# So do these, if the goroutine has a frame after them.
+RETURNS = {"Return", "ReturnValue"}
 MOST_LOCAL_TURNS = 1_000
+
+
+def reads_frames_alone(code, goroutine):
+    """Whether the next turn of a goroutine that runs reads and changes its frames alone, or overflows the stack."""
+    frames = goroutine[1]
+    function, at, slots, operands, deferred, leaving, discards = frames[-1]
+    keeps_frames = bool(deferred) or len(frames) > 1
+    if leaving is not None:
+        return keeps_frames
+    name = code.functions[function].body[at][0]
+    return name in LOCAL or (name in RETURNS and keeps_frames)
 
 
 class Numbered:
@@ -78,11 +89,7 @@ class Explored:
 
     def local_turn(self, goroutine):
         """Returns the goroutine after its turn if that turn is local and it runs, else none."""
-        frame = goroutine[1][-1]
-        if goroutine[2] is not None or frame[5] is not None:
-            return None
-        name = self.code.functions[frame[0]].body[frame[1]][0]
-        if name not in LOCAL:
+        if goroutine[2] is not None or not reads_frames_alone(self.code, goroutine):
             return None
         state, printed = turn(self.code, ((), (), (goroutine,), 0, 0, None), 0, 0)
         return None if state[5] else state[2][0]
@@ -147,13 +154,14 @@ class Explored:
         """Yields the state after each turn, if the program has not ended."""
         return iter(()) if self.ending(state) else (after for number, after in self.turns(state))
 
-    def after_frame_local(self, number):
-        """Returns the goroutine of a number after its turn if its instruction reads and changes its frame alone."""
-        after = self.after_local[number]
-        if after is None:
-            return None
-        frame = self.goroutines.things[number][1][-1]
-        return after if self.code.functions[frame[0]].body[frame[1]][0] in FRAME_LOCAL else None
+    def after_frame_locals(self, number):
+        """Returns the goroutine of a number after all such turns, at most MOST_LOCAL_TURNS."""
+        for _ in range(MOST_LOCAL_TURNS):
+            after = self.after_local[number]
+            if after is None:
+                break
+            number = self.goroutine(after)
+        return number
 
     def add(self, state, parent, number):
         if state in self.came:
@@ -230,13 +238,92 @@ class Settled:
         explored = self.explored
         if explored.ending(state):
             return state
-        goroutines = tuple([self.settled(number) for number in state[2]])
+        goroutines = tuple([explored.after_frame_locals(number) for number in state[2]])
         return state[:2] + (goroutines,) + state[3:]
 
-    def settled(self, number):
-        for _ in range(MOST_LOCAL_TURNS):
-            after = self.explored.after_frame_local(number)
-            if after is None:
+
+# ---- a search by preemptions
+
+class Searched:
+    """A search by a rising number of preemptions, over the names of a finished search.
+
+    A turn is a preemption if the goroutine of the last turn can go on and another one takes it. A visit is a state
+    without an ending, and the goroutine that took the last turn. If `settles` is true, that goroutine takes its
+    frame-local turns at once. `found` is the fewest preemptions of a run that leaks, or None, and `visits` counts the
+    visits."""
+
+    def __init__(self, explored, most, settles=True):
+        self.explored, self.settles = explored, settles
+        first = (explored.queue[0], None)
+        self.seen, self.found, self.visits = {first}, None, 0
+        here = [(first, False)]
+        for preemptions in range(most + 1):
+            later = self.level(here)
+            self.visits = len(self.seen)
+            if later is None:
+                self.found = preemptions
+            if not later:
                 break
-            number = self.explored.goroutine(after)
-        return number
+            here = [(visit, True) for visit in later]
+
+    def level(self, here):
+        """Looks at what needs no more preemptions. Returns the visits of which other turns do, or None at a leak."""
+        later = []
+        for visit, preempts in here:
+            runner = self.place_of(visit)
+            if runner is not None and not preempts:
+                later.append(visit)
+            for after in self.turns(visit, runner, preempts):
+                if self.explored.ending(after[0]) or after in self.seen:
+                    continue
+                if self.explored.dead(after[0]):
+                    return None
+                self.seen.add(after)
+                here.append((after, False))
+        return later
+
+    def able(self, state):
+        """Returns the goroutines that can run, by their places among all."""
+        return [index for index, name in enumerate(state[2]) if self.explored.runs[name]]
+
+    def place_of(self, visit):
+        """Returns the place among those that can run of the goroutine that took the last turn, or None."""
+        state, runner = visit
+        names = [self.number_of(state, index) for index in self.able(state)]
+        return names.index(runner) if runner in names else None
+
+    def number_of(self, state, index):
+        """Returns the number of the goroutine at a place."""
+        return self.explored.goroutines.things[state[2][index]][0]
+
+    def turns(self, visit, runner, preempts):
+        """Yields the visit after each turn: those of the last goroutine if it can go on, or those of the others."""
+        able = self.able(visit[0])
+        for number, after in self.explored.turns(visit[0]):
+            place = number % len(able)
+            if runner is None or (place == runner) != preempts:
+                goroutine = self.number_of(visit[0], able[place])
+                yield self.settled(after, goroutine), goroutine
+
+    def settled(self, state, goroutine):
+        """Returns a state after the frame-local turns of one goroutine."""
+        if not self.settles or self.explored.ending(state):
+            return state
+        explored = self.explored
+        names = tuple([explored.after_frame_locals(name) if explored.goroutines.things[name][0] == goroutine else name
+                       for name in state[2]])
+        return state[:2] + (names,) + state[3:]
+
+
+def preemptions_of(code, numbers):
+    """Counts the preemptions of a run by these numbers."""
+    state, last, count = start(code), None, 0
+    for number in numbers:
+        able = runnable(state)
+        index = able[number % len(able)]
+        goroutine = state[2][index][0]
+        running = [state[2][other][0] for other in able]
+        count += last is not None and last != goroutine and last in running
+        state, _ = turn(code, state, index, number // len(able))
+        last = goroutine
+    return count

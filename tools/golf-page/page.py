@@ -9,6 +9,7 @@ Makes one page of a run, which needs nothing else. An answer of golf-explore is 
     --golf PROGRAM      the program golf; without it $GOLF, or the one that belongs to golf-page
     --explore PROGRAM   the program golf-explore; without it $GOLF_EXPLORE, or the one that belongs to golf-page
     --lines MAP         FILE is a lowered file, and MAP has the place of each of its lines
+    --notes NOTES       NOTES has the places of its panics, and what its lines can wait on
     --source ORIGINAL   a file from which it was lowered, once for each
     --command TEXT      the command that the page shows
 
@@ -30,7 +31,7 @@ from source import MOST_BYTES, rows_of
 from tell import STATUS, counted, fault_note, headline, output_rows, refusal_note, report_rows, rules_of
 from words import of_answer
 
-OPTIONS = ("--golf", "--explore", "--lines", "--source", "--command")
+OPTIONS = ("--golf", "--explore", "--lines", "--notes", "--source", "--command")
 SCRIPTS = ("data.js", "lanes.js", "source.js", "why.js", "page.js")
 MOST_OF_A_COMMAND = 200
 
@@ -134,7 +135,8 @@ def page_of(options, path, words):
     raw = read(path, "rb")
     if "--lines" in options:
         originals = [(each, read(each, "rb")) for each in options["--source"]]
-        places = Lowered(originals, raw, read(options["--lines"]))
+        places = Lowered(originals, raw, read(options["--lines"]),
+                         read(options["--notes"]) if "--notes" in options else "")
     else:
         places = Plain(path, raw)
     command = options.get("--command", " ".join(["./golf run", *of_answer(words), "<", path]))

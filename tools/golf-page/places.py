@@ -1,8 +1,11 @@
 """The places of a run: which rows and functions of the page its lines are in, and what it printed.
 
 A file that is run as it is has its own lines. A file that tools/golf-lower has lowered has a map: line k of the map
-is the place of line k of the lowered file, as FILE LINE FUNCTION, or 0 if the line is generated. Rows count the lines
-of all files of the page, from 1. Row 0 is generated code.
+is the place of line k of the lowered file, as FILE:LINE:COLUMN, a tab and the function. A generated line is 0,
+and a tab and a name if it has one. Rows count the lines of all files of the page, from 1. Row 0 is generated code.
+
+Its notes have a line for each place that a panic of the file can tell, as site N PLACE, and for each thing that a line
+can wait on, as wait LINE KIND THING. Tabs are between the parts.
 """
 
 import os
@@ -13,9 +16,10 @@ from source import Source
 # A lowered program prints a line in parts, as tools/golf-lower/output.go says. The mark is an operand of Println
 # between two parts, and after the last one if the line does not end there.
 MARK = "‿".encode()
-KIND = re.compile(MARK + b"(err|panic|exit) ")
-LINE = re.compile(r"\bline (\d+)\b")
-FAULT_END = re.compile(r"\(goroutine \d+, line \d+\)$")
+KIND = re.compile(MARK + b"(err|panic|exit|site) ")
+LINE = re.compile(r"\b(at )?line (\d+)\b")
+WAIT = re.compile(r"(goroutine \d+: (.+?)) at line (\d+)(?:, started at line (\d+))?(?=$|, )")
+FAULT_END = re.compile(r"\(goroutine (\d+), line (\d+)\)$")
 EXIT = re.compile(r"fatal error: sync: unlock of unlocked mutex \(goroutine \d+, line (\d+)\)$")
 
 
@@ -37,16 +41,20 @@ class Plain:
     def call(self, line):
         return self.source.call_of(line)
 
-    def told(self, line):
-        """Returns the words for a line of the run."""
-        return f"line {line}"
+    def at(self, line):
+        """Returns the words for a line of the run, behind a word such as started."""
+        return f"at line {line}"
+
+    def things(self, kind, line):
+        """Returns the words for what a goroutine waits on."""
+        return ""
 
     def told_text(self, text):
         """Returns a line of standard error with the places of the page's files."""
         return text
 
-    def told_tail(self, tail, printed):
-        """Returns a panic or fatal error with the places of the page's files."""
+    def told_tail(self, tail, printed, turns):
+        """Returns a panic or fatal error with the places of the page's files. The turns are those of the run."""
         return tail
 
     def printed(self, pieces):
@@ -56,11 +64,12 @@ class Plain:
 class Lowered:
     """The places of the files from which a lowered file was made. `originals` has (path, bytes) of each."""
 
-    def __init__(self, originals, lowered, lines):
+    def __init__(self, originals, lowered, lines, notes=""):
         names = [os.path.basename(path) for path, raw in originals]
         self.name = ", ".join(names)
         self.sources = [Source(text_of(raw)) for path, raw in originals]
         self.lowered = Source(text_of(lowered))
+        self.lines = text_of(lowered).split("\n")
         self.finalisers = self.lowered.finalisers
         self.files, before = [], 0
         for name, source in zip(names, self.sources):
@@ -68,46 +77,89 @@ class Lowered:
             before += len(source.rows)
         self.first_rows = dict(self.files)
         self.places = [place_of(line) for line in lines.splitlines()]
+        self.sites, self.waits = {}, {}
+        for kind, *rest in (line.split("\t") for line in notes.splitlines()):
+            if kind == "site":
+                self.sites[int(rest[0])] = rest[1]
+            else:
+                self.waits.setdefault(int(rest[0]), []).append(rest[1:])
 
     def place(self, line):
-        """Returns (file, line, function), with line 0 if the line is generated."""
-        return self.places[line - 1] if 0 < line <= len(self.places) else ("", 0, "")
+        """Returns (file, line, column, function), with line 0 if the line is generated."""
+        return self.places[line - 1] if 0 < line <= len(self.places) else ("", 0, 0, "")
 
     def row(self, line):
-        file, original, function = self.place(line)
+        file, original, _, _ = self.place(line)
         return self.first_rows[file] + original if original else 0
 
     def function(self, line):
-        file, original, function = self.place(line)
-        return function if original else self.lowered.function_of(line)
+        return self.place(line)[-1] or self.lowered.function_of(line)
 
     def call(self, line):
         return ""
 
     def told(self, line):
-        file, original, function = self.place(line)
+        """Returns the place of a line. Generated code is told by its function."""
+        file, original, column, function = self.place(line)
         if not original:
-            return f"line 0 in {self.lowered.function_of(line) or 'generated code'} [line {line} of the lowered file]"
-        return f"line {original}{f' of {file}' if len(self.files) > 1 else ''}{f' in {function}' if function else ''}"
+            return f"in {self.function(line) or 'generated code'}"
+        return f"{file}:{original}:{column}" + (f" in {function}" if function else "")
+
+    def at(self, line):
+        return ("at " if self.place(line)[1] else "") + self.told(line)
+
+    def things(self, kind, line):
+        found = [text for start, text in self.waits.get(line, []) if kind.startswith(start)]
+        return f", on {found[0]}" if found else ""
 
     def told_lines(self, text):
-        return LINE.sub(lambda match: self.told(int(match[1])), text)
+        return LINE.sub(lambda match: self.at(int(match[2])) if match[1] else self.told(int(match[2])), text)
+
+    def told_wait(self, match):
+        """Returns the words for a goroutine that waits."""
+        head, kind, line, started = match.groups()
+        start = f", started {self.at(int(started))}" if started else ""
+        return f"{head} {self.at(int(line))}{start}{self.things(kind, int(line))}"
 
     def told_text(self, text):
         if text.startswith("goroutine "):
-            return self.told_lines(text)
+            return WAIT.sub(self.told_wait, text, count=1)
         if text.startswith("refused: "):
             return "refused: golf does not accept the lowered file: " + self.told_lines(text.removeprefix("refused: "))
         return FAULT_END.sub(lambda match: self.told_lines(match[0]), text)
 
-    def told_tail(self, tail, printed):
+    def told_tail(self, tail, printed, turns):
         exits = EXIT.match(tail)
         if exits and printed.exit is not None:
-            at = f" at {self.told(int(exits[1]))}" if self.place(int(exits[1]))[1] else ""
+            at = f" {self.at(int(exits[1]))}" if self.place(int(exits[1]))[1] else ""
             return f"golf-go: os.Exit({printed.exit}){at}"
         if tail.startswith(f"panic: {MARK.decode()}"):
             tail = f"panic: {printed.panic.decode('utf-8', 'replace')}{tail.removeprefix('panic: ' + MARK.decode())}"
-        return self.told_text(tail)
+        return FAULT_END.sub(lambda match: self.told_fault(match, printed, turns), tail)
+
+    def told_fault(self, match, printed, turns):
+        """Returns the end of a panic. The place is the one that the file itself has told, else that of the panic, and
+        else that of the call of generated code."""
+        goroutine, line = int(match[1]), int(match[2])
+        told = self.sites.get(printed.site)
+        if told is None:
+            told = self.told(line if self.place(line)[1] else self.caller(goroutine, turns) or line)
+        return f"(goroutine {goroutine}, {told})"
+
+    def caller(self, goroutine, turns):
+        """Returns the line of the user's code that has called the generated code in which a goroutine is at the end, or
+        None. A call of generated code is open until its caller goes on."""
+        before, calls = None, []
+        for line in (turn.line for turn in turns if turn.goroutine == goroutine):
+            if before and self.place(before)[1] and not self.place(line)[1]:
+                calls += [before] if f"{self.lowered.function_of(line)}(" in self.lines[before - 1] else []
+            elif before and not self.place(before)[1] and self.place(line)[1]:
+                function = self.lowered.function_of(line)
+                same = [self.lowered.function_of(call) == function for call in calls]
+                at = same.index(True) if True in same else len(calls)
+                del calls[at:]
+            before = line
+        return calls[-1] if calls else None
 
     def printed(self, pieces):
         """Decodes what the lowered program printed."""
@@ -120,11 +172,11 @@ class Lowered:
 
 class Printed:
     """What a file printed: (turn, bytes) to standard output, (turn, bytes) to standard error, what its last panic
-    tells, and the status of os.Exit, if the file called that."""
+    tells, the number of the place of a panic, and the status of os.Exit, if the file called that."""
 
     def __init__(self, output):
         self.output = output
-        self.errors, self.panic, self.exit = [], b"", None
+        self.errors, self.panic, self.site, self.exit = [], b"", None, None
 
     def take(self, turn, line):
         """Takes one line that a lowered program printed."""
@@ -132,6 +184,9 @@ class Printed:
         rest = line[kind.end():] if kind else line
         if kind and kind[1] == b"exit":
             self.exit = int(rest.split()[0])
+            return
+        if kind and kind[1] == b"site":
+            self.site = int(rest.split()[0])
             return
         text = b"" if rest == MARK + b"\n" else rest.removesuffix(b" " + MARK + b"\n").replace(b" " + MARK + b" ", b"")
         if text.startswith(MARK + b"byte "):
@@ -144,9 +199,11 @@ class Printed:
 
 def place_of(line):
     """Reads a line of a map."""
-    file, _, rest = line.partition(" ")
-    number, _, function = rest.partition(" ")
-    return (file, int(number), function) if number else ("", 0, "")
+    if line.startswith("0"):
+        return "", 0, 0, line[2:]
+    place, _, function = line.partition("\t")
+    file, number, column = place.rsplit(":", 2)
+    return file, int(number), int(column), function
 
 
 def text_of(raw):

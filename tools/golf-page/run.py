@@ -26,7 +26,7 @@ class Run:
         self.trace = self.by_threads() if "--threads" in self.options else self.by_words(self.words)
         self.story = Story(self.trace)
         self.printed = places.printed(self.trace.pieces)
-        self.tail = places.told_tail(self.trace.tail, self.printed)
+        self.tail = places.told_tail(self.trace.tail, self.printed, self.trace.turns)
         self.exits = self.printed.exit is not None and bool(self.trace.tail)
         self.status = self.printed.exit if self.exits else self.trace.status
         self.how = ""

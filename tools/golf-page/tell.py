@@ -16,7 +16,8 @@ STATUS = {
     7: "A write failed.",
     8: "Memory ran out.",
 }
-TOLD_FAULT = re.compile(r"(?s)(panic|fatal error): (.*) \(goroutine (\d+), (line .*)\)$")
+TOLD_FAULT = re.compile(r"(?s)(panic|fatal error): (.*) \(goroutine (\d+), "
+                        r"((?:line|in) .*|[^()]+:\d+:\d+(?: in .*)?)\)$")
 GOOD, DOUBTFUL, BAD = "good", "warn", "bad"
 
 MOST_ROWS = 1000
@@ -63,8 +64,9 @@ def of_reports(reported, run):
     if len(reported) == 1:
         goroutine = reported[0]
         wait = goroutine.waits[-1]
-        sentence = (f"Goroutine {goroutine.number} waits for ever at {run.places.told(wait.line)} ({wait.kind}), "
-                    f"started at {run.places.told(goroutine.started)}.")
+        places = run.places
+        sentence = (f"Goroutine {goroutine.number} waits for ever {places.at(wait.line)} ({wait.kind}), "
+                    f"started {places.at(goroutine.started)}{places.things(wait.kind, wait.line)}.")
     else:
         sentence = of_places(reported, run.places)
     return head, [sentence] + (["Then the run crashed."] if run.tail and not run.exits else []), BAD
@@ -76,7 +78,7 @@ def of_places(reported, places):
     for goroutine in reported:
         key = (goroutine.waits[-1].line, goroutine.waits[-1].kind)
         counts[key] = counts.get(key, 0) + 1
-    parts = [f"{count:,} wait{'s' if count == 1 else ''} at {places.told(line)} ({kind})"
+    parts = [f"{count:,} wait{'s' if count == 1 else ''} {places.at(line)} ({kind})"
              for (line, kind), count in counts.items()]
     more = f", and others at {counted(len(parts) - 3, 'more place')}" if len(parts) > 3 else ""
     return ", ".join(parts[:3]) + more + "."
@@ -88,7 +90,8 @@ def of_crash(run):
     fault = TOLD_FAULT.match(run.tail)
     if fault:
         head = "Panic" if fault[1] == "panic" else "Fatal error"
-        return f"{head} at {fault[4]}", [f"Goroutine {fault[3]}: {fault[2]}."], BAD
+        at = "" if fault[4].startswith("in ") else "at "
+        return f"{head} {at}{fault[4]}", [f"Goroutine {fault[3]}: {fault[2]}."], BAD
     return "All goroutines are asleep", [f"No goroutine can run after turn {run.story.last:,}."], BAD
 
 
@@ -162,24 +165,24 @@ def report_lines(run):
 def asleep_lines(run):
     """Returns a line for each blocked goroutine of a run that ended asleep: how and where it waits, its start, and who
     holds the lock that it waits for. If the run could not be repeated, it is not known how the last one waits."""
-    lines, told = [], run.places.told
+    lines, at = [], run.places.at
     for number, goroutine in sorted(run.story.goroutines.items()):
         wait = goroutine.waits[-1] if goroutine.waits else None
         if number != FINALISERS and wait and wait.end is None and goroutine.end is None and goroutine.removed is None:
-            started = f", started at {told(goroutine.started)}" if goroutine.started and number != MAIN else ""
+            started = f", started {at(goroutine.started)}" if goroutine.started and number != MAIN else ""
             kind = run.kinds.get(number) or wait.kind or "blocked"
-            holder = held(run.holders.get(number), number, told)
-            line = f"goroutine {number}: {kind} at {told(wait.line)}{started}{holder}"
+            more = run.places.things(kind, wait.line) + held(run.holders.get(number), number, at)
+            line = f"goroutine {number}: {kind} {at(wait.line)}{started}{more}"
             lines.append((run.story.last, line, "asleep", number))
     return lines
 
 
-def held(lock, waiter, told):
+def held(lock, waiter, at):
     """Returns the words for the operation of the holder of a lock, if it is known."""
     if lock is None:
         return ""
     by = "itself" if lock.goroutine == waiter else f"goroutine {lock.goroutine}"
-    return f", locked by {by} at {told(lock.line)}"
+    return f", locked by {by} {at(lock.line)}"
 
 
 def kind_of(line):

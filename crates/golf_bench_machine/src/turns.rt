@@ -5,7 +5,7 @@ ghost use Rattle.golf_bench_machine.specs.Countdown.{counted_down};
 
 use crate::codes::{Kind, code_of};
 use golf_base::{List, Memory};
-use golf_data::{Channel, Code, Object, Side, Value, Wait, WaitKind};
+use golf_data::{Channel, Code, Object, Side, Value, Wait, WaitKind, Waits};
 use golf_machine::{Numbers, start, take_turns};
 use golf_ring::Ring;
 use golf_state::State;
@@ -28,15 +28,14 @@ fn channel(alloc: Global) -> Object {
 fn block_one(alloc: Global, state: &mut State) -> Result<(), Memory> {
     let object = state.make(channel(alloc))?;
     let g = state.spawn(List::new(alloc), 1)?;
-    let mut waits = List::new(alloc);
-    waits.push(Wait {
+    let wait = Wait {
         object,
         side: Side::Receive,
         value: Value::Nil,
         target: None,
         with_ok: false,
-    })?;
-    state.block(g, WaitKind::Receive, 1, waits, 0, 0)
+    };
+    state.block(g, WaitKind::Receive, 1, Waits::one(alloc, wait), 0, 0)
 }
 
 // The state before the first turn, with `blocked` goroutines blocked.

@@ -13,7 +13,7 @@ use crate::blocks::Block;
 use crate::counts::count_entries;
 use crate::insertions::put_in;
 use crate::removals::{retain_from, take_from};
-use crate::spots::spot_of;
+use crate::spots::{Spot, guess, spot_of};
 use crate::successors::next_in;
 use golf_base::Memory;
 use std::alloc::Global;
@@ -28,6 +28,8 @@ use std::marker::Model;
 pub struct BlockMap<V> {
     blocks: Vec<Block<V>>,
     count: usize,
+    // where `get_mut` found a key last
+    near: Spot,
 }
 
 impl<V> Model for BlockMap<V> {
@@ -55,6 +57,7 @@ impl<V: Drop> BlockMap<V> {
         BlockMap {
             blocks: Vec::new(alloc),
             count: 0,
+            near: guess(0),
         }
     }
 
@@ -66,13 +69,13 @@ impl<V: Drop> BlockMap<V> {
     }
 
     /// Lends the value of the key, or answers `None`. It looks first at the spot that the key has if all
-    /// keys from 0 on are there.
+    /// keys from 0 on are there, and then where `get_mut` found a key last.
     #[inline(always)]
     pub fn get(&self, key: u32) -> Option<&V>
         ensures { option_map (λ r. r.now) result ≡ find key self.now }
     {
         let blocks = self.blocks.as_slice();
-        let spot = spot_of(blocks, key)?;
+        let spot = spot_of(blocks, self.near, key)?;
         Some(&blocks[spot.block].entries[spot.index].1)
     }
 
@@ -84,8 +87,11 @@ impl<V: Drop> BlockMap<V> {
         ensures* lends { sem 𝓛 (lends_value V.row self.entry key result) }
         ensures here { find key self.old ≡ Some result.now }
     {
-        match spot_of(self.blocks.as_slice(), key) {
-            Some(spot) => &mut self.blocks[spot.block].entries[spot.index].1,
+        match spot_of(self.blocks.as_slice(), self.near, key) {
+            Some(spot) => {
+                self.near = spot;
+                &mut self.blocks[spot.block].entries[spot.index].1
+            }
             None => unreachable!(),
         }
     }

@@ -17,9 +17,9 @@ pub struct Spot {
     pub index: usize,
 }
 
-// The spot of the key if all keys from 0 on are there.
+/// Returns the spot of the key if all keys from 0 on are there.
 #[inline(always)]
-fn guess(key: u32) -> Spot {
+pub fn guess(key: u32) -> Spot {
     Spot {
         block: (key / 512) as usize,
         index: (key % 512) as usize,
@@ -61,17 +61,19 @@ fn searched<V: Drop>(blocks: &[Block<V>], key: u32) -> Option<Spot>
 }
 
 /// Returns the spot of the key, or `None`. It looks first at the spot that the key has if all keys from 0
-/// on are there.
+/// on are there, and then at the one that is given.
 #[inline(always)]
-pub fn spot_of<V: Drop>(blocks: &[Block<V>], key: u32) -> Option<Spot>
+pub fn spot_of<V: Drop>(blocks: &[Block<V>], near: Spot, key: u32) -> Option<Spot>
     requires { AreBlocks 0 blocks.now }
     ensures spot { IfSome result (λ s. has_key key (entry_in s.index (slice_get blocks.now s.block)) ≡ true) }
     ensures there { is_some result ≡ is_some (find key (entries_in blocks.now)) }
 {
     let spot = guess(key);
     if is_at(blocks, spot, key) {
-        Some(spot)
-    } else {
-        searched(blocks, key)
+        return Some(spot);
     }
+    if is_at(blocks, near, key) {
+        return Some(near);
+    }
+    searched(blocks, key)
 }

@@ -11,7 +11,7 @@ ghost use Rattle.golf_model.specs.Selects.{case_waits, select_kind, can_proceed}
 
 use crate::channel::channel_at;
 use golf_base::{List, Memory, ObjectId};
-use golf_data::{CaseKind, Channel, SelectCase, Side, Value, Wait, WaitKind};
+use golf_data::{CaseKind, Channel, SelectCase, Side, Value, Wait, WaitKind, Waits};
 use golf_state::{Reference, State, reference_in};
 use std::alloc::Global;
 
@@ -211,10 +211,10 @@ fn object_of(value: Value) -> Option<ObjectId>
 }
 
 /// Returns the waits of a goroutine for these cases, in source order. A case on nil has none.
-pub fn waits_of(alloc: Global, offers: &[Offer]) -> Result<List<Wait>, Memory>
+pub fn waits_of(alloc: Global, offers: &[Offer]) -> Result<Waits, Memory>
     ensures { IfOk result (λ waits. waits ≡ offered_waits (plain_offers offers.now)) }
 {
-    let mut waits = List::from_vec(Vec::with_capacity(alloc, offers.len())?);
+    let mut waits = Waits::new(alloc);
     for offer in offers {
         if let Some(object) = object_of(offer.channel) {
             waits.push(wait_of(offer, object))?;

@@ -11,11 +11,11 @@ ghost use Rattle.golf_state.specs.Outcomes.{Comes};
 ghost use Rattle.golf_chan.specs.Channels.{channel_of, HasFirst, IsEmptyWith};
 
 use crate::channel::{channel_at, take_first};
-use golf_base::{List, Memory, ObjectId};
-use golf_data::{Channel, Side, Value, Wait, WaitKind};
+use golf_base::{Memory, ObjectId};
+use golf_data::{Channel, Side, Value, Wait, WaitKind, Waits};
 use golf_state::{
-    Acting, Given, Outcome, Reference, State, Wakening, block_at, last_operand, one_wait,
-    proceed_with, received, reference_in,
+    Acting, Given, Outcome, Reference, State, Wakening, block_at, last_operand, proceed_with,
+    received, reference_in,
 };
 use std::alloc::Global;
 
@@ -92,7 +92,7 @@ fn receive_unbuffered(
         target: None,
         with_ok: receiving.with_ok,
     };
-    let waits = one_wait(alloc, wait)?;
+    let waits = Waits::one(alloc, wait);
     block_at(
         state,
         acting,
@@ -171,7 +171,7 @@ pub fn receive(
             receive_on(alloc, state, acting, receiving, object)
         }
         Reference::Nil => {
-            let waits = List::new(alloc);
+            let waits = Waits::new(alloc);
             block_at(state, acting, acting.after, 1, WaitKind::ReceiveNil, waits)?;
             Ok(Outcome::Blocked)
         }

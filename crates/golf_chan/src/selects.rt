@@ -23,7 +23,7 @@ fn operands(state: &State, g: GoroutineId) -> &[Value]
     ensures { reverse result.now ≡ operands_of g.0 state.now }
 {
     match state.frame(g) {
-        Some(frame) => frame.operands.as_slice(),
+        Some(frame) => frame.values.operands(),
         None => &[],
     }
 }

@@ -10,11 +10,11 @@ ghost use Rattle.golf_state.specs.FrameChanges.{went};
 ghost use Rattle.golf_state.specs.Outcomes.{Comes};
 
 use crate::channel::{buffer, channel_at};
-use golf_base::{List, Memory, ObjectId};
-use golf_data::{PanicKind, Side, Value, Wait, WaitKind};
+use golf_base::{Memory, ObjectId};
+use golf_data::{PanicKind, Side, Value, Wait, WaitKind, Waits};
 use golf_state::{
-    Acting, Outcome, Reference, State, Wakening, block_at, last_operands, one_wait, proceed,
-    received, reference_in,
+    Acting, Outcome, Reference, State, Wakening, block_at, last_operands, proceed, received,
+    reference_in,
 };
 use std::alloc::Global;
 
@@ -59,7 +59,7 @@ pub fn send_on(
         target: None,
         with_ok: false,
     };
-    let waits = one_wait(alloc, wait)?;
+    let waits = Waits::one(alloc, wait);
     block_at(state, acting, target, taken, WaitKind::Send, waits)?;
     Ok(Outcome::Blocked)
 }
@@ -79,7 +79,7 @@ pub fn send(alloc: Global, state: &mut State, acting: Acting) -> Result<Outcome,
     match reference_in(channel) {
         Reference::To(object) => send_on(alloc, state, acting, acting.after, 2, object, value),
         Reference::Nil => {
-            let waits = List::new(alloc);
+            let waits = Waits::new(alloc);
             block_at(state, acting, acting.after, 2, WaitKind::SendNil, waits)?;
             Ok(Outcome::Blocked)
         }

@@ -19,7 +19,7 @@ use Rattle.golf_run_texts.specs.Fixed.{most_bytes, no_memory_text}
 use Rattle.golf_run_texts.specs.Texts.{lexical_line, syntax_line, rule_line}
 use Rattle.golf_run_texts.specs.Output.{status_by, status_of, last_of, reports_of, anyone_reported, events_of}
 use Rattle.golf_run_texts.specs.Writes.{Write}
-use Rattle.golf_model.proofs.Agreeing.{dead-sound, dead-complete}
+use Rattle.golf_model.proofs.Agreeing.{dead-sound, dead-complete, others-live}
 use Rattle.golf_model_futures.proofs.MainLaws as Law
 use Rattle.golf_meaning_runs.proofs.WholeFiles.{files-sound}
 use Rattle.golf_meaning_runs.proofs.Agreeing.{programs-agree}
@@ -50,6 +50,7 @@ are-true code options = record {
   each = Law.book_tells_of_each code (events_of options) options.recover;
   dead = λ p g i. (dead-sound p g, dead-complete p g);
   still = λ p g i d. Law.reported_are_still code (events_of options) p g i (dead-complete p g d);
+  live = λ p g r i h f n. others-live p g r h f n;
 }
 
 -- the code of a file that the program accepts is never stuck
@@ -124,7 +125,7 @@ module _ (line : CommandLine) (bytes : List ℕ) (within : IsWithin line) where
     memory-tells r (inl e) = subst (λ t. FileTells line bytes t old new) (sym e.0)
         (record { means = ([], none-stands line, none-first, e.1); causes = e.2 })
     memory-tells r (inr e) = broken [] (Write.ToErr no_memory_text) r
-        (Cause no_memory_text none-first OutOfMemory) e.0 e.1
+        (Cause no_memory_text none-first (OutOfMemory (none-stands line))) e.0 e.1
 
   -- the file of a line that reads is refused
   module _ (reads : ReadsFile line) (short : length bytes ≤ most_bytes) (out : Option (List ℕ)) (of : ℕ)
@@ -235,7 +236,7 @@ module _ (line : CommandLine) (bytes : List ℕ) (within : IsWithin line) where
         causes = record { out = e.2.out ∙ steady.out; err = e.2.err ∙ steady.err };
       })
       stopped r got steady (inr e) = broken first last done (Write.ToErr no_memory_text) r
-          (Cause no_memory_text (first-of done more split) OutOfMemory) e.0
+          (Cause no_memory_text (first-of done more split) (OutOfMemory stands)) e.0
           (breaks-later first mid_way last done (Write.ToErr no_memory_text) got steady e.1)
 
       pub stopped-tells : (r : Status) → GotWrites done first mid_way → IsSteady first mid_way

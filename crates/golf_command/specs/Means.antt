@@ -72,15 +72,23 @@ pub record AreFirst (line : CommandLine) (bytes : List ℕ) (done : List Write) 
   pub accepted : (file : File) → Accepts bytes file → Begins line file done
   pub refused : ((file : File) → Accepts bytes file → ⊥) → done ≡ []
 
+-- The writes that may be done before memory runs out. A run by options may have done its first writes, and any other
+-- command line has done none.
+abbrev pub MayStand : CommandLine → List Write → Type 0
+MayStand (CommandLine.Run options) done = Unit {0}
+MayStand (CommandLine.Generate n) done = done ≡ []
+MayStand (CommandLine.Threads n) done = done ≡ []
+MayStand CommandLine.Meaning done = done ≡ []
+
 -- the text of a cause, which may follow these writes; only the file of a command line that reads is refused
-pub data IsCause (line : CommandLine) (bytes : List ℕ) : List ℕ → Type 0 where
-  Refusal : (text : List ℕ) → ReadsFile line → RefusedBy bytes text → IsCause line bytes text
-  OutOfMemory : IsCause line bytes no_memory_text
+pub data IsCause (line : CommandLine) (bytes : List ℕ) (done : List Write) : List ℕ → Type 0 where
+  Refusal : (text : List ℕ) → ReadsFile line → RefusedBy bytes text → IsCause line bytes done text
+  OutOfMemory : MayStand line done → IsCause line bytes done no_memory_text
 
 -- the write that may follow these: the next write of the way, or the text of a cause
 pub data MayFollow (line : CommandLine) (bytes : List ℕ) (done : List Write) : Write → Type 0 where
   Next : (write : Write) → AreFirst line bytes (done ++ write ∷ []) → MayFollow line bytes done write
-  Cause : (text : List ℕ) → AreFirst line bytes done → IsCause line bytes text
+  Cause : (text : List ℕ) → AreFirst line bytes done → IsCause line bytes done text
       → MayFollow line bytes done (Write.ToErr text)
 
 -- The file was accepted, and each sink got its whole text. After a run these are the output and the reports of the
@@ -101,14 +109,6 @@ pub record IsRefused (line : CommandLine) (bytes : List ℕ) (old new : Sinks) :
   pub text : List ℕ
   pub why : RefusedBy bytes text
   pub got : GotWrites (Write.ToErr text ∷ []) old new
-
--- The writes that may be done before memory runs out. A run by options may have done its first writes, and any other
--- command line has done none.
-abbrev pub MayStand : CommandLine → List Write → Type 0
-MayStand (CommandLine.Run options) done = Unit {0}
-MayStand (CommandLine.Generate n) done = done ≡ []
-MayStand (CommandLine.Threads n) done = done ≡ []
-MayStand CommandLine.Meaning done = done ≡ []
 
 -- The meaning of a status on a file's bytes and on the writes that the sinks got.
 abbrev pub FileMeans : CommandLine → List ℕ → Status → Sinks → Sinks → Type 0

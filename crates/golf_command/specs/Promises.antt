@@ -1,9 +1,11 @@
 -- The meaning of the words and a file: the status of the program, and the texts that it writes.
-use Rattle.std.specs.Prelude.{◌≡◌, ℕ, ◌≤◌, ◌<◌, ◌↔◌, List, [], length, Option, Some, None, IfSome}
+use Rattle.std.specs.Prelude.{◌≡◌, ℕ, false, ◌≤◌, ◌<◌, ◌↔◌, List, [], length, Option, Some, None, IfSome}
+use Rattle.golf_theory.specs.Maps.{Entry}
 use Rattle.golf_theory.specs.Membership.{In}
 use Rattle.golf_data.specs.declared.code.Code.{Code}
-use Rattle.golf_model.specs.State.{State, start, ending}
-use Rattle.golf_model.specs.LiveSet.{dead, Dead}
+use Rattle.golf_model.specs.State.{State, start, ending, is_running}
+use Rattle.golf_model.specs.Views.{GoroutineView}
+use Rattle.golf_model.specs.LiveSet.{dead, Dead, Node, Live}
 use Rattle.golf_model.specs.Runs.{Event, run, stops}
 use Rattle.golf_model.specs.Futures.{Leads, Still}
 use Rattle.golf_model_futures.specs.ReportedGoroutines.{TellsOfEach}
@@ -58,9 +60,12 @@ pub record Accepts (bytes : List ℕ) (file : File) : Type 0 where
 
 -- The reports of a run are true. Each names exactly the goroutines that are dead right before its collection and that
 -- no earlier report named, each once. These are the blocked goroutines outside the live set. A dead goroutine never
--- takes another step, however the run goes on.
+-- takes another step, however the run goes on. To each other blocked goroutine a chain leads from a root: a list in which
+-- each entry is a root, or an earlier entry makes it live.
 pub record AreTrue (code : Code) (options : RunOptions) : Type 0 where
   pub each : TellsOfEach [] (stops code (events_of options)) (reports_of code options)
+  pub live : (p : State) (g : ℕ) (r : GoroutineView) → In p (stops code (events_of options)) → Entry p.goroutines g r
+      → is_running r.mode ≡ false → (In g (dead p) → ⊥) → Live p (Node.AGoroutine g)
   pub dead : (p : State) (g : ℕ) → In p (stops code (events_of options)) → In g (dead p) ↔ Dead p g
   pub still : (p : State) (g : ℕ) → In p (stops code (events_of options)) → Dead p g → Still code p g
 

@@ -1,5 +1,5 @@
 -- What clearing does, place by place.
--- For: `clear_bits`, `clear_under`, `clear_all`, src/slots.rt; `cleared_slots`, specs/Slots.antt
+-- For: `clear_bits`, `clear_under`, `clear_all`, src/zeros.rt; `cleared_slots`, specs/Slots.antt
 -- By: induction over the list of values
 use Rattle.std.proofs.Common.{◌≡◌, ℕ, zero, suc, ◌+◌, ◌^◌, ◌<◌, ◌≤◌, nat_le, Bool, true, false, cond}
 use Rattle.std.proofs.Common.{List, [], ◌∷◌, length, Some, refl, sym, ◌∙◌, arith, slice_get}

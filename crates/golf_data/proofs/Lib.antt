@@ -1,3 +1,4 @@
 pub mod Masks
 pub mod Equal
 pub mod Clears
+pub mod Prefixes

@@ -1,5 +1,5 @@
 -- Bits of masks.
--- For: `ones_from`, `without`, `clear_bits`, src/slots.rt; `has_bit`, specs/Masks.antt
+-- For: `ones_from`, `without`, `clear_bits`, src/zeros.rt; `has_bit`, specs/Masks.antt
 -- By: arithmetic
 use Rattle.std.proofs.Common.{◌≡◌, ℕ, ◌-◌, ◌*◌, ◌%◌, ◌^◌, ◌<◌, ◌≤◌, true, false, ◌||◌, inl, inr}
 use Rattle.std.proofs.Common.{arith}
@@ -7,7 +7,7 @@ use Rattle.std.specs.Prelude.{bit_and, bit_or}
 use Rattle.std.specs.Int.{w64, bit_not, trailing_zeros}
 use Rattle.std.proofs.lemmas.Bool.{cases_lt}
 use Rattle.std.proofs.lemmas.Bool.Decides.{nat_tests}
-use Rattle.std.proofs.lemmas.Nat.Bits.{bit_at-lt, bit_at_or, ones_shl, bit_at_mask_below, bit_at_clear_same}
+use Rattle.std.proofs.lemmas.Nat.Bits.{bit_at-lt, bit_at_or, ones_shl, bit_at_mask_below, bit_at_mask_inside, bit_at_clear_same}
 use Rattle.std.proofs.lemmas.Nat.Bits.{bit_at_clear_other, bit_at-trailing_zeros}
 use Rattle.golf_data.specs.Masks.{has_bit}
 
@@ -20,6 +20,9 @@ from_place n i l t = elim (cases_lt i n) [
   | inl less ↦ (let z = rw (ones_shl 64 n (omega (arith, l)), bit_at_mask_below n 64 i less) at t in cc)
   | inr more ↦ more
 ]
+
+pub at_place : (n i : ℕ) → n < 64 → n ≤ i → i < 64 → has_bit ((2 ^ 64 - 1) * 2 ^ n % 2 ^ 64) i ≡ true
+at_place n i l a b = rw (ones_shl 64 n (omega (arith, l)), bit_at_mask_inside n 64 i a b)
 
 pub without_others : (n k i : ℕ) → k < 64 → i < 64 → (i ≡ k → ⊥)
     → has_bit (bit_and n (bit_not w64 (1 * 2 ^ k % 2 ^ 64))) i ≡ has_bit n i

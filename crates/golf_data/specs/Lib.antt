@@ -1,6 +1,9 @@
+pub mod DeferredCalls
 pub mod Effects
 pub mod Fatal
+pub mod FrameValues
 pub mod Masks
 pub mod Places
 pub mod Slots
+pub mod Waits
 pub mod Zeros

@@ -6,9 +6,11 @@
 ghost use Rattle.std.specs.Prelude.{◌≡◌};
 ghost use Rattle.golf_data.specs.Fatal.{is_fatal};
 
-use crate::slots::Slots;
+use crate::deferred_calls::DeferredCalls;
+use crate::frame_values::FrameValues;
 use crate::value::Value;
-use golf_base::{GoroutineId, List, ObjectId, Room};
+use crate::waits::Waits;
+use golf_base::{GoroutineId, List, ObjectId};
 
 /// A call that has not returned.
 #[derive(Debug, Drop)]
@@ -16,10 +18,10 @@ pub struct Frame {
     pub function: u32,
     /// The place of the next instruction.
     pub at: u32,
-    pub slots: Slots,
-    pub operands: Room<Value>,
+    /// The slots, and the operands, the last one on top.
+    pub values: FrameValues,
     /// The deferred calls, the last one on top.
-    pub deferred: List<Deferred>,
+    pub deferred: DeferredCalls,
     pub leaving: Leaving,
     /// Whether its value is discarded. This is true for the frame of a deferred call and for a
     /// first frame.
@@ -115,7 +117,7 @@ pub enum Mode {
         /// The line of the instruction that blocked.
         line: u32,
         /// In the source order of the cases.
-        waits: List<Wait>,
+        waits: Waits,
         ticket: u64,
     },
 }
@@ -139,12 +141,12 @@ pub enum WaitKind {
 /// One object that a blocked goroutine waits on.
 #[derive(Clone, Copy, Debug, PartialEq, Eq)]
 pub struct Wait {
-    pub object: ObjectId,
-    pub side: Side,
     /// The value to send; nil for any other wait.
     pub value: Value,
+    pub object: ObjectId,
     /// Where the goroutine goes on when this wait is served. `None` means where it stands.
     pub target: Option<u32>,
+    pub side: Side,
     /// Whether a receive also gives whether the value was sent.
     pub with_ok: bool,
 }

@@ -1,4 +1,4 @@
-pub mod Turns
+pub mod TurnLists
 pub mod Settled
 pub mod Growing
 pub mod Parents
@@ -7,3 +7,4 @@ pub mod Leading
 mod Seekings
 pub mod Falling
 pub mod Searched
+pub mod Sanities

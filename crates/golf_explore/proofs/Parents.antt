@@ -11,7 +11,7 @@ use Rattle.golf_explore.specs.declared.visits.Came.{Came}
 use Rattle.golf_explore.specs.declared.visits.Visit.{Visit}
 use Rattle.golf_explore.specs.VisitLists.{states, IsNext, IsFrom, AreVisits, LeadsTo, Joins, IsPathTo}
 use Rattle.golf_explore.proofs.Growing.{get-states}
-use Rattle.golf_explore.proofs.Turns.{leads-append}
+use Rattle.golf_explore.proofs.TurnLists.{leads-append}
 
 pub some-same : {X : Type 0} (m : Option X) (s t : X) → m ≡ Some s → m ≡ Some t → s ≡ t
 some-same m s t h k = let e : Some s ≡ Some t = sym h ∙ k in cc

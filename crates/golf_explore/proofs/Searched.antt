@@ -27,12 +27,12 @@ use Rattle.golf_explore.specs.Ranks.{HaveRanks}
 use Rattle.golf_explore.specs.VisitLists.{states, IsFrom, IsWell, AreVisits, LeadsTo, AreDone, ends_by}
 use Rattle.golf_explore.specs.VisitLists.{has_ended_by, HasVisited}
 use Rattle.golf_explore.specs.Results.{run_of, some_ended, CanEnd, Decides, EndsIf, TellsSearch, CountsVisits}
-use Rattle.golf_explore.specs.Results.{IsExploring, Unless}
+use Rattle.golf_explore.specs.Results.{Unless}
 use Rattle.golf_explore.specs.Results.{HasSearchedOn}
 use Rattle.golf_explore.proofs.Growing.{states-length, get-states, grown-length}
 use Rattle.golf_explore.proofs.Leading.{done-more, count-more}
 use Rattle.golf_explore.proofs.Falling.{In-get, get-there, always-ends}
-use Rattle.golf_explore.proofs.Turns.{leads-append, run-goes}
+use Rattle.golf_explore.proofs.TurnLists.{leads-append, run-goes}
 
 -- ---- the turns that lead to a visit
 

@@ -16,7 +16,7 @@ use Rattle.golf_explore.specs.declared.sought.Sought.{Sought}
 use Rattle.golf_explore.specs.Sought.{IsFound, IsReached, Shows}
 use Rattle.golf_explore.specs.Results.{run_of}
 use Rattle.golf_explore.specs.VisitLists.{GoesPlainly, IsTrail, has_ended_by}
-use Rattle.golf_explore.proofs.Turns.{goes-append, run-goes}
+use Rattle.golf_explore.proofs.TurnLists.{goes-append, run-goes}
 
 -- the first turns and one more
 take-suc-next : {X : Type 0} (ns : List X) (i : ℕ) (x : X) → slice_get ns i ≡ Some x

@@ -6,54 +6,29 @@ use Rattle.std.proofs.Common.{◌≡◌, ℕ, true, ◌&&◌, List, [], ◌∷�
 use Rattle.std.proofs.Common.{refl, sym, ap, ◌∙◌, subst, arith, append-nil, append_assoc}
 use Rattle.golf_theory.specs.Maps.{find}
 use Rattle.golf_data.specs.declared.code.Code.{Code}
-use Rattle.golf_data.specs.declared.code.CodeLine.{CodeLine}
-use Rattle.golf_data.specs.declared.goroutine.Leaving.{Leaving}
 use Rattle.golf_data.specs.declared.goroutine.Mode.{Mode}
 use Rattle.golf_model.specs.Views.{FrameView, GoroutineView}
 use Rattle.golf_model.specs.State.{State, ending, start, is_running}
-use Rattle.golf_model.specs.Turn.{line_at, whose_turn, step}
+use Rattle.golf_model.specs.Turn.{whose_turn, step}
 use Rattle.golf_model.specs.Futures.{Leads, Numbered}
 use Rattle.golf_model_futures.proofs.Leading.{leads-numbered}
 use Rattle.golf_explore_laws.specs.After.{silent, after, after_all}
 use Rattle.golf_explore_laws.specs.Closed.{IsPlain}
-use Rattle.golf_explore_laws.specs.Local.{is_local, IsLocal, IsLocalTurn, AreLocalTurns}
+use Rattle.golf_explore_laws.specs.Local.{IsLocal, IsLocalTurn, AreLocalTurns}
 use Rattle.golf_explore_laws.proofs.LocalKeeps.{numbered-after, local-keeps, locals-keep}
-use Rattle.golf_explore.specs.VisitLists.{GoesPlainly, IsTrail}
-use Rattle.golf_explore.specs.FrameLocalTurns.{line_is_local, frame_is_local, frames_are_local, goroutine_is_local}
-use Rattle.golf_explore.specs.FrameLocalTurns.{HasSettled, HasTakenAndSettled}
-use Rattle.golf_explore.proofs.Turns.{all-append, goes-append}
+use Rattle.golf_explore.specs.VisitLists.{TurnsHappen, GoesPlainly, IsTrail}
+use Rattle.golf_explore.specs.FrameLocalTurns.{frames_are_local, goroutine_is_local, HasSettled, HasTakenAndSettled}
+use Rattle.golf_explore.proofs.TurnLists.{all-append, goes-append, on-append, plainly-on}
 
--- ---- whether the next instruction is frame-local
+-- ---- whether the next turn is frame-local
 
 module _ (code : Code) where
-  -- the line of an instruction that is frame-local
-  line-local : (m : Option CodeLine) → line_is_local m ≡ true
-      → (line : CodeLine) × (m ≡ Some line) × (is_local line.instr ≡ true)
-  line-local None h = cc
-  line-local (Some l) h = (l, refl, h)
-
-  -- a goroutine that runs with this innermost frame is at a frame-local instruction
-  frame-local : (r : GoroutineView) (f : FrameView) (fs : List FrameView) (m : Leaving) → r.mode ≡ Mode.Running
-      → r.frames ≡ f ∷ fs → f.leaving ≡ m → frame_is_local code f m ≡ true → IsLocal code r
-  frame-local r f fs Leaving.No runs frames stays h =
-      let line = line-local (line_at code f.function f.at) h in
-      record {
-        runs = runs;
-        frame = f;
-        callers = fs;
-        frames = frames;
-        stays = stays;
-        line = line.0;
-        stands = line.1;
-        local = line.2;
-      }
-  frame-local r f fs (Leaving.Returning v) runs frames stays h = cc
-  frame-local r f fs (Leaving.Unwinding x) runs frames stays h = cc
-
+  -- a goroutine that runs with these frames takes a frame-local turn
   frames-local : (r : GoroutineView) (fs : List FrameView) → r.mode ≡ Mode.Running → r.frames ≡ fs
       → frames_are_local code fs ≡ true → IsLocal code r
   frames-local r [] runs frames h = cc
-  frames-local r (f ∷ fs) runs frames h = frame-local r f fs f.leaving runs frames refl h
+  frames-local r (f ∷ fs) runs frames h =
+      record { runs = runs; frame = f; callers = fs; frames = frames; local = h }
 
   mode-local : (r : GoroutineView) (m : Mode) → r.mode ≡ m → (is_running m && frames_are_local code r.frames) ≡ true
       → IsLocal code r
@@ -93,6 +68,14 @@ module _ (code : Code) where
         (λ on. k.1 ∙ none),
         local-goes ns (after code s n) (numbered-after code s n ordered) are.1 (k.0 ∙ goes) (k.1 ∙ none),
       )
+
+  local-on : (ns : List ℕ) (s : State) → Numbered s → AreLocalTurns code s ns → ending s ≡ None → TurnsHappen code s ns
+  local-on [] s ordered are goes = tt
+  local-on (n ∷ ns) s ordered are goes = (
+    goes,
+    local-on ns (after code s n) (numbered-after code s n ordered) are.1
+        ((local-keeps code s n ordered are.0).0 ∙ goes),
+  )
 
   pub leads-after : (s : State) (n : ℕ) → Leads code s → ending s ≡ None → Leads code (after code s n)
   leads-after s n leads goes = Leads.Emptied (step code s n) (Leads.Turn s n leads goes)
@@ -147,6 +130,7 @@ module _ (code : Code) where
       are = are;
       local = tt;
       led = is;
+      goes_on = subst (TurnsHappen code s) (sym are) (goes, tt);
       goes = λ plain. subst (GoesPlainly code s) (sym are) (goes, subst IsPlain is plain, tt);
       leads = subst (Leads code) (sym is) (leads-after s number leads goes);
     }
@@ -166,6 +150,7 @@ module _ (code : Code) where
         are = h.adds;
         local = h.local;
         led = h.led;
+        goes_on = subst (TurnsHappen code s) (sym h.adds) (goes, local-on h.more u ordered h.local on);
         goes = λ plain. subst (GoesPlainly code s) (sym h.adds)
             (goes, (λ g. none-before plain), local-goes h.more u ordered h.local on (none-before plain));
         leads = h.leads;
@@ -179,6 +164,7 @@ trail-of code path numbers number t goes taken = record {
       taken.led
       ∙ sym (all-append code path numbers (start code)
       ∙ ap (after_all code (after_all code (start code) path)) taken.are);
+  goes_on = on-append code path numbers (start code) (plainly-on code path (start code) goes) taken.goes_on;
   goes = λ plain. goes-append code path numbers (start code) goes (taken.goes plain);
   some =
       let a = length-append path numbers in let b = ap length taken.are in omega (arith, a, b);

@@ -1,33 +1,21 @@
 -- Frame-local turns that follow a turn, and how they are recognised.
 use Rattle.std.specs.Prelude.{◌≡◌, ℕ, Bool, false, ◌&&◌, List, [], ◌∷◌, ◌++◌, Option, Some, None}
 use Rattle.golf_data.specs.declared.code.Code.{Code}
-use Rattle.golf_data.specs.declared.code.CodeLine.{CodeLine}
-use Rattle.golf_data.specs.declared.goroutine.Leaving.{Leaving}
 use Rattle.golf_model.specs.Views.{FrameView, GoroutineView}
 use Rattle.golf_model.specs.State.{State, is_running, ending}
-use Rattle.golf_model.specs.Turn.{line_at}
 use Rattle.golf_model.specs.Futures.{Leads}
 use Rattle.golf_explore_laws.specs.After.{after, after_all}
 use Rattle.golf_explore_laws.specs.Closed.{IsPlain}
-use Rattle.golf_explore_laws.specs.Local.{is_local, AreLocalTurns}
-use Rattle.golf_explore.specs.VisitLists.{GoesPlainly}
+use Rattle.golf_explore_laws.specs.Local.{frame_is_local, AreLocalTurns}
+use Rattle.golf_explore.specs.VisitLists.{TurnsHappen, GoesPlainly}
 
--- ---- whether the next instruction is frame-local
-
-abbrev pub line_is_local : Option CodeLine → Bool
-line_is_local None = false
-line_is_local (Some l) = is_local l.instr
-
-abbrev pub frame_is_local : Code → FrameView → Leaving → Bool
-frame_is_local code f Leaving.No = line_is_local (line_at code f.function f.at)
-frame_is_local code f (Leaving.Returning v) = false
-frame_is_local code f (Leaving.Unwinding x) = false
+-- ---- whether the next turn is frame-local
 
 abbrev pub frames_are_local : Code → List FrameView → Bool
 frames_are_local code [] = false
-frames_are_local code (f ∷ fs) = frame_is_local code f f.leaving
+frames_are_local code (f ∷ fs) = frame_is_local code f fs f.leaving
 
--- the goroutine runs, and its next instruction is frame-local
+-- the goroutine runs, and its next turn is frame-local
 abbrev pub goroutine_is_local : Code → Option GoroutineView → Bool
 goroutine_is_local code None = false
 goroutine_is_local code (Some r) = is_running r.mode && frames_are_local code r.frames
@@ -44,11 +32,12 @@ pub record HasSettled (code : Code) (s t : State) (before numbers : List ℕ) : 
   pub leads : Leads code t
 
 -- The turn of this number and frame-local ones after it lead from the first state to the second, and these are their
--- numbers. If the second state is plain, so is each state between.
+-- numbers. The program has not ended before the last one. If the second state is plain, so is each state between.
 pub record HasTakenAndSettled (code : Code) (s : State) (number : ℕ) (t : State) (numbers : List ℕ) : Type 0 where
   pub more : List ℕ
   pub are : numbers ≡ number ∷ more
   pub local : AreLocalTurns code (after code s number) more
   pub led : t ≡ after_all code (after code s number) more
+  pub goes_on : TurnsHappen code s numbers
   pub goes : IsPlain t → GoesPlainly code s numbers
   pub leads : Leads code t

@@ -3,3 +3,4 @@ pub mod VisitLists
 pub mod FrameLocalTurns
 pub mod Results
 pub mod Sought
+pub mod Sane

@@ -14,7 +14,7 @@ use Rattle.golf_explore.specs.declared.full_search.Exploration.{Exploration}
 use Rattle.golf_explore.specs.declared.full_search.Explored.{Explored}
 use Rattle.golf_explore.specs.declared.full_search.Visited.{Visited}
 use Rattle.golf_explore.specs.declared.visits.Visit.{Visit}
-use Rattle.golf_explore.specs.VisitLists.{has_ended_by, states, AreVisits, AreDone}
+use Rattle.golf_explore.specs.VisitLists.{has_ended_by, states, TurnsHappen, AreVisits, AreDone}
 
 -- the state after the turns of these numbers, with the collections that instructions ask for
 abbrev pub run_of : Code → List ℕ → State
@@ -38,9 +38,10 @@ abbrev pub EndsIf : Code → Bool → Type 0
 EndsIf code true = AlwaysEnds code
 EndsIf code false = Unit {0}
 
--- after some turns an object has a finaliser
+-- after some turns, each of which begins before the program has ended, an object has a finaliser
 abbrev pub GivesFinaliser : Code → Type 0
-GivesFinaliser code = (numbers : List ℕ) × (not_empty (after_all code (start code) numbers).finalisers ≡ true)
+GivesFinaliser code = (numbers : List ℕ) × TurnsHappen code (start code) numbers
+    × (not_empty (after_all code (start code) numbers).finalisers ≡ true)
 
 -- a visit has one of these endings
 abbrev pub some_ended : (Ending → Bool) → List Visit → Bool

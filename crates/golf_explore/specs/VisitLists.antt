@@ -19,6 +19,11 @@ states visits = map (λ v. silent v.state) visits
 
 -- ---- turns one after another
 
+-- each of these turns begins in a state without an ending
+abbrev pub TurnsHappen : Code → State → List ℕ → Type 0
+TurnsHappen code s [] = Unit {0}
+TurnsHappen code s (n ∷ ns) = (ending s ≡ None) × TurnsHappen code (after code s n) ns
+
 -- each of these turns begins in a state without an ending, and reaches a plain state
 abbrev pub GoesPlainly : Code → State → List ℕ → Type 0
 GoesPlainly code s [] = Unit {0}
@@ -82,10 +87,11 @@ pub record IsPathFor (code : Code) (visits : List Visit) (at : ℕ) (path : List
   pub stands : slice_get (states visits) at ≡ Some (after_all code (start code) path)
   pub on : ending (after_all code (start code) path) ≡ None
 
--- These turns lead from the opening state to this one. There is at least one. If this state is plain, so is each state
--- on the way.
+-- These turns lead from the opening state to this one, and the program has not ended before the last one. There is at
+-- least one. If this state is plain, so is each state on the way.
 pub record IsTrail (code : Code) (numbers : List ℕ) (s : State) : Type 0 where
   pub led : s ≡ after_all code (start code) numbers
+  pub goes_on : TurnsHappen code (start code) numbers
   pub goes : IsPlain s → GoesPlainly code (start code) numbers
   pub some : 0 < length numbers
 

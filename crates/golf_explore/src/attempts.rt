@@ -4,7 +4,7 @@ ghost use Rattle.std.specs.Prelude.{IfOk, IfSome};
 ghost use Rattle.golf_data.specs.Places.{HasPlaces};
 ghost use Rattle.golf_explore.specs.Sought.{IsReached};
 
-use crate::replays::take;
+use crate::turns::take;
 use golf_base::{GoroutineId, Memory};
 use golf_data::Code;
 use golf_machine::{start, whose_turn};
@@ -15,21 +15,24 @@ use std::alloc::Global;
 #[derive(Drop)]
 pub(crate) struct Reached {
     pub(crate) state: State,
-    /// The goroutine that took the last turn, or `None` without a turn.
-    pub(crate) runner: Option<GoroutineId>,
     /// How many of the turns were preemptions: another goroutine took the turn though the last one could go on.
     pub(crate) preemptions: u32,
 }
 
-/// Returns whether the goroutine can run.
-pub(crate) fn can_run(state: &State, g: GoroutineId) -> bool {
+/// Returns the place of a goroutine among those that can run, or `None` if it cannot.
+pub(crate) fn place_of(state: &State, g: GoroutineId) -> Option<usize> {
     let runnable = state.runnable();
     for place in 0..runnable.count() {
         if runnable.at(place) == g {
-            return true;
+            return Some(place);
         }
     }
-    false
+    None
+}
+
+/// Returns whether the goroutine can run.
+pub(crate) fn can_run(state: &State, g: GoroutineId) -> bool {
+    place_of(state, g).is_some()
 }
 
 // Whether the turn of a goroutine is a preemption of the last one.
@@ -67,9 +70,5 @@ pub(crate) fn attempt(
             return Ok(None);
         }
     }
-    Ok(Some(Reached {
-        state,
-        runner,
-        preemptions,
-    }))
+    Ok(Some(Reached { state, preemptions }))
 }

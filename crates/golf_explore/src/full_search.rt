@@ -73,7 +73,8 @@ fn told(visits: &[Visit], count: u32, ends: bool) -> Visited
 /// It visits states breadth first, each one once. After each turn frame-local turns are taken at once, and only the
 /// state after them is visited. It ends at the first leak, whose schedule it makes shorter, as `Search` does.
 ///
-/// The time is linear in the turns of all paths, since a state is made anew for each of its turns.
+/// Each turn is taken from a copy of the state of its visit. So a turn costs as much as the state is large, however
+/// long the path to it is.
 #[derive(Drop)]
 pub struct Exploration {
     visits: Visits,

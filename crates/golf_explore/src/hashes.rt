@@ -41,10 +41,10 @@ fn mix_values(hash: u64, values: &[Value]) -> u64 {
 // Deferred calls are only counted.
 fn mix_frame(hash: u64, frame: &Frame) -> u64 {
     let place = mix(mix(hash, frame.function as u64), frame.at as u64);
-    let deferred = mix(place, frame.deferred.len() as u64);
+    let deferred = mix(place, frame.deferred.as_slice().len() as u64);
     mix_values(
-        mix_values(deferred, frame.slots.as_slice()),
-        frame.operands.as_slice(),
+        mix_values(deferred, frame.values.slots()),
+        frame.values.operands(),
     )
 }
 

@@ -5,9 +5,9 @@
 //!
 //! Both go step by step. So a caller can say how far a search is, and can stop it.
 //!
-//! A search visits a state once. A visit keeps its state, and the turns that led to it from an earlier visit. No state
-//! is copied: the turns of its path make it anew, and one more turn leads on from it. States are compared exactly.
-//! Hashes only find the states to compare.
+//! A search visits a state once. A visit keeps its state, and the turns that led to it from an earlier visit.
+//! `Exploration` takes each turn of a visit from a copy of its state. `Search` makes the state anew by the turns of its
+//! path. States are compared exactly. Hashes only find the states to compare.
 //!
 //! `Exploration` does not visit each state that turns reach. After a turn it takes frame-local turns at once, and visits
 //! only the state after them. What it says holds for each state.
@@ -22,10 +22,11 @@ mod full_search;
 mod hashes;
 mod paths;
 mod preemption_search;
-mod replays;
+mod searched_visits;
 mod shorter_schedules;
 mod sought;
 mod successors;
+mod turns;
 mod visit_ranks;
 mod visits;
 

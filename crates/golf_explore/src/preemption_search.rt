@@ -1,25 +1,27 @@
 //! A search for a leak, a panic or a sleep by a rising number of preemptions.
 //!
-//! First come the schedules without a preemption, then those with one, and so on. The nearest states come first. Only
-//! the order in which states are visited, and so the running time, rests on the lists of a search.
+//! First come the schedules without a preemption, then those with one, and so on. The nearest states come first. After a
+//! turn the same goroutine takes its frame-local turns. Which states are visited is claimed of none: what is found is
+//! run once more from the opening state.
 
-ghost use Rattle.std.specs.Prelude.{◌≡◌, ◌<◌, ◌∷◌, ◌++◌, [], IfOk, IfSome};
+ghost use Rattle.std.specs.Prelude.{◌≡◌, ◌<◌, IfOk, IfSome};
 ghost use Rattle.golf_data.specs.Places.{HasPlaces};
 ghost use Rattle.golf_data.specs.declared.code.Code.{Code as CodeOf};
 ghost use Rattle.golf_explore.specs.declared.sought.Sought.{Sought as SoughtOf};
+ghost use Rattle.golf_explore.specs.Sane.{IsSane};
 ghost use Rattle.golf_explore.specs.Sought.{Finds, sought_of};
 
-use crate::attempts::{Reached, attempt, can_run};
+use crate::attempts::{attempt, can_run};
 use crate::choices::choices;
 use crate::hashes::hash_of;
-use crate::paths::add_backwards;
-use crate::shorter_schedules::shortened;
+use crate::paths::{add_backwards, joined};
+use crate::searched_visits::{Next, SaneVisits};
+use crate::shorter_schedules::{shortened, shows};
 use crate::sought::{Sought, is_found};
 use crate::successors::number_of;
-use crate::visits::{Came, Visit, Visits};
+use crate::visits::{Came, Visit};
 use golf_base::{GoroutineId, List, Memory};
 use golf_data::Code;
-use golf_machine::start;
 use golf_state::State;
 use std::alloc::Global;
 
@@ -57,7 +59,7 @@ struct Outlook {
 // What a search has visited, and what it is still to look at.
 #[derive(Drop)]
 struct Frontier {
-    visits: Visits,
+    visits: SaneVisits,
     // For each visit the goroutine that took the last turn. For the first one there is none.
     runners: List<Option<GoroutineId>>,
     // What is looked at with this many preemptions, and how much of it was looked at.
@@ -139,30 +141,10 @@ fn numbers_to(alloc: Global, visits: &[Visit], at: u32) -> Result<List<u64>, Mem
     Ok(List::from_vec(numbers))
 }
 
-// These numbers, and one more at the end.
-fn longer(alloc: Global, numbers: &[u64], number: u64) -> Result<List<u64>, Memory>
-    ensures { IfOk result (λ more. more ≡ numbers.now ++ number ∷ []) }
-{
-    let mut more = List::new(alloc);
-    more.extend_from_slice(numbers)?;
-    more.push(number)?;
-    Ok(more)
-}
-
-// The turn of this number, from the visit at this place.
-fn came_by(alloc: Global, parent: u32, number: u64) -> Result<Came, Memory> {
-    let mut numbers = List::new(alloc);
-    numbers.push(number)?;
-    Ok(Came { parent, numbers })
-}
-
 impl Frontier {
     // The search before its first turn.
     fn new(alloc: Global, code: &Code) -> Result<Frontier, Memory> {
-        let state = start(alloc, code)?;
-        let hash = hash_of(alloc, &state)?;
-        let mut visits = Visits::new(alloc)?;
-        visits.push(state, None, hash)?;
+        let visits = SaneVisits::new(alloc, code)?;
         let mut runners = List::new(alloc);
         runners.push(None)?;
         let mut here = List::new(alloc);
@@ -180,28 +162,32 @@ impl Frontier {
         })
     }
 
-    // Keeps a state without an ending, unless it was visited already. The turn of this number led to it.
+    // Keeps a state without an ending, unless it was visited already. Turns of a visit led to it.
     fn keep(
         &mut self,
         alloc: Global,
         most: u32,
-        reached: Reached,
+        next: Next,
         parent: u32,
-        number: u64,
     ) -> Result<Option<SearchResult>, Memory>
+        requires { ∥ IsSane next.state ∥₁ }
         ensures { (code : CodeOf) (sought : SoughtOf) → IfOk result (λ searched. IfSome searched (Finds code sought)) }
     {
-        let hash = hash_with(hash_of(alloc, &reached.state)?, reached.runner);
-        if self.visits.find(alloc, &reached.state, hash)?.is_some() {
+        let Next {
+            state,
+            runner,
+            numbers,
+        } = next;
+        let hash = hash_with(hash_of(alloc, &state)?, Some(runner));
+        if self.visits.has(alloc, &state, hash)? {
             return Ok(None);
         }
-        let place = self.visits.list.len();
+        let place = self.visits.list().len();
         if place >= most as usize {
             return Ok(Some(SearchResult::TooMany));
         }
-        let came = came_by(alloc, parent, number)?;
-        self.visits.push(reached.state, Some(came), hash)?;
-        self.runners.push(reached.runner)?;
+        self.visits.push(state, Came { parent, numbers }, hash)?;
+        self.runners.push(Some(runner))?;
         self.here.push(Outlook {
             at: place as u32,
             preempting: false,
@@ -209,7 +195,27 @@ impl Frontier {
         Ok(None)
     }
 
-    // Looks at the state after a turn of a visit, which these turns reach.
+    // Runs the turns of a visit once more, and then these. `None` if that run does not reach what is sought.
+    fn confirm(
+        &self,
+        alloc: Global,
+        code: &Code,
+        sought: Sought,
+        parent: u32,
+        more: &[u64],
+    ) -> Result<Option<SearchResult>, Memory>
+        requires { HasPlaces code.now }
+        ensures { IfOk result (λ searched. IfSome searched (Finds code.now sought)) }
+    {
+        let path = numbers_to(alloc, self.visits.list(), parent)?;
+        let numbers = joined(alloc, path.as_slice(), more)?;
+        if shows(alloc, code, sought, numbers.as_slice(), u32::MAX)? {
+            return Ok(Some(SearchResult::Found(numbers)));
+        }
+        Ok(None)
+    }
+
+    // Looks at the state after a turn of a visit.
     fn visit(
         &mut self,
         alloc: Global,
@@ -217,22 +223,23 @@ impl Frontier {
         aim: Aim,
         parent: u32,
         number: u64,
-        path: &[u64],
     ) -> Result<Option<SearchResult>, Memory>
         requires { HasPlaces code.now }
         ensures { IfOk result (λ searched. IfSome searched (Finds code.now aim.sought)) }
     {
-        let numbers = longer(alloc, path, number)?;
-        let Some(reached) = attempt(alloc, code, numbers.as_slice())? else {
-            return Ok(Some(SearchResult::Finalisers));
+        let Some(next) = self.visits.after_turn(alloc, code, parent, number)? else {
+            return Ok(None);
         };
-        if is_found(alloc, aim.sought, &reached.state)? {
-            return Ok(Some(SearchResult::Found(numbers)));
+        if next.state.has_finaliser() {
+            return Ok(Some(SearchResult::Finalisers));
         }
-        if reached.state.ending().is_some() {
+        if is_found(alloc, aim.sought, &next.state)? {
+            return self.confirm(alloc, code, aim.sought, parent, next.numbers.as_slice());
+        }
+        if next.state.ending().is_some() {
             return Ok(None);
         }
-        self.keep(alloc, aim.states, reached, parent, number)
+        self.keep(alloc, aim.states, next, parent)
     }
 
     // Looks at turns of a visit.
@@ -247,7 +254,7 @@ impl Frontier {
         ensures { IfOk result (λ searched. IfSome searched (Finds code.now aim.sought)) }
     {
         let Outlook { at, preempting } = outlook;
-        let Some(visit) = self.visits.list.as_slice().get(at as usize) else {
+        let Some(visit) = self.visits.list().get(at as usize) else {
             return Ok(None);
         };
         let last = self
@@ -260,9 +267,8 @@ impl Frontier {
         if !preempting && goes_on(&visit.state, last) {
             self.later.push(at)?;
         }
-        let path = numbers_to(alloc, self.visits.list.as_slice(), at)?;
         for number in turns.as_slice() {
-            if let Some(searched) = self.visit(alloc, code, aim, at, *number, path.as_slice())? {
+            if let Some(searched) = self.visit(alloc, code, aim, at, *number)? {
                 return Ok(Some(searched));
             }
         }
@@ -275,7 +281,7 @@ impl Frontier {
         ensures { (code : CodeOf) (sought : SoughtOf) → IfOk result (λ searched. IfSome searched (Finds code sought)) }
     {
         if self.later.is_empty() || self.preemptions >= most {
-            let states = self.visits.list.len() as u64;
+            let states = self.visits.list().len() as u64;
             return Ok(Some(SearchResult::Nothing(states)));
         }
         self.preemptions = self.preemptions.saturating_add(1);
@@ -323,7 +329,7 @@ impl Search {
 
     /// Returns how many states are kept so far.
     pub fn states(&self) -> u64 {
-        self.frontier.visits.list.len() as u64
+        self.frontier.visits.list().len() as u64
     }
 
     /// Looks at turns of the next state. Returns `None` if the search goes on, and its result at its end. The only error

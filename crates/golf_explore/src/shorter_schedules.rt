@@ -13,8 +13,8 @@ use std::alloc::Global;
 /// The most turns of a schedule that is made shorter. The time is the square of the turns.
 const LONGEST: usize = 4_096;
 
-// Whether the turns of these numbers reach what is sought, with at most so many preemptions.
-fn shows(
+/// Returns whether the turns of these numbers reach what is sought, with at most so many preemptions.
+pub(crate) fn shows(
     alloc: Global,
     code: &Code,
     sought: Sought,

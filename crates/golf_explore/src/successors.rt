@@ -1,6 +1,6 @@
 //! Visits the states after the turns of one visit.
 //!
-//! The state of a visit is made anew before each of its turns. Frame-local turns follow a turn.
+//! Each turn of a visit is taken from a copy of its state. Frame-local turns follow a turn.
 
 ghost use Rattle.std.specs.Prelude.{◌≡◌, ◌<◌, ◌≤◌, ◌+◌, ◌*◌, ◌++◌, length, IfOk, IfSome, Some, None};
 ghost use Rattle.std.specs.Prelude.{slice_get, ℕ};
@@ -19,7 +19,6 @@ use crate::frame_local_turns::take_and_settle;
 use crate::full_search::Explored;
 use crate::hashes::hash_of;
 use crate::paths::{joined, path_to};
-use crate::replays::replay;
 use crate::shorter_schedules::shortened;
 use crate::sought::Sought;
 use crate::visits::{Came, Edge, Visits};
@@ -83,7 +82,7 @@ fn add(
     requires path { IsPathFor code.now visits.old.list origin.at origin.path.now }
     ensures { IfOk result (Unless code.now (HasAdded code.now visits.old.list visits.new.list edges.old edges.new (after code.now (after_all code.now (start_of code.now) origin.entry.path.now) number))) }
 {
-    let mut state = replay(alloc, code, origin.path)?;
+    let mut state = visits.copy_of(alloc, origin.at)?;
     let numbers = take_and_settle(alloc, code, &mut state, number)?;
     let hash = hash_of(alloc, &state)?;
     let turns = numbers.len() as u64;

@@ -2,7 +2,7 @@
 //!
 //! A row of the table has the visits with the same upper bits of the hash, the latest one first.
 
-ghost use Rattle.std.specs.Prelude.{◌≡◌, [], ◌<◌, ◌^◌, Some, length, slice_get, IfOk, IfSome, OnOk};
+ghost use Rattle.std.specs.Prelude.{◌≡◌, [], ◌<◌, ◌^◌, Some, length, slice_get, IfOk, IfSome, OnOk, OnErr};
 ghost use Rattle.golf_explore_laws.specs.After.{silent};
 ghost use Rattle.golf_explore.specs.VisitLists.{states, HasPushed};
 
@@ -98,10 +98,21 @@ impl Visits {
         Ok(None)
     }
 
-    /// Adds a visit at the end.
+    /// Returns a copy of the state of the visit at this place, without its output.
+    pub(crate) fn copy_of(&self, alloc: Global, at: u32) -> Result<State, Memory>
+        requires { at < length self.now.list }
+        ensures { IfOk result (λ state. slice_get (states self.now.list) at ≡ Some state) }
+    {
+        let mut state = self.list.as_slice()[at as usize].state.copy(alloc)?;
+        state.clear_output();
+        Ok(state)
+    }
+
+    /// Adds a visit at the end. On `Err` the list is unchanged.
     pub(crate) fn push(&mut self, state: State, came: Option<Came>, hash: u64) -> Result<(), Memory>
         requires { length self.old.list < 2 ^ 32 }
-        ensures { OnOk result (HasPushed self.old.list self.new.list state came) }
+        ensures ok { OnOk result (HasPushed self.old.list self.new.list state came) }
+        ensures err { OnErr result (self.new.list ≡ self.old.list) }
     {
         let row = row_of(hash);
         let before = self.last_of(row);

@@ -5,3 +5,4 @@ pub mod Starting
 pub mod Choosing
 pub mod Leaking
 pub mod Swinging
+pub mod Ties

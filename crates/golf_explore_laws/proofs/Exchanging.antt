@@ -130,7 +130,7 @@ runs-always code s g r is =
     ∙ ap (λ fs. can_run s.queue g (record { frames = fs; mode = Mode.Running; started = r.started })) is.frames
     ∙ or-true (not (g == 0))
 
-place-of : (x : ℕ) (xs : List ℕ) → In x xs → (i : ℕ) × (i < length xs) × (slice_get xs i ≡ Some x)
+pub place-of : (x : ℕ) (xs : List ℕ) → In x xs → (i : ℕ) × (i < length xs) × (slice_get xs i ≡ Some x)
 place-of x [] h = absurd h
 place-of x (y ∷ ys) (inl e) = (0, omega arith, ap Some (sym e))
 place-of x (y ∷ ys) (inr h) = let p = place-of x ys h in let below = p.1 in (suc p.0, omega (arith, below), p.2)

@@ -7,6 +7,8 @@ pub mod Commuting
 pub mod Others
 pub mod Exchanging
 pub mod Following
+pub mod StandIns
+pub mod Alike
 pub mod Settling
 pub mod Ranking
 pub mod MainLaws

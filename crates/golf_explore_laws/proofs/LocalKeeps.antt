@@ -51,9 +51,9 @@ pub local-keeps : (code : Code) (s : State) (n : ℕ) → Numbered s → IsLocal
 local-keeps code s n ordered is =
     let turn = local-turns code is.g is.r is.local in
     let steps = turn.steps s n is.whose is.found in
-    let same = turn.same s ordered.goroutines_rise is.found in (
-      ap ending steps ∙ becomes-ending is.g turn.after s same,
-      ap (λ (t : State). t.finalisers) steps ∙ becomes-finalisers is.g turn.after s,
+    let same = turn.same (silent s) ordered.goroutines_rise is.found in (
+      ap ending steps ∙ becomes-ending is.g turn.after (silent s) same,
+      ap (λ (t : State). t.finalisers) steps ∙ becomes-finalisers is.g turn.after (silent s),
     )
 
 -- so do frame-local turns one after another
@@ -85,7 +85,7 @@ dead-stays code s k g ordered i =
       λ l. outside (live-in (LiveObject s) (LiveGoroutine s) (step code s k) still (Node.AGoroutine g) l),
     ))
 
-empty : (xs : List ℕ) → ((x : ℕ) → In x xs → ⊥) → xs ≡ []
+pub empty : (xs : List ℕ) → ((x : ℕ) → In x xs → ⊥) → xs ≡ []
 empty [] h = refl
 empty (x ∷ xs) h = absurd (h x (inl refl))
 

@@ -1,7 +1,8 @@
--- From each state of each run some frame-local turns lead to a listed state, output apart.
--- For: the laws of closed lists, src/lib.rt; `IsClosed`, `SettlesIn`, specs/Closed.antt
--- By: induction over the list of events, and over the list of frame-local turns
-use Rattle.std.proofs.Common.{◌≡◌, ℕ, ◌%◌, Bool, List, [], ◌∷◌, length, None, sym, ap, ◌∙◌, subst}
+-- Each state of each run reaches a listed one, output apart, if the list is closed up to states that stand for others.
+-- For: the laws of closed lists, src/lib.rt; `IsClosedUpTo`, specs/StandIns.antt
+-- By: induction over the list of events, and over the list of states that stand for each other
+use Rattle.std.proofs.Common.{◌≡◌, ℕ, ◌%◌, Bool, false, List, [], ◌∷◌, length, Option, Some, None, refl, sym, ap, ◌∙◌}
+use Rattle.std.proofs.Common.{subst}
 use Rattle.std.proofs.lemmas.Nat.{mod_below}
 use Rattle.golf_theory.specs.Membership.{In}
 use Rattle.golf_data.specs.declared.code.Code.{Code}
@@ -13,87 +14,116 @@ use Rattle.golf_model.specs.Collections.{plain_collect}
 use Rattle.golf_model.specs.Runs.{Event, run}
 use Rattle.golf_model.specs.Futures.{Numbered}
 use Rattle.golf_model_futures.proofs.Leading.{numbered-start, numbered-step}
-use Rattle.golf_explore_laws.specs.After.{silent, after, after_all}
-use Rattle.golf_explore_laws.specs.Local.{AreLocalTurns}
-use Rattle.golf_explore_laws.specs.Closed.{SettlesIn, IsClosed, NoneDead, NoneEnds}
+use Rattle.golf_explore_laws.specs.After.{silent, after}
+use Rattle.golf_explore_laws.specs.Closed.{NoneDead, NoneEnds}
 use Rattle.golf_explore_laws.specs.Laws.{NeverLeaks, NeverReports, NeverEnds}
+use Rattle.golf_explore_laws.specs.StandIns.{kind_of, AsksKind, StandsFor, AreStandIns, last_from, ReachesIn}
+use Rattle.golf_explore_laws.specs.StandIns.{IsClosedUpTo}
 use Rattle.golf_explore_laws.proofs.Choices.{some-run, turn-by-choice}
-use Rattle.golf_explore_laws.proofs.LocalKeeps.{numbered-silent, locals-keep, none-before}
-use Rattle.golf_explore_laws.proofs.Following.{Follows, follows}
+use Rattle.golf_explore_laws.proofs.LocalKeeps.{numbered-silent}
+use Rattle.golf_explore_laws.proofs.StandIns.{none-kind, Follows, Keeps, last-keeps, goes-on, follows}
 use Rattle.golf_explore_laws.proofs.Visiting.{run-kept, stops-kept, silent-step, silent-dead, collect-plain}
 
-module _ (code : Code) (visited : List State) (closed : IsClosed code visited) where
-  abbrev Settles : State → Type 0
-  Settles = SettlesIn code visited
+-- ---- endings
+
+-- whether there is one of these endings
+abbrev pub ends_by : (Ending → Bool) → Option Ending → Bool
+ends_by is_one None = false
+ends_by is_one (Some e) = is_one e
+
+module _ (is_one : Ending → Bool) where
+  none-by : (m : Option Ending) → ((e : Ending) → m ≡ Some e → is_one e ≡ false) → ends_by is_one m ≡ false
+  none-by None h = refl
+  none-by (Some e) h = h e refl
+
+  -- endings of the same kind are both of these endings, or neither is
+  pub same-kind : AsksKind is_one → (m n : Option Ending) → kind_of m ≡ kind_of n → ends_by is_one m ≡ ends_by is_one n
+  same-kind asks None n h = ap (ends_by is_one) (sym (none-kind n (sym h)))
+  same-kind asks (Some e) None h = ap (ends_by is_one) (none-kind (Some e) h)
+  same-kind asks (Some e) (Some f) h = asks e f h
+
+module _ (code : Code) (For : State → State → Type 0) (visited : List State) (is : StandsFor code For)
+    (closed : IsClosedUpTo code For visited) where
+  abbrev Reaches : State → Type 0
+  Reaches = ReachesIn For visited
 
   -- ---- turns
 
-  listed-turn : (u : State) (k : ℕ) → In u visited → ending u ≡ None → Settles (after code u k)
+  listed-turn : (u : State) (k : ℕ) → In u visited → ending u ≡ None → Reaches (after code u k)
   listed-turn u k i goes =
       let p = turn-by-choice code u k goes in
-      subst Settles (sym (ap silent p.2))
+      subst Reaches (sym (ap silent p.2))
       (closed.turns u i goes (k % length (runnable u)) p.0
       (mod_below k (length (runnable u)) (some-run u goes), p.1))
 
-  settles-before : (s : State) (ms : List ℕ) → AreLocalTurns code s ms → Settles (after_all code s ms) → Settles s
-  settles-before s [] are z = z
-  settles-before s (m ∷ ms) are z =
-      let y = settles-before (after code s m) ms are.1 z in (m ∷ y.0, (are.0, y.1), y.2)
+  reaches-before : (s : State) (us : List State) → AreStandIns For s us → Reaches (last_from s us) → Reaches s
+  reaches-before s [] are z = z
+  reaches-before s (u ∷ us) are z = let y = reaches-before u us are.1 z in (u ∷ y.0, (are.0, y.1), y.2)
 
-  settles-by : (s : State) (ns : List ℕ) (k : ℕ) → In (after_all code s ns) visited
-      → ending (after_all code s ns) ≡ None → Follows code s ns k → Settles (after code s k)
-  settles-by s ns k i goes (Follows.OneOf ms l are leads) =
-      (ms, are, subst (λ (t : State). In t visited) (sym leads) i)
-  settles-by s ns k i goes (Follows.Behind ms l are leads) =
-      settles-before (after code s k) ms are (subst Settles (sym leads) (listed-turn (after_all code s ns) k i goes))
+  reaches-by : (s : State) (ts : List State) (k : ℕ) → In (last_from s ts) visited → ending (last_from s ts) ≡ None
+      → Follows code For s ts k → Reaches (after code s k)
+  reaches-by s ts k i goes (Follows.Inside us l are leads) =
+      (us, are, subst (λ (t : State). In t visited) (sym leads) i)
+  reaches-by s ts k i goes (Follows.Behind us j l are leads) =
+      reaches-before (after code s k) us are (subst Reaches (sym leads) (listed-turn (last_from s ts) j i goes))
 
   -- ---- runs
 
-  -- the numbers are in order, and the state settles, output apart
-  abbrev Settled : State → Type 0
-  Settled s = Numbered s × Settles (silent s)
+  -- the numbers are in order, and the state reaches a listed one, output apart
+  abbrev Has : State → Type 0
+  Has s = Numbered s × Reaches (silent s)
 
-  -- the listed state has the same ending, and the same finalisers
-  listed-keeps : (s : State) (p : Settled s) → (ending (after_all code (silent s) p.1.0) ≡ ending s)
-      × ((after_all code (silent s) p.1.0).finalisers ≡ s.finalisers)
-  listed-keeps s p = locals-keep code (silent s) p.1.0 (numbered-silent s p.0) p.1.1
+  abbrev listed : (s : State) → Has s → State
+  listed s p = last_from (silent s) p.1.0
 
-  settled-step : (s : State) (k : ℕ) → Settled s → ending s ≡ None → Settled (step code s k)
-  settled-step s k p goes = (
+  listed-keeps : (s : State) (p : Has s) → Keeps code For is (silent s) (listed s p)
+  listed-keeps s p = last-keeps code For is (silent s) p.1.0 p.1.1 (numbered-silent s p.0)
+
+  listed-on : (s : State) (p : Has s) → ending s ≡ None → ending (listed s p) ≡ None
+  listed-on s p goes = goes-on code For is (silent s) (listed s p) (listed-keeps s p) goes
+
+  has-step : (s : State) (k : ℕ) → Has s → ending s ≡ None → Has (step code s k)
+  has-step s k p goes = (
     numbered-step code s k p.0,
-    subst Settles (sym (silent-step code s k)) (settles-by (silent s) p.1.0 k p.1.2 ((listed-keeps s p).0 ∙ goes)
-        (follows code (silent s) p.1.0 k (numbered-silent s p.0) goes p.1.1)),
+    subst Reaches (sym (silent-step code s k)) (reaches-by (silent s) p.1.0 k p.1.2 (listed-on s p goes)
+        (follows code For is (silent s) p.1.0 k (numbered-silent s p.0) goes p.1.1)),
   )
 
-  settled-collect : (s : State) → Settled s → ending s ≡ None → Settled (plain_collect s)
-  settled-collect s p goes =
-      let k = listed-keeps s p in
-      let plain = closed.plain (after_all code (silent s) p.1.0) p.1.2 (k.0 ∙ goes) in
-      subst Settled (sym (collect-plain s (sym k.1 ∙ plain))) p
+  has-collect : (s : State) → Has s → ending s ≡ None → Has (plain_collect s)
+  has-collect s p goes =
+      subst Has (sym (collect-plain s
+      ((listed-keeps s p).plain (closed.plain (listed s p) p.1.2 (listed-on s p goes))))) p
 
-  settled-start : Settled (start code)
-  settled-start = (numbered-start code, closed.opening)
+  has-run : (events : List Event) → Has (run code (start code) events)
+  has-run events = run-kept code Has has-step has-collect events (start code) (numbered-start code, closed.opening)
 
-  settled-run : (events : List Event) → Settled (run code (start code) events)
-  settled-run events = run-kept code Settled settled-step settled-collect events (start code) settled-start
-
-  pub never-ends : (is_one : Ending → Bool) → NoneEnds is_one visited → NeverEnds is_one code
-  never-ends is_one none events e h =
+  -- no run has one of these endings if states that stand for each other have one, or have none
+  pub never-ends : (is_one : Ending → Bool)
+      → ((s : State) (ts : List State) → Numbered s → AreStandIns For s ts
+      → ends_by is_one (ending (last_from s ts)) ≡ ends_by is_one (ending s))
+      → NoneEnds is_one visited → NeverEnds is_one code
+  never-ends is_one same none events e h =
       let s = run code (start code) events in
-      let p = settled-run events in
-      none (after_all code (silent s) p.1.0) e p.1.2 ((listed-keeps s p).0 ∙ h)
+      let p = has-run events in
+      ap (ends_by is_one) (sym h)
+      ∙ sym (same (silent s) p.1.0 (numbered-silent s p.0) p.1.1)
+      ∙ none-by is_one (ending (listed s p)) (λ f k. none (listed s p) f p.1.2 k)
+
+  -- of endings whose kind is asked
+  pub never-ends-kind : (is_one : Ending → Bool) → AsksKind is_one → NoneEnds is_one visited → NeverEnds is_one code
+  never-ends-kind is_one asks = never-ends is_one (λ s ts ordered are.
+      same-kind is_one asks (ending (last_from s ts)) (ending s) (last-keeps code For is s ts are ordered).kind)
 
   module _ (alive : NoneDead visited) where
-    alive-settled : (s : State) → Settled s → ending s ≡ None → dead s ≡ []
-    alive-settled s p goes =
-        sym (silent-dead s)
-        ∙ none-before code (silent s) p.1.0 (numbered-silent s p.0)
-        (alive (after_all code (silent s) p.1.0) p.1.2 ((listed-keeps s p).0 ∙ goes))
+    alive-here : (s : State) → Has s → ending s ≡ None → dead s ≡ []
+    alive-here s p goes =
+        sym (silent-dead s) ∙ (listed-keeps s p).alive (alive (listed s p) p.1.2 (listed-on s p goes))
 
     pub never-leaks : NeverLeaks code
-    never-leaks events goes = alive-settled (run code (start code) events) (settled-run events) goes
+    never-leaks events goes = alive-here (run code (start code) events) (has-run events) goes
 
     pub never-reports : NeverReports code
     never-reports events p h =
-        let r = stops-kept code Settled settled-step settled-collect events (start code) p settled-start h in
-        alive-settled p r.0 r.1
+        let r = stops-kept code Has has-step has-collect events (start code) p
+        (numbered-start code, closed.opening) h in
+        alive-here p r.0 r.1

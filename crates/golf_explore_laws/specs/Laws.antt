@@ -10,6 +10,8 @@ use Rattle.golf_model.specs.LiveSet.{dead}
 use Rattle.golf_model.specs.Runs.{Event, has_ended, run, stops}
 use Rattle.golf_model.specs.Reports.{real_reports}
 use Rattle.golf_explore_laws.specs.Closed.{IsClosed, NoneDead, NoneEnds, IsRanked, turn_last_choice}
+use Rattle.golf_explore_laws.specs.StandIns.{AsksKind, StandsFor, IsAfterLocal, OneOf, IsClosedUpTo, IsRankedUpTo}
+use Rattle.golf_explore_laws.specs.Alike.{IsWellOrdered, AreAlike}
 
 -- ---- of every run: any turns, and collections at any places among them
 
@@ -70,6 +72,19 @@ TurnsByChoice = (code : Code) (s : State) (c : ℕ) → ending s ≡ None
     → (choice : ℕ) × (choice ≤ turn_last_choice code s (whose_turn s c))
     × (step code s c ≡ step code s (choice * length (runnable s) + c % length (runnable s)))
 
+-- the state after a frame-local turn stands for the one before it
+abbrev pub LocalTurnsStandFor : Type 0
+LocalTurnsStandFor = (code : Code) → StandsFor code (IsAfterLocal code)
+
+-- a closed list is closed up to states after frame-local turns, and ranks fall so
+abbrev pub ClosedUpToLocal : Type 0
+ClosedUpToLocal = (code : Code) (visited : List State) → IsClosed code visited
+    → IsClosedUpTo code (IsAfterLocal code) visited
+
+abbrev pub RankedUpToLocal : Type 0
+RankedUpToLocal = (code : Code) (ranked : List (State × ℕ)) (most : ℕ) → IsRanked code ranked most
+    → IsRankedUpTo code (IsAfterLocal code) ranked most
+
 abbrev pub ClosedListsNeverLeak : Type 0
 ClosedListsNeverLeak = (code : Code) (visited : List State) → IsClosed code visited → NoneDead visited → NeverLeaks code
 
@@ -99,3 +114,44 @@ RankedListsEnd = (code : Code) (ranked : List (State × ℕ)) (most : ℕ) → I
 abbrev pub RankedListsAlwaysEnd : Type 0
 RankedListsAlwaysEnd = (code : Code) (ranked : List (State × ℕ)) (most : ℕ) → IsRanked code ranked most
     → AlwaysEnds code
+
+-- ---- laws of alike states
+
+-- each of two alike states stands for the other
+abbrev pub AlikeStatesStandFor : Type 0
+AlikeStatesStandFor = (code : Code) → StandsFor code AreAlike
+
+abbrev pub AlikeBack : Type 0
+AlikeBack = (s t : State) → AreAlike s t → AreAlike t s
+
+abbrev pub AlikeThen : Type 0
+AlikeThen = (s t u : State) → AreAlike s t → AreAlike t u → AreAlike s u
+
+-- a state in order is alike to itself, if its next goroutine is not one of the first two
+abbrev pub AlikeSelf : Type 0
+AlikeSelf = (s : State) → IsWellOrdered s → 2 ≤ s.next_goroutine → AreAlike s s
+
+-- the second state is the one after a frame-local turn of the first, or is alike to it
+abbrev pub IsLocalOrAlike : Code → State → State → Type 0
+IsLocalOrAlike code = OneOf (IsAfterLocal code) AreAlike
+
+abbrev pub AlikeListsNeverLeak : Type 0
+AlikeListsNeverLeak = (code : Code) (visited : List State) → IsClosedUpTo code (IsLocalOrAlike code) visited
+    → NoneDead visited → NeverLeaks code
+
+abbrev pub AlikeListsNeverReport : Type 0
+AlikeListsNeverReport = (code : Code) (visited : List State) → IsClosedUpTo code (IsLocalOrAlike code) visited
+    → NoneDead visited → NeverReports code
+
+abbrev pub AlikeListsReportNobody : Type 0
+AlikeListsReportNobody = (code : Code) (visited : List State) → IsClosedUpTo code (IsLocalOrAlike code) visited
+    → NoneDead visited → ReportsNobody code
+
+abbrev pub AlikeListsNeverEnd : Type 0
+AlikeListsNeverEnd = (code : Code) (visited : List State) (is_one : Ending → Bool)
+    → IsClosedUpTo code (IsLocalOrAlike code) visited → AsksKind is_one → NoneEnds is_one visited
+    → NeverEnds is_one code
+
+abbrev pub AlikeRankedListsEnd : Type 0
+AlikeRankedListsEnd = (code : Code) (ranked : List (State × ℕ)) (most : ℕ)
+    → IsRankedUpTo code (IsLocalOrAlike code) ranked most → EndsWithin most code

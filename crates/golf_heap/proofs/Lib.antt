@@ -5,3 +5,4 @@ pub mod Order
 pub mod Freeing
 pub mod Finding
 pub mod Writing
+pub mod Copying

@@ -1,13 +1,13 @@
 -- What the changes of a heap keep of its numbers.
 -- For: `IsNumbered` (golf_heap/specs/Objects.antt) and `put`, `retain` (src/heap.rt)
 -- By: the laws of maps and arithmetic; no induction
-use Rattle.std.proofs.Common.{◌≡◌, ℕ, ◌+◌, Bool, List, false, ap, sym, arith, Option, Some, None, refl}
+use Rattle.std.proofs.Common.{◌≡◌, ◌<◌, ℕ, ◌+◌, Bool, List, false, ap, sym, arith, Option, Some, None, refl}
 use Rattle.std.specs.Prelude.{is_some}
 use Rattle.golf_data.specs.declared.value.Object.{Object}
 use Rattle.golf_theory.specs.Maps.{find}
 use Rattle.golf_theory.proofs.MapFinds.{put-none}
 use Rattle.golf_theory.proofs.MapOrder.{Rises-add, AllBelow-add, AllBelow-more, Rises-put, AllBelow-put}
-use Rattle.golf_heap.specs.Objects.{NumberedObjects, IsNumbered, made, replaced}
+use Rattle.golf_heap.specs.Objects.{NumberedObjects, IsNumbered, appended, replaced}
 use Rattle.golf_theory.specs.Flags.{kept}
 use Rattle.golf_theory.proofs.Ranks.{Rises-kept, AllBelow-kept}
 
@@ -20,12 +20,14 @@ pub unchanged : (h : NumberedObjects) (o : ℕ) (x : Object) → is_some (find o
 unchanged h o x n = ap (λ (es : List (ℕ × Object)). record { objects = es; last = h.last })
     (sym (put-none o x h.objects (absent (find o h.objects) n)))
 
-pub IsNumbered-made : (h : NumberedObjects) (x : Object) → IsNumbered h → IsNumbered (made x h)
-IsNumbered-made h x n = record {
-  rises = Rises-add 1 (h.last + 1) x h.objects (omega arith) n.within n.rises;
-  within = AllBelow-add (h.last + 1 + 1) (h.last + 1) x h.objects (omega arith)
-      (AllBelow-more (h.last + 1) (h.last + 1 + 1) h.objects (omega arith) n.within);
-}
+pub IsNumbered-appended : (h : NumberedObjects) (n : ℕ) (x : Object) → h.last < n → IsNumbered h
+    → IsNumbered (appended n x h)
+IsNumbered-appended h n x l i =
+    let below = AllBelow-more (h.last + 1) n h.objects (omega (arith, l)) i.within in
+    record {
+      rises = Rises-add 1 n x h.objects (omega (arith, l)) below i.rises;
+      within = AllBelow-add (n + 1) n x h.objects (omega arith) (AllBelow-more n (n + 1) h.objects (omega arith) below);
+    }
 
 pub IsNumbered-replaced : (h : NumberedObjects) (o : ℕ) (x : Object) → IsNumbered h → IsNumbered (replaced o x h)
 IsNumbered-replaced h o x n = record {

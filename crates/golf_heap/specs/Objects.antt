@@ -13,6 +13,10 @@ pub record IsNumbered (h : NumberedObjects) : Type 0 where
   pub rises : Rises 1 h.objects
   pub within : AllBelow (h.last + 1) h.objects
 
+-- the object gets this number, which is above the last one
+abbrev pub appended : ℕ → Object → NumberedObjects → NumberedObjects
+appended n x h = record { objects = add n x h.objects; last = n }
+
 -- the object gets the next number
 abbrev pub made : Object → NumberedObjects → NumberedObjects
 made x h = record { objects = add (h.last + 1) x h.objects; last = h.last + 1 }

@@ -3,15 +3,16 @@
 //! The invariant: the numbers of the entries rise, from 1 up to the last number that was given. Each entry
 //! has the key of a slot, and the slot has that number. The slab has no other slots.
 
-ghost use Rattle.std.specs.Prelude.{◌≡◌, ◌+◌, ◌<◌, [], length, is_some, IsSome, option_map, slice_get, Some, IfOk};
+ghost use Rattle.std.specs.Prelude.{◌≡◌, ◌+◌, ◌++◌, ◌<◌, [], length, is_some, IsSome, option_map, slice_get, Some, IfOk};
 ghost use Rattle.std.specs.Prelude.{OnOk, OnErr};
 ghost use Rattle.std.specs.Borrow.{sem};
-ghost use Rattle.golf_theory.specs.Maps.{find, keys, rank};
-ghost use Rattle.golf_heap.specs.Objects.{IsNumbered, made, replaced};
+ghost use Rattle.golf_theory.specs.Maps.{find, keys, rank, Rises};
+ghost use Rattle.golf_heap.specs.Objects.{IsNumbered, appended, made, replaced};
+ghost use Rattle.golf_heap.specs.Kept.{gathered, keyed};
 ghost use Rattle.golf_theory.specs.Flags.{kept};
 ghost use Rattle.golf_heap.specs.Loans.{LendsObject};
 
-use crate::places::{ObjectKey, free, key_of, rank_of};
+use crate::places::{ObjectKey, copied_at, free, key_of, narrowed, rank_of};
 use golf_base::{Memory, ObjectId};
 use golf_blocks::close_up;
 use golf_data::Object;
@@ -23,8 +24,8 @@ use std::marker::Model;
 /// making, and no number is used again.
 ///
 /// The objects are in a slab. Its keys are used again, and no caller sees them. An object is found at the
-/// index of its number if no object before it was freed, and else by a binary search. Only `make` takes
-/// memory.
+/// index of its number if no object before it was freed, and else by a binary search. Only `make`
+/// and `copy` take memory.
 #[derive(Debug, Drop)]
 pub struct Heap {
     slots: Slab<(u32, Object)>,
@@ -63,12 +64,50 @@ impl Heap {
         ensures err { OnErr result (self.new ≡ self.old) }
     {
         let number = self.last.checked_add(1).ok_or(Memory)?;
+        self.append(number, object)?;
+        Ok(ObjectId(number))
+    }
+
+    // Gives the object this number, which is above the last one. On `Err` the heap is unchanged.
+    fn append(&mut self, number: u32, object: Object) -> Result<(), Memory>
+        requires { self.old.last < number }
+        ensures ok { OnOk result (self.new ≡ appended number object self.old) }
+        ensures err { OnErr result (self.new ≡ self.old) }
+    {
         self.slots.reserve(1)?;
-        let key = self.slots.vacant_key();
+        let vacant = self.slots.vacant_key();
+        let key = narrowed(vacant)?;
         self.places.push(ObjectKey { number, key })?;
         self.slots.insert_reserved((number, object));
         self.last = number;
-        Ok(ObjectId(number))
+        Ok(())
+    }
+
+    // Adds copies of the objects of these places, whose numbers are above the last one.
+    fn append_copies(
+        &mut self,
+        alloc: Global,
+        slots: &Slab<(u32, Object)>,
+        places: &[ObjectKey],
+    ) -> Result<(), Memory>
+        requires { Rises (self.old.last + 1) (keyed places.now) }
+        ensures { OnOk result (self.new.objects ≡ self.old.objects ++ gathered slots.now places.now) }
+    {
+        for place in places {
+            let object = copied_at(alloc, slots, place.key as usize)?;
+            self.append(place.number, object)?;
+        }
+        Ok(())
+    }
+
+    /// Returns a copy of the heap, which is equal: each object has its number.
+    pub fn copy(&self, alloc: Global) -> Result<Heap, Memory>
+        ensures { IfOk result (λ copy. copy ≡ self.now) }
+    {
+        let mut copy = Heap::new(alloc);
+        copy.append_copies(alloc, &self.slots, self.places.as_slice())?;
+        copy.last = self.last;
+        Ok(copy)
     }
 
     /// Returns whether the object is there.
@@ -114,7 +153,7 @@ impl Heap {
         ensures numbers { IsNumbered self.old }
     {
         let at = rank_of(self.places.as_slice(), id.0);
-        let key = self.places[at].key;
+        let key = self.places[at].key as usize;
         let slot = &mut self.slots[key];
         &mut slot.1
     }

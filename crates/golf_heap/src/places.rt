@@ -2,20 +2,22 @@
 //!
 //! The places are in rising order of number. Each has a number and the key of its slot.
 
-ghost use Rattle.std.specs.Prelude.{◌≡◌, ◌+◌, length, None, IfSome};
-ghost use Rattle.slab.specs.Slab.{slab_len, ContainsKey, Updates};
+ghost use Rattle.std.specs.Prelude.{◌≡◌, ◌+◌, length, None, IfOk, IfSome};
+ghost use Rattle.slab.specs.Slab.{get, slab_len, ContainsKey, Updates};
 ghost use Rattle.golf_theory.specs.Maps.{find, Rises, rank};
 ghost use Rattle.golf_theory.specs.Flags.{kept};
-ghost use Rattle.golf_heap.specs.Kept.{HoldsPlaces, gathered, keyed};
+ghost use Rattle.golf_heap.specs.Kept.{HoldsPlaces, gathered, keyed, object_in};
 
+use golf_base::Memory;
 use golf_data::Object;
 use slab::Slab;
+use std::alloc::Global;
 
 /// The number of an object, and the key of its slot.
 #[derive(Clone, Copy, Debug)]
 pub struct ObjectKey {
     pub number: u32,
-    pub key: usize,
+    pub key: u32,
 }
 
 // The index of the object of this number, if the object is there and no object before it was freed.
@@ -53,9 +55,29 @@ pub fn key_of(places: &[ObjectKey], number: u32) -> Option<usize>
 {
     let place = places.get(rank_of(places, number))?;
     if place.number == number {
-        Some(place.key)
+        Some(place.key as usize)
     } else {
         None
+    }
+}
+
+/// Returns the key as the places keep it. `Memory` if it is too high.
+pub fn narrowed(key: usize) -> Result<u32, Memory>
+    ensures { IfOk result (λ narrow. narrow ≡ key) }
+{
+    match u32::try_from(key) {
+        Ok(narrow) => Ok(narrow),
+        Err(_) => Err(Memory),
+    }
+}
+
+/// Returns a copy of the object of a key.
+pub fn copied_at(alloc: Global, slots: &Slab<(u32, Object)>, key: usize) -> Result<Object, Memory>
+    ensures { IfOk result (λ copy. copy ≡ object_in (get slots.now key)) }
+{
+    match slots.get(key) {
+        Some(slot) => slot.1.copy(alloc),
+        None => Ok(Object::Mutex(false)),
     }
 }
 
@@ -73,7 +95,7 @@ pub fn free(slots: &mut Slab<(u32, Object)>, places: &[ObjectKey], keep: &[bool]
     while at > 0 {
         at -= 1;
         if !keep[at] {
-            empty(slots, places[at].key);
+            empty(slots, places[at].key as usize);
         }
     }
 }

@@ -55,7 +55,7 @@ fn clear_in(function: &Function, frame: &mut Frame)
     ensures { frame_view frame.new ≡ cleared_in function.now (frame_view frame.old) }
 {
     if let Some(mask) = mask_in(function, frame.at) {
-        frame.slots.clear_under(mask);
+        frame.values.clear_under(mask);
     }
 }
 

@@ -1,7 +1,6 @@
 //! The first frames of calls, goroutines, deferred calls and finalisers. On `Err` the state is unchanged.
 //!
-//! A frame has room for all operands of its function, and for two more. A goroutine has at most 10,000
-//! frames.
+//! A frame has room for all operands of its function, and for one more. A goroutine has at most 10,000 frames.
 
 ghost use Rattle.std.specs.Prelude.{◌≡◌, ◌<◌, ◌∷◌, [], ℕ, Some, None, IfOk, OnOk, OnErr, option_map, reverse};
 ghost use Rattle.std.specs.Prelude.{slice_get, option_to_list, true};
@@ -18,8 +17,10 @@ ghost use Rattle.golf_state.specs.ActorChanges.{does, does_by, Stands};
 ghost use Rattle.golf_machine.specs.Acts.{Acts, HasNoFrame, last_of, deferred_of, begins_latest};
 ghost use Rattle.golf_machine.specs.Fits.{Fits};
 
-use golf_base::{GoroutineId, List, Memory, Room};
-use golf_data::{Code, Deferred, Ending, Frame, Function, Leaving, PanicKind, Slots, Value};
+use golf_base::{GoroutineId, List, Memory};
+use golf_data::{
+    Code, Deferred, DeferredCalls, Ending, Frame, FrameValues, Function, Leaving, PanicKind, Value,
+};
 use golf_state::{Acting, Outcome, State, defer, enter, enter_deferred, proceed};
 use std::alloc::Global;
 
@@ -27,18 +28,21 @@ use std::alloc::Global;
 const MOST_FRAMES: usize = 10_000;
 
 // The slots of a new frame: the arguments, and 0 in the others. An argument that no instruction reads
-// becomes 0.
-fn slots_of(alloc: Global, function: &Function, arguments: &[Value]) -> Result<Slots, Memory>
-    ensures { IfOk result (λ slots. slots ≡ slots_of function.now arguments.now) }
+// becomes 0. A goroutine that blocks takes an operand at least and gets up to two values when it is served: the
+// frame has room for them from the start.
+fn values_of(alloc: Global, function: &Function, arguments: &[Value]) -> Result<FrameValues, Memory>
+    ensures slots { IfOk result (λ values. values.slots ≡ slots_of function.now arguments.now) }
+    ensures operands { IfOk result (λ values. values.operands ≡ []) }
 {
     let rest = (function.slots as usize).saturating_sub(arguments.len());
-    let mut slots = Slots::of(alloc, arguments, rest)?;
+    let depth = (function.depth as usize).saturating_add(1);
+    let mut values = FrameValues::of(alloc, arguments, rest, depth)?;
     match function.live.as_slice().first() {
         Some(mask) => {
-            slots.clear_under(*mask);
-            Ok(slots)
+            values.clear_under(*mask);
+            Ok(values)
         }
-        None => Ok(slots),
+        None => Ok(values),
     }
 }
 
@@ -55,15 +59,12 @@ fn open_frame(
     let Some(function) = code.functions.as_slice().get(number as usize) else {
         return Ok(None);
     };
-    let slots = slots_of(alloc, function, arguments)?;
-    // A served waiter gets up to two values on top. The frame has room for them from the start.
-    let operands = Room::with_room(alloc, (function.depth as usize).saturating_add(2))?;
+    let values = values_of(alloc, function, arguments)?;
     Ok(Some(Frame {
         function: number,
         at: 0,
-        slots,
-        operands,
-        deferred: List::new(alloc),
+        values,
+        deferred: DeferredCalls::new(alloc),
         leaving: Leaving::No,
         discards,
     }))
@@ -85,7 +86,7 @@ pub fn last_values(state: &State, g: GoroutineId, count: u32) -> Option<&[Value]
     ensures { option_map (λ vs. vs.now) result ≡ last_of count (operands_of g.0 state.now) }
 {
     match state.frame(g) {
-        Some(frame) => last_items(frame.operands.as_slice(), count as usize),
+        Some(frame) => last_items(frame.values.operands(), count as usize),
         None => last_items(&[], count as usize),
     }
 }

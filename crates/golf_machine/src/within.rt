@@ -39,7 +39,7 @@ pub(crate) enum Within {
 fn last(frame: &Frame) -> Option<Value>
     ensures { result ≡ slice_get (frame_view frame.now).operands 0 }
 {
-    frame.operands.as_slice().last().copied()
+    frame.values.operands().last().copied()
 }
 
 // The last two operands, the last one second, or `None` if there are fewer.
@@ -47,7 +47,7 @@ fn last(frame: &Frame) -> Option<Value>
 fn last_two(frame: &Frame) -> Option<(Value, Value)>
     ensures { result ≡ two_of (frame_view frame.now).operands }
 {
-    let items = frame.operands.as_slice();
+    let items = frame.values.operands();
     let count = items.len();
     if count < 2 {
         return None;
@@ -87,8 +87,8 @@ fn last_ints(frame: &Frame) -> Option<(i64, i64)>
 fn go_to(frame: &mut Frame, target: u32, taken: usize)
     ensures { frame_view frame.new ≡ went target taken [] (frame_view frame.old) }
 {
-    let keep = frame.operands.len().saturating_sub(taken);
-    frame.operands.truncate(keep);
+    let keep = frame.values.operand_count().saturating_sub(taken);
+    frame.values.truncate(keep);
     frame.at = target;
 }
 
@@ -100,9 +100,9 @@ fn put(frame: &mut Frame, taken: usize, value: Value)
     requires there { taken ≤ length (frame_view frame.old).operands }
     ensures { frame_view frame.new ≡ next (frame_view frame.old) (value ∷ drop taken (frame_view frame.old).operands) }
 {
-    let keep = frame.operands.len() - taken;
-    frame.operands.truncate(keep);
-    frame.operands.push_ready(value);
+    let keep = frame.values.operand_count() - taken;
+    frame.values.truncate(keep);
+    frame.values.push_ready(value);
     frame.at += 1;
 }
 
@@ -113,7 +113,7 @@ fn push(frame: &mut Frame, value: Value) -> Result<Within, Memory>
     ensures ok { IfOk result (λ came. HasTriedWithin true came (λ a. pushes a value) (frame_view frame.old) (frame_view frame.new)) }
     ensures err { OnErr result (frame_view frame.new ≡ frame_view frame.old) }
 {
-    frame.operands.push(value)?;
+    frame.values.push(value)?;
     frame.at += 1;
     Ok(Within::Done)
 }
@@ -121,9 +121,9 @@ fn push(frame: &mut Frame, value: Value) -> Result<Within, Memory>
 // The value of a slot, or `None`.
 #[inline(always)]
 fn slot_of(frame: &Frame, slot: u32) -> Option<Value>
-    ensures { result ≡ slice_get frame.now.slots slot }
+    ensures { result ≡ slice_get frame.now.values.slots slot }
 {
-    frame.slots.as_slice().get(slot as usize).copied()
+    frame.values.slots().get(slot as usize).copied()
 }
 
 // Pushes a slot, if it is there.
@@ -145,13 +145,13 @@ fn store(frame: &mut Frame, slot: u32) -> Within
     requires place { frame.old.at + 1 < 2 ^ 32 }
     ensures { HasTriedWithin true result (λ a. stores a slot) (frame_view frame.old) (frame_view frame.new) }
 {
-    if slot as usize >= frame.slots.len() {
+    if slot as usize >= frame.values.slot_count() {
         return Within::Stuck;
     }
-    let Some(value) = frame.operands.pop() else {
+    let Some(value) = frame.values.pop() else {
         return Within::Stuck;
     };
-    frame.slots.set(slot as usize, value);
+    frame.values.set(slot as usize, value);
     frame.at += 1;
     Within::Done
 }
@@ -211,9 +211,9 @@ fn double_two(frame: &mut Frame) -> Result<Within, Memory>
     let Some((first, second)) = last_two(frame) else {
         return Ok(Within::Stuck);
     };
-    frame.operands.reserve(2)?;
-    frame.operands.push_ready(first);
-    frame.operands.push_ready(second);
+    frame.values.reserve(2)?;
+    frame.values.push_ready(first);
+    frame.values.push_ready(second);
     frame.at += 1;
     Ok(Within::Done)
 }

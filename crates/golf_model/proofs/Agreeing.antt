@@ -334,6 +334,17 @@ dead-complete s g (r, h, f, n) =
     (false_from_ne_true (has_goroutine (live_list s) g)
     (λ t. n (live_list-sound s (Node.AGoroutine g) (has_goroutine-sound (live_list s) g t))))))
 
+-- a blocked goroutine that is not dead is live
+pub others-live : (s : State) (g : ℕ) (r : GoroutineView) → Entry s.goroutines g r → is_running r.mode ≡ false
+    → (In g (dead s) → ⊥) → Live s (Node.AGoroutine g)
+others-live s g r h f n = elim (has_goroutine (live_list s) g) as (λ b. has_goroutine (live_list s) g ≡ b
+    → Live s (Node.AGoroutine g)) [
+      | true ↦ λ t. live_list-sound s (Node.AGoroutine g) (has_goroutine-sound (live_list s) g t)
+      | false ↦ λ t. absurd (n (In-keys_where (is_dead (live_list s)) s.goroutines g r h
+          (and_from (not (is_running r.mode)) (not (has_goroutine (live_list s) g))
+          (not_from_false (is_running r.mode) f) (not_from_false (has_goroutine (live_list s) g) t))))
+    ] refl
+
 -- ---- what is kept and retained
 
 prevents_removal-sound : (s : State) (sets_finalisers : Bool) (o : ℕ) → prevents_removal s sets_finalisers o ≡ true

@@ -28,8 +28,8 @@ abbrev pub frame_view : Frame → FrameView
 frame_view f = record {
   function = f.function;
   at = f.at;
-  slots = f.slots;
-  operands = reverse f.operands.items;
+  slots = f.values.slots;
+  operands = reverse f.values.operands;
   deferred = reverse f.deferred;
   leaving = f.leaving;
   discards = f.discards;

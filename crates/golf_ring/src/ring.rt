@@ -1,12 +1,12 @@
 //! A queue in memory.
 //!
-//! The items lie in a ring. The view is the list of the items, the oldest first. No clause speaks of the
-//! room or of where the first item lies.
+//! The items lie in a ring, which is made for the first of them: a queue that stays empty is one word. The view
+//! is the list of the items, the oldest first. No clause speaks of the room or of where the first item lies.
 
 ghost use Rattle.std.specs.Prelude.{◌≡◌, [], ◌∷◌, ◌++◌, ◌<◌, ◌↔◌, List, drop, length, slice_get, IsTrue, MatchOption};
 ghost use Rattle.std.specs.Prelude.{OnOk, OnErr};
 
-use golf_base::Memory;
+use golf_base::{Boxed, Memory};
 use std::alloc::Global;
 use std::collections::VecDeque;
 use std::marker::Model;
@@ -17,18 +17,21 @@ use std::marker::Model;
 /// length. Only `push` takes memory. It does so only if the queue was never that long before.
 #[derive(Debug, Drop)]
 pub struct Ring<T> {
-    items: VecDeque<T>,
+    items: Option<Boxed<VecDeque<T>>>,
+    alloc: Global,
 }
 
 impl<T> Model for Ring<T> {
     ghost use Rattle.std.specs.Prelude.{List};
     ghost use Rattle.std.specs.Coded.{coded_list};
+    ghost use Rattle.std.specs.VecDeque.{deque_items};
+    ghost use Rattle.golf_ring.specs.Rings.{items_in};
 
     ghost Value = { List T };
 
     ghost coded = { coded_list T.code };
 
-    ghost view = { λ r. r.items.items };
+    ghost view = { λ r. items_in deque_items r.items };
 }
 
 impl<T> Ring<T> {
@@ -36,30 +39,37 @@ impl<T> Ring<T> {
     pub fn new(alloc: Global) -> Ring<T>
         ensures { result ≡ [] }
     {
-        Ring {
-            items: VecDeque::new(alloc),
-        }
+        Ring { items: None, alloc }
     }
 
     /// Returns how many items there are.
     pub fn len(&self) -> usize
         ensures { result ≡ length self.now }
     {
-        self.items.len()
+        match &self.items {
+            Some(items) => items.get().len(),
+            None => 0,
+        }
     }
 
     /// Returns whether there are no items.
     pub fn is_empty(&self) -> bool
         ensures { IsTrue result ↔ (self.now ≡ []) }
     {
-        self.items.is_empty()
+        match &self.items {
+            Some(items) => items.get().is_empty(),
+            None => true,
+        }
     }
 
     /// Returns the items in two slices, the older ones in the first. Either may be empty.
     pub fn as_slices(&self) -> (&[T], &[T])
         ensures { result.0.now ++ result.1.now ≡ self.now }
     {
-        self.items.as_slices()
+        match &self.items {
+            Some(items) => items.get().as_slices(),
+            None => (&[], &[]),
+        }
     }
 }
 
@@ -70,7 +80,10 @@ impl<T: Copy> Ring<T> {
         ensures value { result ≡ slice_get self.now 0 }
         ensures cases { MatchOption result (self.now ≡ []) (λ x. (rest : List T) × (self.now ≡ x ∷ rest)) }
     {
-        self.items.front().copied()
+        match &self.items {
+            Some(items) => items.get().front().copied(),
+            None => None,
+        }
     }
 }
 
@@ -81,7 +94,14 @@ impl<T: Drop> Ring<T> {
         ensures ok { OnOk result (self.new ≡ self.old ++ item ∷ []) }
         ensures err { OnErr result (self.new ≡ self.old) }
     {
-        self.items.push_back(item)?;
+        match &mut self.items {
+            Some(items) => items.get_mut().push_back(item)?,
+            None => {
+                let mut items = VecDeque::new(self.alloc);
+                items.push_back(item)?;
+                self.items = Some(Boxed::new(self.alloc, items)?);
+            }
+        }
         Ok(())
     }
 
@@ -90,7 +110,9 @@ impl<T: Drop> Ring<T> {
     pub fn drop_first(&mut self)
         ensures { self.new ≡ drop 1 self.old }
     {
-        let _ = self.items.pop_front();
+        if let Some(items) = &mut self.items {
+            let _ = items.get_mut().pop_front();
+        }
     }
 
     /// Drops the first item, and adds one at the end. It takes no memory.
@@ -99,7 +121,9 @@ impl<T: Drop> Ring<T> {
         requires { 0 < length self.old }
         ensures { self.new ≡ drop 1 self.old ++ item ∷ [] }
     {
-        let _ = self.items.pop_front();
-        self.items.push_back_reserved(item);
+        if let Some(items) = &mut self.items {
+            let _ = items.get_mut().pop_front();
+            items.get_mut().push_back_reserved(item);
+        }
     }
 }

@@ -87,8 +87,8 @@ fn add_leaving(heap: &Heap, nodes: &mut List<u32>, leaving: Leaving) -> Result<(
 fn add_frame(heap: &Heap, nodes: &mut List<u32>, frame: &Frame) -> Result<(), Memory>
     ensures { OnOk result (nodes.new ≡ nodes.old ++ ranks heap.now.objects (frame_refs (frame_view frame.now))) }
 {
-    add_values(heap, nodes, frame.slots.as_slice())?;
-    add_values_back(heap, nodes, frame.operands.as_slice())?;
+    add_values(heap, nodes, frame.values.slots())?;
+    add_values_back(heap, nodes, frame.values.operands())?;
     add_deferred_back(heap, nodes, frame.deferred.as_slice())?;
     add_leaving(heap, nodes, frame.leaving)
 }

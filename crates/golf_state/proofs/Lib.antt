@@ -17,3 +17,4 @@ mod Leaving
 mod ClearingLaws
 mod Comparisons
 pub mod References
+mod Copied

@@ -22,8 +22,8 @@ use Rattle.golf_state.specs.Inside.{AreKept}
 use Rattle.golf_state.specs.Looked.{is_running_in, is_blocked_in}
 use Rattle.golf_state_goroutines.specs.Places.{plain_entry, plain_entries, running_of, is_idle, starts_idle}
 use Rattle.golf_state_goroutines.specs.Goroutines.{AllUnder, IsNone}
-use Rattle.golf_state.specs.Ready.{AllReady}
-use Rattle.golf_state.specs.Roominess.{IsReadyIn}
+use Rattle.golf_state_goroutines.specs.Ready.{AllReady}
+use Rattle.golf_state_goroutines.specs.Roominess.{IsReadyIn}
 use Rattle.golf_blocks.proofs.Parts.{only-length}
 use Rattle.golf_blocks.proofs.SpotLaws.{put-length}
 use Rattle.golf_state_goroutines.proofs.PlaceLaws.{find-plain, put-plain, only-plain}
@@ -118,19 +118,6 @@ none-where g j (e ∷ es) v r f b = elim (g == e.0) as (λ t. g == e.0 ≡ t →
             | false ↦ rest
           ]
     ] refl f
-
--- all of them are below
-pub under-next : (n : ℕ) (es : List (ℕ × GoroutineView)) (runs : List ℕ) → runs ≡ running_of es → AllBelow n es
-    → AllUnder n runs
-under-next n es runs is a = rw is (under n es a)
-  where
-    under : (n : ℕ) (es : List (ℕ × GoroutineView)) → AllBelow n es → AllUnder n (running_of es)
-    under n [] a = tt
-    under n (e ∷ es) a = elim (is_running e.1.mode) as (λ b. AllUnder n
-        (cond b (e.0 ∷ running_of es) (running_of es))) [
-          | true ↦ (a.0, under n es a.1)
-          | false ↦ under n es a.1
-        ]
 
 pub number-of : (p : ℕ × Goroutine) (n : ℕ) (v : GoroutineView) → plain_entry p ≡ (n, v) → p.0 ≡ n
 number-of p n v e = ap (λ (d : ℕ × GoroutineView). d.0) e

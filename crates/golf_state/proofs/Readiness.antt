@@ -1,5 +1,5 @@
 -- Goroutines that can be woken without more memory.
--- For: `AllReady` (golf_state/specs/Ready.antt) and `HasRoom` (golf_state/specs/Roominess.antt)
+-- For: `AllReady` (golf_state_goroutines/specs/Ready.antt) and `HasRoom` (golf_state_goroutines/specs/Roominess.antt)
 -- By: induction over the list of places
 use Rattle.std.proofs.Common.{◌≡◌, ℕ, suc, ◌-◌, ◌≤◌, true, false, cond, List, [], ◌∷◌, ◌++◌, length, Some, ◌==◌}
 use Rattle.std.proofs.Common.{refl, sym, ap, ◌∙◌, subst, arith, slice_get, slice_set}
@@ -12,14 +12,14 @@ use Rattle.golf_model.specs.State.{is_running}
 use Rattle.golf_theory.specs.Maps.{find, put}
 use Rattle.golf_theory.proofs.Readings.{set-here}
 use Rattle.golf_state_goroutines.specs.Places.{running_of}
-use Rattle.golf_state.specs.Ready.{HasRoomToWake, AllReady}
-use Rattle.golf_state.specs.Roominess.{HasRoom, HasRoomIn, IsReadyIn}
+use Rattle.golf_state_goroutines.specs.Ready.{HasRoomToWake, AllReady}
+use Rattle.golf_state_goroutines.specs.Roominess.{HasRoom, HasRoomIn, IsReadyIn}
 use Rattle.golf_state.specs.Wakenings.{wakened}
 use Rattle.golf_state.specs.declared.frames.Wakening.{Wakening}
 use Rattle.golf_data.specs.declared.goroutine.Goroutine.{Goroutine}
 
 -- the innermost frame was changed
-pub room-set : (fs : List Frame) (f w : Frame) → slice_get fs (length fs - 1) ≡ Some f → 2 ≤ w.operands.spare
+pub room-set : (fs : List Frame) (f w : Frame) → slice_get fs (length fs - 1) ≡ Some f → 2 ≤ w.values.spare
     → HasRoom (slice_set fs (length fs - 1) w)
 room-set fs f w at l =
     let within = slice_get_within fs (length fs - 1) f at in

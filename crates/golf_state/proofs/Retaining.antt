@@ -3,7 +3,7 @@
 -- By: induction over the list of flags, with the list of items
 use Rattle.std.proofs.Common.{◌≡◌, ℕ, Bool, true, false, cond, List, [], ◌∷◌, map, refl, ap}
 use Rattle.golf_theory.specs.Flags.{kept}
-use Rattle.golf_state.specs.Ready.{AllReady}
+use Rattle.golf_state_goroutines.specs.Ready.{AllReady}
 use Rattle.golf_data.specs.declared.goroutine.Goroutine.{Goroutine}
 
 -- ---- what is kept

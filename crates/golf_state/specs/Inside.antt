@@ -3,7 +3,7 @@ use Rattle.std.specs.Prelude.{◌≡◌, ◌<◌, ◌≤◌, ◌^◌, ℕ, true,
 use Rattle.golf_theory.specs.Maps.{find, Rises, AllBelow}
 use Rattle.golf_model.specs.State.{State}
 use Rattle.golf_state_goroutines.specs.Places.{plain_entries, running_of}
-use Rattle.golf_state.specs.Ready.{AllReady}
+use Rattle.golf_state_goroutines.specs.Ready.{AllReady}
 use Rattle.golf_state.specs.Enqueued.{AreEnqueued}
 use Rattle.golf_data.specs.declared.goroutine.Goroutine.{Goroutine}
 use Rattle.golf_state.specs.declared.state.State.TheInside.{Inside}

@@ -7,9 +7,7 @@ pub mod Inside
 pub mod FrameChanges
 pub mod ActorChanges
 pub mod Operands
-pub mod Roominess
 pub mod Wakenings
-pub mod Ready
 pub mod Woken
 pub mod WokenAll
 pub mod Outcomes

@@ -51,7 +51,7 @@ fn add_operand(frame: &mut Frame, value: Value) -> Result<(), Memory>
     ensures ok { OnOk result (frame_view frame.new ≡ given_back value (frame_view frame.old)) }
     ensures err { OnErr result (frame_view frame.new ≡ frame_view frame.old) }
 {
-    frame.operands.push(value)
+    frame.values.push(value)
 }
 
 // Gives the value of the innermost frame to its caller, unless the frame discards it.

@@ -8,7 +8,7 @@ ghost use Rattle.golf_model.specs.Views.{frame_view, frame_views, goroutine_view
 ghost use Rattle.golf_model.specs.ClearedSlots.{mask_at, cleared};
 ghost use Rattle.golf_model.specs.Wakes.{on_top};
 ghost use Rattle.golf_state.specs.ClearedFrames.{tidied};
-ghost use Rattle.golf_state.specs.Roominess.{IsReadyIn};
+ghost use Rattle.golf_state_goroutines.specs.Roominess.{IsReadyIn};
 
 use crate::frames::top_mut;
 use golf_base::List;
@@ -33,11 +33,11 @@ fn clear_frame(code: &Code, frame: &mut Frame)
     match frame.leaving {
         Leaving::No => {
             if let Some(mask) = mask_at(code, frame.function, frame.at) {
-                frame.slots.clear_under(mask);
+                frame.values.clear_under(mask);
             }
         }
-        Leaving::Returning(_) => frame.slots.clear_all(),
-        Leaving::Unwinding(_) => frame.slots.clear_all(),
+        Leaving::Returning(_) => frame.values.clear_slots(),
+        Leaving::Unwinding(_) => frame.values.clear_slots(),
     }
 }
 

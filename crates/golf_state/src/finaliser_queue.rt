@@ -3,7 +3,7 @@
 //! An entry is an object and the function to call with it. An entry leaves at the front, and no other entry
 //! is moved.
 
-ghost use Rattle.std.specs.Prelude.{◌≡◌, ◌≤◌, ◌++◌, [], List, drop, length, slice_get, OnOk, OnErr};
+ghost use Rattle.std.specs.Prelude.{◌≡◌, ◌≤◌, ◌++◌, [], List, drop, length, slice_get, IfOk, OnOk, OnErr};
 ghost use Rattle.golf_data.specs.declared.goroutine.Queued.{Queued};
 ghost use Rattle.golf_model.specs.Changes.{behind_first};
 
@@ -39,6 +39,15 @@ impl FinaliserQueue {
             entries: Vec::new(alloc),
             taken: 0,
         }
+    }
+
+    /// Returns a copy of the queue, which is equal.
+    pub fn copy(&self, alloc: Global) -> Result<FinaliserQueue, Memory>
+        ensures { IfOk result (λ copy. copy ≡ self.now) }
+    {
+        let mut queue = FinaliserQueue::new(alloc);
+        queue.add(self.as_slice())?;
+        Ok(queue)
     }
 
     /// Returns the allocator of the queue's memory.

@@ -9,12 +9,12 @@ ghost use Rattle.golf_model.specs.Views.{frame_view, frame_views, goroutine_view
 ghost use Rattle.golf_model.specs.Wakes.{resumed_frame, unwinding, on_top};
 ghost use Rattle.golf_state.specs.Looked.{advanced, values_of};
 ghost use Rattle.golf_state.specs.FrameChanges.{went, exchanged, has_returned, has_deferred};
-ghost use Rattle.golf_state.specs.Roominess.{HasRoom};
+ghost use Rattle.golf_state_goroutines.specs.Roominess.{HasRoom};
 ghost use Rattle.golf_state.specs.Wakenings.{wakened};
 ghost use Rattle.golf_state.specs.LendingTop.{LendsTop};
 
-use golf_base::{List, Memory, Room};
-use golf_data::{Deferred, Fault, Frame, Goroutine, Leaving, Mode, Value, Wait};
+use golf_base::{List, Memory};
+use golf_data::{Deferred, Fault, Frame, FrameValues, Goroutine, Leaving, Mode, Value, Wait};
 
 /// The values that a goroutine gets when it goes on: none, one, or a value and whether it was sent.
 #[derive(Clone, Copy, Debug, PartialEq, Eq)]
@@ -37,16 +37,17 @@ pub fn top_mut(frames: &mut List<Frame>) -> &mut Frame
 
 // Puts the values on top of the operands. There is room for them.
 #[inline(always)]
-fn give(operands: &mut Room<Value>, given: Given)
-    requires { 2 ≤ operands.old.spare }
-    ensures { reverse operands.new.items ≡ values_of given ++ reverse operands.old.items }
+fn give(values: &mut FrameValues, given: Given)
+    requires { 2 ≤ values.old.spare }
+    ensures slots { values.new.slots ≡ values.old.slots }
+    ensures operands { reverse values.new.operands ≡ values_of given ++ reverse values.old.operands }
 {
     match given {
         Given::Nothing => {}
-        Given::One(value) => operands.push_ready(value),
+        Given::One(value) => values.push_ready(value),
         Given::Two(value, sent) => {
-            operands.push_ready(value);
-            operands.push_ready(Value::Bool(sent));
+            values.push_ready(value);
+            values.push_ready(Value::Bool(sent));
         }
     }
 }
@@ -55,11 +56,11 @@ fn give(operands: &mut Room<Value>, given: Given)
 #[inline(always)]
 fn settle_frame(frame: &mut Frame, after: u32, taken: usize) -> Result<(), Memory>
     ensures ok { OnOk result (frame_view frame.new ≡ went after taken [] (frame_view frame.old)) }
-    ensures room { OnOk result (2 ≤ frame.new.operands.spare) }
-    ensures kept { frame.old.operands.spare ≤ frame.new.operands.spare }
+    ensures room { OnOk result (2 ≤ frame.new.values.spare) }
+    ensures kept { frame.old.values.spare ≤ frame.new.values.spare }
     ensures err { OnErr result (frame_view frame.new ≡ frame_view frame.old) }
 {
-    frame.operands.reserve(2)?;
+    frame.values.reserve(2)?;
     advance_frame(frame, after, taken);
     Ok(())
 }
@@ -76,7 +77,7 @@ fn advance_frame_with(
     ensures err { OnErr result (frame_view frame.new ≡ frame_view frame.old) }
 {
     settle_frame(frame, after, taken)?;
-    give(&mut frame.operands, given);
+    give(&mut frame.values, given);
     Ok(())
 }
 
@@ -101,10 +102,10 @@ pub fn advance_with(
 #[inline(always)]
 pub fn advance_frame(frame: &mut Frame, after: u32, taken: usize)
     ensures frame { frame_view frame.new ≡ went after taken [] (frame_view frame.old) }
-    ensures room { frame.old.operands.spare ≤ frame.new.operands.spare }
+    ensures room { frame.old.values.spare ≤ frame.new.values.spare }
 {
-    let keep = frame.operands.len().saturating_sub(taken);
-    frame.operands.truncate(keep);
+    let keep = frame.values.operand_count().saturating_sub(taken);
+    frame.values.truncate(keep);
     frame.at = after;
 }
 
@@ -123,8 +124,8 @@ pub fn advance(frames: &mut List<Frame>, after: u32, taken: usize)
 fn exchange_last(frame: &mut Frame, after: u32, value: Value)
     ensures { frame_view frame.new ≡ exchanged after value (frame_view frame.old) }
 {
-    if let Some(_) = frame.operands.pop() {
-        frame.operands.push_ready(value);
+    if let Some(_) = frame.values.pop() {
+        frame.values.push_ready(value);
         frame.at = after;
     }
 }
@@ -144,7 +145,7 @@ pub fn exchange(frames: &mut List<Frame>, after: u32, value: Value)
 fn unwind_frame(frame: &mut Frame, fault: Fault)
     ensures { frame_view frame.new ≡ unwinding fault (frame_view frame.old) }
 {
-    frame.operands.clear();
+    frame.values.clear();
     frame.leaving = Leaving::Unwinding(fault);
 }
 
@@ -231,11 +232,11 @@ pub enum Wakening {
 // Lets the frame go on at the target of the wait, if it has one, with these values on top of the operands.
 #[inline(always)]
 fn resume_frame(frame: &mut Frame, wait: Wait, given: Given)
-    requires { 2 ≤ frame.old.operands.spare }
+    requires { 2 ≤ frame.old.values.spare }
     ensures { frame_view frame.new ≡ resumed_frame wait (values_of given) (frame_view frame.old) }
 {
     frame.at = wait.target.unwrap_or(frame.at);
-    give(&mut frame.operands, given);
+    give(&mut frame.values, given);
 }
 
 // Lets the innermost frame go on at the target of the wait, if it has one, with these values on top of its

@@ -31,8 +31,7 @@ pub use operands::{
     text_in,
 };
 pub use outcome::{
-    Outcome, block_at, block_on, carry_out, fault, make_onto, make_over, one_wait, proceed,
-    proceed_with,
+    Outcome, block_at, block_on, carry_out, fault, make_onto, make_over, proceed, proceed_with,
 };
 pub use runnable::Runnable;
 pub use state::State;

@@ -45,7 +45,7 @@ pub fn last_operand(state: &State, g: GoroutineId) -> Option<Value>
     ensures { result ≡ slice_get (operands_of g.0 state.now) 0 }
 {
     let frame = state.frame(g)?;
-    last(frame.operands.as_slice())
+    last(frame.values.operands())
 }
 
 /// Returns the last two operands of a goroutine's innermost frame, the last one second. `None` if there are
@@ -55,7 +55,7 @@ pub fn last_operands(state: &State, g: GoroutineId) -> Option<(Value, Value)>
     ensures { result ≡ two_of (operands_of g.0 state.now) }
 {
     let frame = state.frame(g)?;
-    last_two(frame.operands.as_slice())
+    last_two(frame.values.operands())
 }
 
 /// Returns the last three operands of a goroutine's innermost frame, the last one third. `None` if there
@@ -64,7 +64,7 @@ pub fn last_three_operands(state: &State, g: GoroutineId) -> Option<(Value, Valu
     ensures { result ≡ three_of (operands_of g.0 state.now) }
 {
     let frame = state.frame(g)?;
-    last_three(frame.operands.as_slice())
+    last_three(frame.values.operands())
 }
 
 /// The operand of an operation on an object.

@@ -16,8 +16,8 @@ ghost use Rattle.golf_state.specs.Outcomes.{faults, carries, StandsToFault};
 use crate::actor::Acting;
 use crate::frames::{Given, advance, advance_with, exchange, unwind};
 use crate::state::State;
-use golf_base::{List, Memory, ObjectId};
-use golf_data::{Ending, Fault, Object, PanicKind, Side, Value, Wait, WaitKind};
+use golf_base::{Memory, ObjectId};
+use golf_data::{Ending, Fault, Object, PanicKind, Side, Value, Wait, WaitKind, Waits};
 use std::alloc::Global;
 
 /// The outcome of an operation of the goroutine whose turn it is.
@@ -102,7 +102,7 @@ pub fn block_at(
     target: u32,
     taken: usize,
     kind: WaitKind,
-    waits: List<Wait>,
+    waits: Waits,
 ) -> Result<(), Memory>
     requires { Stands acting.goroutine.0 acting.after state.old }
     ensures ok { OnOk result (state.new ≡ does (λ a. blocks a (went target taken [] a.frame) kind waits) acting.goroutine.0 acting.line state.old) }
@@ -110,16 +110,6 @@ pub fn block_at(
     ensures err { OnErr result (state.new ≡ state.old) }
 {
     state.block(acting.goroutine, kind, acting.line, waits, target, taken)
-}
-
-/// Returns a list of one wait, with room for no other.
-#[inline(always)]
-pub fn one_wait(alloc: Global, wait: Wait) -> Result<List<Wait>, Memory>
-    ensures { IfOk result (λ waits. waits ≡ wait ∷ []) }
-{
-    let mut waits = Vec::with_capacity(alloc, 1)?;
-    waits.push_reserved(wait);
-    Ok(List::from_vec(waits))
 }
 
 /// Blocks the goroutine whose turn it is on an object with this side. It will go on after its instruction,
@@ -146,7 +136,7 @@ pub fn block_on(
         target: None,
         with_ok: false,
     };
-    let waits = one_wait(alloc, wait)?;
+    let waits = Waits::one(alloc, wait);
     block_at(state, acting, acting.after, taken, kind, waits)
 }
 

@@ -43,11 +43,11 @@ use crate::wake_all::{readers_next, wake_all};
 use crate::wake_causes::{Waking, wakening_of};
 use golf_base::{GoroutineId, List, Memory, ObjectId};
 use golf_data::{
-    Code, Ending, Frame, Goroutine, Mode, Object, Queued, Side, Value, Wait, WaitKind,
+    Code, Ending, Frame, Goroutine, Mode, Object, Queued, Side, Value, WaitKind, Waits, copied_list,
 };
 use golf_heap::Heap;
 use golf_state_finalisers::Finalisers;
-use golf_state_goroutines::{Roster, place_of};
+use golf_state_goroutines::{Roster, copied_roster, place_of};
 use golf_state_queues::{Queues, TicketHolder, last_before};
 use std::alloc::Global;
 use std::marker::Model;
@@ -128,6 +128,32 @@ impl State {
             output: List::new(alloc),
             next_ticket: 0,
             recorded: None,
+        })
+    }
+
+    /// Returns a copy of the state, which is equal to it. It has room to spare for two operands a frame.
+    pub fn copy(&self, alloc: Global) -> Result<State, Memory>
+        ensures { IfOk result (λ copy. copy ≡ self.now) }
+    {
+        let globals = copied_list(alloc, self.globals.as_slice())?;
+        let heap = self.heap.copy(alloc)?;
+        let finalisers = self.finalisers.copy(alloc)?;
+        let roster = copied_roster(alloc, self.roster.blocks())?;
+        let waiting = self.waiting.copy(alloc)?;
+        let queue = self.queue.copy(alloc)?;
+        let output = copied_list(alloc, self.output.as_slice())?;
+        Ok(State {
+            globals,
+            heap,
+            finalisers,
+            roster,
+            next_goroutine: self.next_goroutine,
+            waiting,
+            are_mutexes_enqueued: self.are_mutexes_enqueued,
+            queue,
+            output,
+            next_ticket: self.next_ticket,
+            recorded: self.recorded,
         })
     }
 
@@ -402,7 +428,7 @@ impl State {
         g: GoroutineId,
         kind: WaitKind,
         line: u32,
-        waits: List<Wait>,
+        waits: Waits,
         after: u32,
         taken: usize,
     ) -> Result<(), Memory>

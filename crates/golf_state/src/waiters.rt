@@ -23,7 +23,7 @@ ghost use Rattle.golf_state.specs.Waited.{waiting_of};
 
 use golf_base::{Boxed, GoroutineId, List, ObjectId};
 use golf_blocks::Block;
-use golf_data::{Goroutine, Mode, Side, Wait};
+use golf_data::{Goroutine, Mode, Side, Wait, Waits};
 use golf_state_goroutines::Roster;
 use golf_state_queues::{Queues, TicketHolder, side_number};
 
@@ -241,19 +241,17 @@ pub fn enter_for_mutex(
 }
 
 // The first wait becomes a wait for the mutex, and the others are removed.
-fn move_waits(waits: &mut List<Wait>, mutex: ObjectId)
+fn move_waits(waits: &mut Waits, mutex: ObjectId)
     ensures { waits.new ≡ moved_waits mutex.0 waits.old }
 {
-    waits.truncate(1);
     if let Some(wait) = waits.as_slice().first().copied() {
-        let moved = Wait {
+        waits.replace_all(Wait {
             object: mutex,
             side: Side::Lock,
             value: wait.value,
             target: wait.target,
             with_ok: wait.with_ok,
-        };
-        waits.set(0, moved);
+        });
     }
 }
 

@@ -47,18 +47,18 @@ same-parts v w o s x t b =
 
 wait-decides : (v w : Wait) → Decides (waits.eq-value.it v w) (v ≡ w)
 wait-decides v w =
-    let d = both _ _ (unsigned_Decides v.object.0 w.object.0)
-    (both _ _ (side-decides v.side w.side)
-    (both _ _ (value-decides v.value w.value)
-    (both _ _ (target-decides v.target w.target) (booleans_Decides v.with_ok w.with_ok)))) in (
-      λ t. let p = d.0 t in same-parts v w p.0 p.1.0 p.1.1.0 p.1.1.1.0 p.1.1.1.1,
+    let d = both _ _ (value-decides v.value w.value)
+    (both _ _ (unsigned_Decides v.object.0 w.object.0)
+    (both _ _ (target-decides v.target w.target)
+    (both _ _ (side-decides v.side w.side) (booleans_Decides v.with_ok w.with_ok)))) in (
+      λ t. let p = d.0 t in same-parts v w p.1.0 p.1.1.1.0 p.0 p.1.1.0 p.1.1.1.1,
       λ e. d.1 (
-        ap (λ (z : Wait). z.object.0) e,
+        ap (λ (z : Wait). z.value) e,
         (
-          ap (λ (z : Wait). z.side) e,
+          ap (λ (z : Wait). z.object.0) e,
           (
-            ap (λ (z : Wait). z.value) e,
-            (ap (λ (z : Wait). z.target) e, ap (λ (z : Wait). z.with_ok) e),
+            ap (λ (z : Wait). z.target) e,
+            (ap (λ (z : Wait). z.side) e, ap (λ (z : Wait). z.with_ok) e),
           ),
         ),
       ),

@@ -60,8 +60,8 @@ pub fn is_same_frame(frame: &Frame, other: &Frame) -> bool
         && frame.at == other.at
         && frame.discards == other.discards
         && is_same_leaving(frame.leaving, other.leaving)
-        && same_values(frame.slots.as_slice(), other.slots.as_slice())
-        && same_operands(frame.operands.as_slice(), other.operands.as_slice())
+        && same_values(frame.values.slots(), other.values.slots())
+        && same_operands(frame.values.operands(), other.values.operands())
         && same_deferred(frame.deferred.as_slice(), other.deferred.as_slice())
 }
 

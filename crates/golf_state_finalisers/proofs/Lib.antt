@@ -1,1 +1,2 @@
 mod Queueing
+pub mod Adding

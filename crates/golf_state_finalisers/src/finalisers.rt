@@ -3,11 +3,11 @@
 //! They are the entries of a block map.
 
 ghost use Rattle.std.specs.Prelude.{◌≡◌, ◌==◌, [], None, not, length, IfOk, OnOk, OnErr};
-ghost use Rattle.golf_theory.specs.Maps.{find, insert, only};
+ghost use Rattle.golf_theory.specs.Maps.{find, insert, only, IsRising};
 ghost use Rattle.golf_theory.specs.Flags.{kept, left_out};
 ghost use Rattle.golf_model.specs.Collections.{queued};
 
-use crate::walks::{list_pairs, unflagged_in};
+use crate::walks::{list_pairs, put_all, unflagged_in};
 use golf_base::{List, Memory};
 use golf_blocks::BlockMap;
 use golf_data::Queued;
@@ -70,6 +70,17 @@ impl Finalisers {
         ensures { self.new ≡ only (λ p. not (p == object)) self.old }
     {
         self.entries.take(object);
+    }
+
+    /// Returns a copy of the finalisers, which is equal.
+    pub fn copy(&self, alloc: Global) -> Result<Finalisers, Memory>
+        requires { IsRising self.now }
+        ensures { IfOk result (λ copy. copy ≡ self.now) }
+    {
+        let pairs = self.list(alloc)?;
+        let mut entries = BlockMap::new(alloc);
+        put_all(&mut entries, pairs.as_slice())?;
+        Ok(Finalisers { entries })
     }
 
     /// Returns all finalisers in rising order of their objects' numbers.

@@ -1,14 +1,15 @@
 //! Walks over all finalisers, one block after another.
 //!
-//! They are in rising order of their objects' numbers. Nothing here changes a finaliser.
+//! They are in rising order of their objects' numbers.
 
-ghost use Rattle.std.specs.Prelude.{◌≡◌, ◌++◌, length, IfOk};
+ghost use Rattle.std.specs.Prelude.{◌≡◌, ◌++◌, length, IfOk, OnOk};
+ghost use Rattle.golf_theory.specs.Maps.{IsRising};
 ghost use Rattle.golf_theory.specs.Flags.{left_out};
 ghost use Rattle.golf_model.specs.Collections.{queued};
 ghost use Rattle.golf_blocks.specs.Blocks.{entries_in};
 
 use golf_base::{List, Memory, ObjectId};
-use golf_blocks::Block;
+use golf_blocks::{Block, BlockMap};
 use golf_data::Queued;
 use std::alloc::Global;
 
@@ -21,6 +22,17 @@ pub fn list_pairs(alloc: Global, blocks: &[Block<u32>]) -> Result<List<(u32, u32
         list.extend_from_slice(blocks[at].entries.as_slice())?;
     }
     Ok(list)
+}
+
+/// Adds these finalisers after the others, whose objects have smaller numbers.
+pub fn put_all(to: &mut BlockMap<u32>, pairs: &[(u32, u32)]) -> Result<(), Memory>
+    requires { IsRising (to.old ++ pairs.now) }
+    ensures { OnOk result (to.new ≡ to.old ++ pairs.now) }
+{
+    for pair in pairs {
+        to.put(pair.0, pair.1)?;
+    }
+    Ok(())
 }
 
 // Adds the entries of the queue for those finalisers whose flag is false.

@@ -7,4 +7,5 @@ mod Splits
 mod Summing
 mod BlockLaws
 mod RunLaws
+mod Copying
 pub mod PlaceLaws

@@ -65,7 +65,7 @@ in-entries {X} (d ∷ es) zero e h =
     inl (ap (λ (y : ℕ × X). y.0) (sym same), ap (λ (y : ℕ × X). y.1) (sym same))
 in-entries (d ∷ es) (suc i) e h = inr (in-entries es i e h)
 
-Entry-right : {X : Type 0} (us vs : List (ℕ × X)) (k : ℕ) (x : X) → Entry vs k x → Entry (us ++ vs) k x
+pub Entry-right : {X : Type 0} (us vs : List (ℕ × X)) (k : ℕ) (x : X) → Entry vs k x → Entry (us ++ vs) k x
 Entry-right [] vs k x h = h
 Entry-right (u ∷ us) vs k x h = inr (Entry-right us vs k x h)
 

@@ -9,7 +9,9 @@ use Rattle.golf_data.specs.declared.goroutine.Goroutine.{Goroutine}
 use Rattle.golf_theory.specs.Flags.{kept}
 use Rattle.golf_theory.specs.Maps.{Entry, find, put, only, AllBelow}
 use Rattle.golf_model.specs.Views.{GoroutineView, goroutine_view}
-use Rattle.golf_state_goroutines.specs.Places.{plain_entry, plain_entries}
+use Rattle.golf_model.specs.State.{is_running}
+use Rattle.golf_state_goroutines.specs.Goroutines.{AllUnder}
+use Rattle.golf_state_goroutines.specs.Places.{plain_entry, plain_entries, running_of}
 
 pub find-plain : (g : ℕ) (ps : List (ℕ × Goroutine)) → find g (plain_entries ps) ≡ option_map goroutine_view (find g ps)
 find-plain g [] = refl
@@ -68,3 +70,16 @@ pub Entry-put : {X : Type 0} (g : ℕ) (v : X) (es : List (ℕ × X)) (k : ℕ) 
 Entry-put g v [] k x h = absurd h
 Entry-put g v (e ∷ es) k x (inl h) = (e.1, inl (h.0, refl))
 Entry-put g v (e ∷ es) k x (inr h) = let rest = Entry-put g v es k x h in (rest.0, inr rest.1)
+
+-- all of them are below
+pub under-next : (n : ℕ) (es : List (ℕ × GoroutineView)) (runs : List ℕ) → runs ≡ running_of es → AllBelow n es
+    → AllUnder n runs
+under-next n es runs is a = rw is (under n es a)
+  where
+    under : (n : ℕ) (es : List (ℕ × GoroutineView)) → AllBelow n es → AllUnder n (running_of es)
+    under n [] a = tt
+    under n (e ∷ es) a = elim (is_running e.1.mode) as (λ b. AllUnder n
+        (cond b (e.0 ∷ running_of es) (running_of es))) [
+          | true ↦ (a.0, under n es a.1)
+          | false ↦ under n es a.1
+        ]

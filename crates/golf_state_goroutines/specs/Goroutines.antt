@@ -3,11 +3,16 @@ use Rattle.std.specs.Prelude.{◌≡◌, ℕ, ◌<◌, ◌==◌, not, List, [], 
 use Rattle.golf_theory.specs.Maps.{put, only}
 use Rattle.golf_theory.specs.Stored.{placed, without}
 use Rattle.golf_data.specs.declared.goroutine.Goroutine.{Goroutine}
+use Rattle.golf_state_goroutines.specs.Places.{plain_entries, running_of}
 
 -- the goroutines in rising order of number, and the numbers of those that run in rising order
 pub record Goroutines : Type 0 where
   pub places : List (ℕ × Goroutine)
   pub running : List ℕ
+
+-- the numbers of those that run are those of the goroutines that are not blocked
+abbrev pub IsListed : Goroutines → Type 0
+IsListed r = r.running ≡ running_of (plain_entries r.places)
 
 -- adds a running goroutine after the others
 abbrev pub added : ℕ × Goroutine → Goroutines → Goroutines

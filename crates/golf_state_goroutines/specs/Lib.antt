@@ -1,6 +1,8 @@
 pub mod Places
 pub mod RisingLists
 pub mod Goroutines
+pub mod Roominess
+pub mod Ready
 pub mod RunBlocks
 pub mod RunLists
 pub mod Sums

@@ -2,7 +2,7 @@
 //!
 //! The invariant: the list of running goroutines has room for each goroutine.
 
-ghost use Rattle.std.specs.Prelude.{◌≡◌, [], map, length, IfOk, IsSome, Some, OnOk, OnErr, is_some, option_map};
+ghost use Rattle.std.specs.Prelude.{◌≡◌, ◌++◌, ◌∷◌, [], map, length, IfOk, IsSome, Some, OnOk, OnErr, is_some, option_map};
 ghost use Rattle.std.specs.Prelude.{slice_get};
 ghost use Rattle.std.specs.Borrow.{sem};
 ghost use Rattle.golf_theory.specs.Flags.{kept};
@@ -10,6 +10,7 @@ ghost use Rattle.golf_theory.specs.Maps.{find, keys, AllBelow};
 ghost use Rattle.golf_blocks.specs.Blocks.{entries_in};
 ghost use Rattle.golf_model.specs.Views.{goroutine_view};
 ghost use Rattle.golf_state_goroutines.specs.Places.{plain_entries, running_of};
+ghost use Rattle.golf_state_goroutines.specs.RunLists.{CanStart};
 ghost use Rattle.golf_state_goroutines.specs.Goroutines.{added, parted, stopped, started, AllUnder, IsNone};
 ghost use Rattle.golf_state_goroutines.specs.Loans.{LendsGoroutine};
 
@@ -40,6 +41,25 @@ impl Model for Roster {
     ghost view = { goroutines_of };
 
     ghost invariant = { IsRoster };
+}
+
+// Adds a goroutine after the others, with room for it to run. On `Err` the goroutines are unchanged.
+fn append(
+    places: &mut BlockMap<Boxed<Goroutine>>,
+    runs: &mut RunList,
+    number: u32,
+    goroutine: Boxed<Goroutine>,
+) -> Result<(), Memory>
+    requires below { AllBelow number (plain_entries places.old) }
+    requires room { CanStart runs.old.keys places.old }
+    ensures ok { OnOk result (places.new ≡ places.old ++ (number, goroutine) ∷ []) }
+    ensures err { OnErr result (places.new ≡ places.old) }
+    ensures numbers { runs.new.numbers ≡ runs.old.numbers }
+    ensures room { CanStart runs.new.keys places.new }
+{
+    runs.close_if_crowded(places);
+    runs.open(number / 256)?;
+    places.put(number, goroutine)
 }
 
 impl Roster {
@@ -124,11 +144,20 @@ impl Roster {
         ensures err { OnErr result (self.new ≡ self.old) }
     {
         let (number, goroutine) = place;
-        self.runs.close_if_crowded(&self.places);
-        self.runs.open(number / 256)?;
-        self.places.put(number, goroutine)?;
+        append(&mut self.places, &mut self.runs, number, goroutine)?;
         self.runs.start(number);
         Ok(())
+    }
+
+    /// Adds a goroutine that does not run, and whose number is above all others. On `Err` the roster is
+    /// unchanged.
+    pub fn add_blocked(&mut self, place: (u32, Boxed<Goroutine>)) -> Result<(), Memory>
+        requires { AllBelow place.0 (plain_entries self.old.places) }
+        ensures ok { OnOk result (self.new ≡ record self.old { places = self.old.places ++ place ∷ [] }) }
+        ensures err { OnErr result (self.new ≡ self.old) }
+    {
+        let (number, goroutine) = place;
+        append(&mut self.places, &mut self.runs, number, goroutine)
     }
 
     /// Removes the goroutine of this number, if it is there, also from the list of those that run. It takes

@@ -5,3 +5,4 @@ pub mod Standing
 pub mod Partings
 pub mod Narrowing
 pub mod Lines
+pub mod Guessing

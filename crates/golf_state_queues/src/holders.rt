@@ -3,7 +3,7 @@
 //! An entry that is marked as gone keeps its ticket and its place, so the tickets still rise. `held` is
 //! the list of the others: the goroutines that are in the queue.
 
-ghost use Rattle.std.specs.Prelude.{◌≡◌, ◌<◌, ◌≤◌, ◌+◌, ◌-◌, ◌&&◌, false, not, drop, filter, length, slice_get, take};
+ghost use Rattle.std.specs.Prelude.{◌≡◌, ◌<◌, ◌≤◌, ◌+◌, ◌-◌, ◌&&◌, false, true, not, drop, filter, length, slice_get, take};
 ghost use Rattle.std.specs.Prelude.{IfSome, OnOk};
 ghost use Rattle.golf_theory.specs.Maps.{keys, Entry, Rises, AllBelow, rank};
 ghost use Rattle.golf_theory.specs.Membership.{is_in};
@@ -15,6 +15,7 @@ ghost use Rattle.golf_state_queues.specs.WaitQueues.{IsLastBefore};
 use crate::line::Line;
 use golf_base::{GoroutineId, Memory};
 use golf_state_goroutines::Roster;
+use smallvec::SmallVec;
 
 /// A goroutine that took a ticket.
 #[derive(Clone, Copy, Debug)]
@@ -23,6 +24,30 @@ pub struct TicketHolder {
     pub goroutine: GoroutineId,
     /// Whether it has left the queue.
     pub is_gone: bool,
+}
+
+impl TicketHolder {
+    /// Returns the entry, marked as gone.
+    pub fn gone(self) -> TicketHolder
+        ensures { result ≡ record { ticket = self.ticket; goroutine = self.goroutine; is_gone = true } }
+    {
+        TicketHolder {
+            ticket: self.ticket,
+            goroutine: self.goroutine,
+            is_gone: true,
+        }
+    }
+}
+
+impl Default for TicketHolder {
+    // It fills a place that holds no entry.
+    fn default() -> TicketHolder {
+        TicketHolder {
+            ticket: 0,
+            goroutine: GoroutineId(0),
+            is_gone: true,
+        }
+    }
 }
 
 // How many entries have a smaller ticket.
@@ -116,24 +141,24 @@ fn is_among(roster: &Roster, g: GoroutineId) -> bool
 }
 
 /// Removes the first `count` entries from memory.
-pub fn drop_front(holders: &mut Vec<TicketHolder>, count: usize)
+pub fn drop_front(holders: &mut SmallVec<TicketHolder, 1>, count: usize)
     requires { count ≤ length holders.old.items }
     ensures { holders.new.items ≡ drop count holders.old.items }
 {
     let left = holders.len() - count;
-    holders.rotate_left(count);
+    holders.as_mut_slice().rotate_left(count);
     holders.truncate(left);
 }
 
 /// Removes the entries that are marked as gone from memory.
-pub fn drop_gone(holders: &mut Vec<TicketHolder>)
+pub fn drop_gone(holders: &mut SmallVec<TicketHolder, 1>)
     ensures { holders.new.items ≡ filter (λ h. not h.is_gone) holders.old.items }
 {
     holders.retain(|holder| !holder.is_gone);
 }
 
 /// Keeps the entries whose goroutine is in the roster.
-pub fn narrow(holders: &mut Vec<TicketHolder>, roster: &Roster)
+pub fn narrow(holders: &mut SmallVec<TicketHolder, 1>, roster: &Roster)
     ensures { holders.new.items ≡ filter (λ h. is_in h.goroutine.0 (keys (plain_entries roster.now.places))) holders.old.items }
 {
     holders.retain(|holder| is_among(roster, holder.goroutine));
@@ -141,7 +166,6 @@ pub fn narrow(holders: &mut Vec<TicketHolder>, roster: &Roster)
 
 /// Returns the last waiter in the queue whose ticket is below this one, or `None`. It skips entries
 /// that are gone.
-/// are gone.
 pub fn last_before(holders: &[TicketHolder], ticket: u64) -> Option<TicketHolder>
     requires { Rises 0 (spots holders.now) }
     ensures { IsLastBefore ticket (held holders.now) result }

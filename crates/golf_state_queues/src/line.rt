@@ -2,7 +2,8 @@
 //!
 //! The invariant: the tickets rise, also those of entries that are marked as gone.
 
-ghost use Rattle.std.specs.Prelude.{◌≡◌, ◌<◌, ◌≤◌, [], ◌∷◌, ◌++◌, ◌-◌, drop, length, remove, take, IfOk, OnOk, OnErr};
+ghost use Rattle.std.specs.Prelude.{◌≡◌, ◌<◌, ◌≤◌, [], ◌∷◌, ◌++◌, ◌-◌, drop, length, remove, slice_set, take, IfOk, OnOk};
+ghost use Rattle.std.specs.Prelude.{OnErr};
 ghost use Rattle.golf_theory.specs.Maps.{AllBelow, Rises, keys};
 ghost use Rattle.golf_state_goroutines.specs.Places.{plain_entries};
 ghost use Rattle.golf_state_queues.specs.Lines.{spots};
@@ -11,6 +12,7 @@ ghost use Rattle.golf_state_queues.specs.WaitQueues.{among, held};
 use crate::holders::{TicketHolder, drop_front, drop_gone, end_of, narrow, start_of};
 use golf_base::Memory;
 use golf_state_goroutines::Roster;
+use smallvec::SmallVec;
 use std::alloc::Global;
 use std::marker::Model;
 
@@ -24,7 +26,8 @@ const FEW: usize = 8;
 /// is. After a leave neither the first entry nor the last one is gone.
 #[derive(Debug, Drop)]
 pub struct Line {
-    entries: Vec<TicketHolder>,
+    // one entry lies in the queue itself
+    entries: SmallVec<TicketHolder, 1>,
     // how many entries are skipped at the front
     front: u32,
     // how many entries are skipped or marked
@@ -53,16 +56,38 @@ fn less(count: u32, without: usize) -> u32
     }
 }
 
+// Puts another entry at a place.
+#[inline(always)]
+fn set_at(entries: &mut SmallVec<TicketHolder, 1>, place: usize, holder: TicketHolder)
+    requires { place < length entries.old.items }
+    ensures { entries.new.items ≡ slice_set entries.old.items place holder }
+{
+    entries.as_mut_slice()[place] = holder;
+}
+
 impl Line {
-    /// Returns the empty queue, with room for one entry.
+    /// Returns the empty queue. It takes no memory, and neither does the first entry.
     #[inline(always)]
-    pub fn new(alloc: Global) -> Result<Line, Memory>
-        ensures { IfOk result (λ line. line ≡ []) }
+    pub fn new(alloc: Global) -> Line
+        ensures { result ≡ [] }
     {
-        Ok(Line {
-            entries: Vec::with_capacity(alloc, 1)?,
+        Line {
+            entries: SmallVec::new(alloc),
             front: 0,
             gone: 0,
+        }
+    }
+
+    /// Returns a copy of the queue, which has the same entries. Only more than one entry take memory.
+    pub fn copy(&self, alloc: Global) -> Result<Line, Memory>
+        ensures { IfOk result (λ copy. copy ≡ self.now) }
+    {
+        let mut entries = SmallVec::new(alloc);
+        entries.extend_from_slice(self.as_slice())?;
+        Ok(Line {
+            entries,
+            front: 0,
+            gone: self.gone.saturating_sub(self.front),
         })
     }
 
@@ -92,6 +117,7 @@ impl Line {
         requires { at ≤ length self.old }
         ensures { self.new ≡ take at self.old }
     {
+        let _count = self.entries.len();
         self.entries.truncate(self.front as usize + at);
     }
 
@@ -101,6 +127,7 @@ impl Line {
         requires { at < length self.old }
         ensures { self.new ≡ remove self.old at }
     {
+        let _count = self.entries.len();
         self.entries.remove(self.front as usize + at);
     }
 
@@ -110,7 +137,10 @@ impl Line {
         requires { at < length self.old }
         ensures { held self.new ≡ held (remove self.old at) }
     {
-        self.entries[self.front as usize + at].is_gone = true;
+        let _count = self.entries.len();
+        let place = self.front as usize + at;
+        let holder = self.entries.as_slice()[place];
+        set_at(&mut self.entries, place, holder.gone());
         self.gone = self.gone.saturating_add(1);
     }
 

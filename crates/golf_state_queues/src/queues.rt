@@ -2,7 +2,7 @@
 //!
 //! The invariant: the queues are in rising order of object and side, and the tickets of each rise.
 
-ghost use Rattle.std.specs.Prelude.{◌≡◌, ◌<◌, ◌≤◌, ◌+◌, ℕ, [], ◌∷◌, true, length, OnOk, slice_get};
+ghost use Rattle.std.specs.Prelude.{◌≡◌, ◌<◌, ◌≤◌, ◌+◌, ℕ, [], ◌∷◌, ◌++◌, true, length, IfOk, OnOk, slice_get};
 ghost use Rattle.golf_theory.specs.Maps.{keys, Entry, Rises, rank};
 ghost use Rattle.golf_theory.specs.Membership.{is_in};
 ghost use Rattle.golf_model.specs.Waiters.{side_number};
@@ -33,11 +33,13 @@ pub struct Queue {
 /// Each goroutine that waits there is among them. A goroutine that no longer waits there may be among them
 /// too.
 ///
-/// A binary search finds a queue. The first goroutine that enters a queue makes it. It stays until a
+/// A queue is first looked for where its key was last, and then by a binary search. The first goroutine that enters a queue makes it. It stays until a
 /// collection finds it empty.
 #[derive(Debug, Drop)]
 pub struct Queues {
     queues: Vec<Queue>,
+    // where a goroutine last entered a queue whose key has this remainder; the queue may be elsewhere now
+    guesses: [usize; 64],
 }
 
 impl Model for Queues {
@@ -92,6 +94,20 @@ fn stands_at(queues: &[Queue], at: usize, key: u64) -> bool
     }
 }
 
+// The place of the key: at the guess if the queue is there, else found by a binary search.
+#[inline(always)]
+fn place_of(queues: &[Queue], guesses: &[usize; 64], key: u64) -> usize
+    requires { Rises 0 (wait_queues_of queues.now) }
+    ensures place { result ≡ rank key (wait_queues_of queues.now) }
+    ensures within { result ≤ length queues.now }
+{
+    let guess = guesses[(key % 64) as usize];
+    if stands_at(queues, guess, key) {
+        return guess;
+    }
+    rank_of(queues, key)
+}
+
 // Keeps in each queue the waiters whose goroutine is in the roster.
 fn narrow_all(queues: &mut Vec<Queue>, roster: &Roster)
     ensures { wait_queues_of queues.new.items ≡ narrowed (keys (plain_entries roster.now.places)) (wait_queues_of queues.old.items) }
@@ -101,6 +117,20 @@ fn narrow_all(queues: &mut Vec<Queue>, roster: &Roster)
     }
 }
 
+// Adds copies of these queues after the others.
+fn add_copies(to: &mut Vec<Queue>, alloc: Global, queues: &[Queue]) -> Result<(), Memory>
+    ensures { OnOk result (wait_queues_of to.new.items ≡ wait_queues_of to.old.items ++ wait_queues_of queues.now) }
+{
+    for queue in queues {
+        to.push(Queue {
+            object: queue.object,
+            side: queue.side,
+            holders: queue.holders.copy(alloc)?,
+        })?;
+    }
+    Ok(())
+}
+
 impl Queues {
     /// Returns the wait queues without any queue. It takes no memory.
     pub fn new(alloc: Global) -> Queues
@@ -108,7 +138,20 @@ impl Queues {
     {
         Queues {
             queues: Vec::new(alloc),
+            guesses: [0; 64],
         }
+    }
+
+    /// Returns a copy of the wait queues, which is equal.
+    pub fn copy(&self, alloc: Global) -> Result<Queues, Memory>
+        ensures { IfOk result (λ copy. copy ≡ self.now) }
+    {
+        let mut queues = Vec::with_capacity(alloc, self.queues.len())?;
+        add_copies(&mut queues, alloc, self.queues.as_slice())?;
+        Ok(Queues {
+            queues,
+            guesses: self.guesses,
+        })
     }
 
     /// Returns the entries of the wait queue of the object with that side. Entries that are gone may be
@@ -120,7 +163,7 @@ impl Queues {
         ensures order { Rises 0 (spots result.now) }
     {
         let key = key_of(object, side);
-        let at = rank_of(self.queues.as_slice(), key);
+        let at = place_of(self.queues.as_slice(), &self.guesses, key);
         if stands_at(self.queues.as_slice(), at, key) {
             self.queues[at].holders.as_slice()
         } else {
@@ -146,11 +189,12 @@ impl Queues {
         ensures below { TicketsBelow (ticket + 1) self.new }
     {
         let key = key_of(object, side);
-        let at = rank_of(self.queues.as_slice(), key);
+        let at = place_of(self.queues.as_slice(), &self.guesses, key);
+        self.guesses[(key % 64) as usize] = at;
         if stands_at(self.queues.as_slice(), at, key) {
             return join(&mut self.queues[at].holders, ticket, goroutine);
         }
-        let mut holders = Line::new(*self.queues.allocator())?;
+        let mut holders = Line::new(*self.queues.allocator());
         join(&mut holders, ticket, goroutine)?;
         self.queues.insert(
             at,
@@ -190,7 +234,7 @@ impl Queues {
         ensures { IsWithout (leaves ticket goroutine.0 (key object.0 side ∷ [])) self.old self.new }
     {
         let key = key_of(object, side);
-        let at = rank_of(self.queues.as_slice(), key);
+        let at = place_of(self.queues.as_slice(), &self.guesses, key);
         if stands_at(self.queues.as_slice(), at, key) {
             part(&mut self.queues[at].holders, ticket, goroutine);
         }

@@ -38,7 +38,7 @@ const ANSWERS: [Row; 7] = [
         file: TWO_SENDERS,
         failing: NONE,
         status: Status::Clean,
-        out: "every schedule: 39 states, no leak\nnever panics\nnever all asleep\nalways ends\n",
+        out: "every schedule: 31 states, no leak\nnever panics\nnever all asleep\nalways ends\n",
         err: NOTE,
     },
     Row {
@@ -47,7 +47,7 @@ const ANSWERS: [Row; 7] = [
         file: "package main\n\nfunc main() {\n\tpanic(\"a\")\n}\n",
         failing: NONE,
         status: Status::Clean,
-        out: "every schedule: 4 states, no leak\npanics under some schedule\nnever all asleep\nalways ends\n",
+        out: "every schedule: 3 states, no leak\npanics under some schedule\nnever all asleep\nalways ends\n",
         err: NOTE,
     },
     Row {

@@ -42,8 +42,8 @@ fn a_line_of_progress_that_fails_ends_the_search(rt: HostRuntime) -> Result<(), 
     expect_shown(&rt, true, &CUT)
 }
 
-// One goroutine makes one channel after another. A state is made anew by all turns before it, so 100,000 states take
-// longer than a second.
+// One goroutine makes one channel after another. A state has all channels made before it, so 100,000 states take longer
+// than a second.
 const TIMED: Row = Row {
     shows: "a search ends with its time",
     line: "search --seconds 1",

@@ -1,5 +1,6 @@
 //! Tests of a search by preemptions. Each of these files has one schedule of the fewest turns, which is found by hand:
-//! the goroutine of the last turn goes on until it must be preempted.
+//! the goroutine of the last turn goes on until it must be preempted. The numbers of states are those of the model of
+//! `tests/explored.py`.
 
 use crate::answers::{LEAK, LEAK_ANSWER};
 use crate::calls::{NONE, NOTE, Row, expect_rows};
@@ -25,7 +26,7 @@ const SEARCHES: [Row; 7] = [
         file: LEAK,
         failing: NONE,
         status: Status::Clean,
-        out: "nothing found: 32 states, at most 0 preemptions\n",
+        out: "nothing found: 4 states, at most 0 preemptions\n",
         err: NOTE,
     },
     Row {
@@ -52,7 +53,7 @@ const SEARCHES: [Row; 7] = [
         file: ASLEEP,
         failing: NONE,
         status: Status::Clean,
-        out: "nothing found: 6 states, at most 2 preemptions\n",
+        out: "nothing found: 3 states, at most 2 preemptions\n",
         err: "at most 9 states, about 1 MB of memory\n",
     },
     Row {

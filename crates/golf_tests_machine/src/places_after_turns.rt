@@ -68,7 +68,7 @@ pub fn blocked(state: &State, g: GoroutineId) -> Option<HowBlocked> {
 /// frame has.
 pub fn stands(state: &State, g: GoroutineId) -> Option<(u32, usize)> {
     let frame = state.frame(g)?;
-    Some((frame.at, frame.operands.len()))
+    Some((frame.at, frame.values.operand_count()))
 }
 
 /// Fails the test unless the claim holds.

@@ -1,20 +1,19 @@
 //! Tests of a state that is changed by hand, and of frames with a deferred call.
 
 use crate::places_after_turns::holds;
-use golf_base::{GoroutineId, List, Memory, Room};
-use golf_data::{Deferred, Frame, Leaving, Slots};
+use golf_base::{GoroutineId, List, Memory};
+use golf_data::{Deferred, DeferredCalls, Frame, FrameValues, Leaving};
 use golf_state::{State, begin_return, enter_deferred, return_frame};
 use golf_tests_support::count_goroutines;
 use std::alloc::Global;
 use std::test::Fail;
 
 // A frame with these deferred calls.
-fn frame(alloc: Global, deferred: List<Deferred>) -> Result<Frame, Memory> {
+fn frame(alloc: Global, deferred: DeferredCalls) -> Result<Frame, Memory> {
     Ok(Frame {
         function: 0,
         at: 1,
-        slots: Slots::of(alloc, &[], 0)?,
-        operands: Room::new(alloc),
+        values: FrameValues::of(alloc, &[], 0, 0)?,
         deferred,
         leaving: Leaving::No,
         discards: true,
@@ -23,7 +22,7 @@ fn frame(alloc: Global, deferred: List<Deferred>) -> Result<Frame, Memory> {
 
 // Whether there are two frames during the deferred call of a returning frame, and one after it.
 fn deferred_call(alloc: Global) -> Result<bool, Memory> {
-    let mut deferred = List::new(alloc);
+    let mut deferred = DeferredCalls::new(alloc);
     deferred.push(Deferred {
         function: 1,
         arguments: List::new(alloc),
@@ -31,7 +30,7 @@ fn deferred_call(alloc: Global) -> Result<bool, Memory> {
     let mut frames = List::new(alloc);
     frames.push(frame(alloc, deferred)?)?;
     begin_return(&mut frames, 2, 0, None);
-    enter_deferred(&mut frames, frame(alloc, List::new(alloc))?)?;
+    enter_deferred(&mut frames, frame(alloc, DeferredCalls::new(alloc))?)?;
     let inside = frames.len();
     return_frame(&mut frames, None)?;
     Ok(inside == 2 && frames.len() == 1)
@@ -53,6 +52,18 @@ fn cleared(alloc: Global) -> Result<bool, Memory> {
     let printed = state.output().len();
     state.clear_output();
     Ok(printed == 2 && state.output().len() == 0)
+}
+
+// Whether a copy of a state is equal to it, also after both have taken the same turn by hand.
+fn copied(alloc: Global) -> Result<bool, Memory> {
+    let mut state = State::new(alloc, List::new(alloc), List::new(alloc), 1)?;
+    state.spawn(List::new(alloc), 3)?;
+    let mut copy = state.copy(alloc)?;
+    let equal = copy.is(&state, alloc)?;
+    copy.spawn(List::new(alloc), 4)?;
+    let apart = copy.is(&state, alloc)?;
+    state.spawn(List::new(alloc), 4)?;
+    Ok(equal && !apart && copy.is(&state, alloc)?)
 }
 
 // Whether a state is equal to the same state and to the same state with output, and not to one with one
@@ -80,6 +91,11 @@ fn no_goroutine_gets_a_number_again(rt: HostRuntime) -> Result<(), Fail> {
 #[test]
 fn states_are_compared_but_for_their_output(rt: HostRuntime) -> Result<(), Fail> {
     holds(&rt, compared(rt.alloc())?)
+}
+
+#[test]
+fn a_copy_of_a_state_is_equal_and_changes_alone(rt: HostRuntime) -> Result<(), Fail> {
+    holds(&rt, copied(rt.alloc())?)
 }
 
 #[test]

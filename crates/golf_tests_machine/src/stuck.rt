@@ -3,7 +3,7 @@
 use crate::places_after_turns::{MAIN, OTHER, after, blocked, holds, stands, take};
 use crate::programs::program;
 use golf_base::{List, Memory};
-use golf_data::{Code, Object, Side, Value, Wait, WaitKind};
+use golf_data::{Code, Object, Side, Value, Wait, WaitKind, Waits};
 use golf_machine::start;
 use golf_state::State;
 use std::alloc::Global;
@@ -27,15 +27,21 @@ fn waiting_without_mutex(alloc: Global, code: &Code) -> Result<State, Memory> {
     let object = state.make(Object::Cond(Value::Nil))?;
     state.set_global(0, Value::Ref(object));
     let waiter = state.spawn(List::new(alloc), 1)?;
-    let mut waits = List::new(alloc);
-    waits.push(Wait {
+    let wait = Wait {
         object,
         side: Side::Cond,
         value: Value::Nil,
         target: None,
         with_ok: false,
-    })?;
-    state.block(waiter, WaitKind::Condition, 1, waits, 0, 0)?;
+    };
+    state.block(
+        waiter,
+        WaitKind::Condition,
+        1,
+        Waits::one(alloc, wait),
+        0,
+        0,
+    )?;
     Ok(state)
 }
 

@@ -72,18 +72,23 @@ impl Gate for MeetingGate {
     }
 }
 
-/// In its turn 0, marker 1 looks for the flag that marker 0 raises in its turn 1. In its own turn 1, for
-/// which it must have taken a place, it raises its flag.
+/// In its turn 0, marker 1 looks for the flag that marker 0 raises in a turn of its own. Marker 1 raises its flag
+/// once it has taken some places.
 #[derive(Drop)]
 pub struct StealingGate {
     flags: Flags,
+    turn: u64,
+    places: u64,
 }
 
 impl StealingGate {
-    /// Returns a gate whose flags are down.
-    pub fn new() -> StealingGate {
+    /// Returns a gate whose flags are down. Marker 0 raises its flag in this turn, and marker 1 raises its own
+    /// after so many places.
+    pub fn new(turn: u64, places: u64) -> StealingGate {
         StealingGate {
             flags: Flags::new(),
+            turn,
+            places,
         }
     }
 
@@ -98,11 +103,11 @@ impl Gate for StealingGate {
         if marker == 1 && turn == 0 {
             self.flags.look(1);
         }
-        if marker == 0 && turn == 1 {
+        if marker == 0 && turn == self.turn {
             self.flags.raise(0);
             self.flags.look(0);
         }
-        if marker == 1 && turn == 1 {
+        if marker == 1 && turn == self.places {
             self.flags.raise(1);
         }
     }

@@ -1,6 +1,7 @@
 package lower
 
 import (
+	"fmt"
 	"go/ast"
 	"go/token"
 	"go/types"
@@ -29,6 +30,9 @@ return
 }
 }`
 
+// clockFile is the file with the functions of the clock.
+const clockFile = load.Prefix + "time/clock.go"
+
 // clockHelpers writes the functions of the clock.
 func (p *prog) clockHelpers() {
 	if !p.clock {
@@ -50,7 +54,7 @@ func (f *fctx) announces() bool {
 		return false
 	}
 	file := f.p.Fset.Position(f.p.pos).Filename
-	return file != load.Prefix+"time/clock.go" && !strings.HasPrefix(file, load.Prefix+"golf/")
+	return file != clockFile && !strings.HasPrefix(file, load.Prefix+"golf/")
 }
 
 // away takes the goroutine out of those that do not wait.
@@ -113,4 +117,48 @@ func (f *fctx) nativeStmt(c *ast.CallExpr, fn *types.Func) bool {
 	p.rawNative = false
 	f.waiting(func() { f.emit("%s", x) })
 	return true
+}
+
+// timers are the calls of time.AfterFunc in the user's files. The goroutine that a timer starts is started at the line of
+// its call.
+type timers struct {
+	calls  []token.Pos
+	launch string // the function that starts the goroutine of a call
+}
+
+// afterFunc is a call of time.AfterFunc, with its number.
+func (f *fctx) afterFunc(fn *types.Func, c *ast.CallExpr) string {
+	p := f.p
+	args := f.args(fn.Signature(), c)
+	p.timers.calls = append(p.timers.calls, p.orig(c.Pos()))
+	return fmt.Sprintf("%s(%s, %d)", p.stdFunc("time", "afterFunc"), strings.Join(args, ", "), len(p.timers.calls))
+}
+
+// launch is the function that starts what a timer calls.
+func (p *prog) launch() string {
+	if p.timers.launch == "" {
+		p.timers.launch = p.fresh("golf_launch")
+		p.clockwork[p.timers.launch] = true
+		p.stdFunc("time", "run")
+	}
+	return p.timers.launch
+}
+
+// launchTable writes the function: a line for each call, which has its place.
+func (p *prog) launchTable() {
+	if p.timers.launch == "" {
+		return
+	}
+	sig := types.NewSignatureType(nil, nil, nil, nil, nil, false)
+	start := fmt.Sprintf("go %s(f)", p.stdFunc("time", "run"))
+	b := &p.decls
+	b.add(0, "func %s(call int, f %s) {", p.timers.launch, p.lt(sig))
+	for i, pos := range p.timers.calls {
+		b.add(0, "if call == %d {", i+1)
+		b.add(pos, "%s", start)
+		b.add(0, "return")
+		b.add(0, "}")
+	}
+	b.add(0, "%s", start)
+	b.add(0, "}")
 }

@@ -125,6 +125,7 @@ func (p *prog) sliceStruct(elem types.Type) string {
 			if ref && !isRef(elem) && !p.boxes(elem) {
 				continue
 			}
+			t = fill(t, n, map[string]string{"E": p.cell(elem), "V": l}) // before names of the user's come into it
 			for _, word := range []string{"MOVE ", "SET "} {
 				if x, ok := strings.CutPrefix(t, word); ok {
 					t = p.moveText(elem, word, x)
@@ -133,8 +134,7 @@ func (p *prog) sliceStruct(elem types.Type) string {
 			if dst, src, ok := strings.Cut(t, " = COPY "); ok {
 				t = dst + " = " + p.newCell(elem, p.copyOf2(elem, p.slot(elem, src)))
 			}
-			t = strings.Replace(t, "= ZERO", "= "+zero, 1)
-			b.add(0, "%s", fill(t, n, map[string]string{"E": p.cell(elem), "V": l}))
+			b.add(0, "%s", strings.Replace(t, "= ZERO", "= "+zero, 1))
 		}
 	})
 }
@@ -284,7 +284,7 @@ func (f *fctx) sliceExpr(e *ast.SliceExpr) string {
 	}
 	xs := f.ordered(gs...)
 	if arr && isPtr(f.typeOf(e.X)) {
-		xs[0] = f.notNil(xs[0])
+		xs[0] = f.nilChecked(xs[0])
 	}
 	if f.unwinds() && f.user() {
 		f.pinBounds(e, xs)

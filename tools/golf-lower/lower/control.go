@@ -341,67 +341,20 @@ func hasDefault(s *ast.SelectStmt) bool {
 	return false
 }
 
+// clause is a case of a select.
+type clause struct {
+	*ast.CommClause
+	operands []string // the channel, and what is sent
+	head     string
+	pre      *buffer // stores what is received
+}
+
 func (f *fctx) selectStmt(s *ast.SelectStmt, label string) {
-	p := f.p
 	if f.onlyCase(s, label) {
 		return
 	}
-	type clause struct {
-		head string
-		pre  *buffer
-		body []ast.Stmt
-		pos  token.Pos
-	}
 	waits := !hasDefault(s)
-	operand := func(x string) string {
-		if waits {
-			return f.settle(x)
-		}
-		return x
-	}
-	var cs []clause
-	for _, st := range s.Body.List {
-		c := st.(*ast.CommClause)
-		cl := clause{body: c.Body, pos: c.Pos(), pre: &buffer{}}
-		f.at(c.Pos())
-		ln := f.ln
-		f.ln = p.orig(s.Pos())
-		switch m := c.Comm.(type) {
-		case nil:
-			cl.head = "default:"
-		case *ast.SendStmt:
-			t := f.elemOf(m.Chan)
-			xs := f.ordered(func() string { return f.expr(m.Chan) }, func() string { return f.rval(m.Value, t) })
-			cl.head = fmt.Sprintf("case %s <- %s:", operand(xs[0]), operand(xs[1]))
-		case *ast.ExprStmt:
-			cl.head = fmt.Sprintf("case <-%s:", operand(f.expr(ast.Unparen(m.X).(*ast.UnaryExpr).X)))
-		case *ast.AssignStmt:
-			ch := ast.Unparen(m.Rhs[0]).(*ast.UnaryExpr).X
-			et := f.elemOf(ch)
-			c := operand(f.expr(ch))
-			r := &ranger{f: f, s: &ast.RangeStmt{Tok: m.Tok}}
-			if len(m.Lhs) == 1 && !isRef(et) {
-				if name, plain := r.plain(m.Lhs[0], "t"); plain {
-					cl.head = fmt.Sprintf("case %s := <-%s:", name, c)
-					break
-				}
-			}
-			v, ok := f.fresh("t"), f.fresh("ok")
-			if len(m.Lhs) == 1 {
-				cl.head = fmt.Sprintf("case %s := <-%s:", v, c)
-			} else {
-				cl.head = fmt.Sprintf("case %s, %s := <-%s:", v, ok, c)
-			}
-			f.ln = ln
-			cl.pre = f.capture(func() {
-				f.storePart(m, m.Lhs[0], f.received(v, et), et)
-				if len(m.Lhs) == 2 {
-					f.storePart(m, m.Lhs[1], ok, types.Typ[types.Bool])
-				}
-			})
-		}
-		cs = append(cs, cl)
-	}
+	cs := f.clauses(s, waits)
 	f.at(s.Pos())
 	if waits {
 		f.away()
@@ -409,17 +362,108 @@ func (f *fctx) selectStmt(s *ast.SelectStmt, label string) {
 	f.emit("select {")
 	f.push(label, 's')
 	for _, c := range cs {
-		f.at(c.pos)
+		f.at(c.Pos())
 		f.emit("%s", c.head)
 		if waits {
 			f.backAgain()
 		}
 		f.splice(c.pre)
-		f.stmts(c.body)
+		f.stmts(c.Body)
 	}
 	f.at(s.Body.Rbrace)
 	f.emit("}")
 	f.pop()
+}
+
+// clauses are the cases of a select. Their operands are evaluated one after the other, each as a whole, at the line of the
+// select.
+func (f *fctx) clauses(s *ast.SelectStmt, waits bool) []*clause {
+	var list []*clause
+	var gs []func() string
+	var of []*clause // of each operand
+	for _, st := range s.Body.List {
+		c := &clause{CommClause: st.(*ast.CommClause), pre: &buffer{}}
+		list = append(list, c)
+		for _, g := range f.operands(c.Comm) {
+			gs, of = append(gs, g), append(of, c)
+		}
+	}
+	f.at(s.Pos())
+	for i, x := range f.ordered(gs...) {
+		if waits {
+			x = f.settle(x)
+		}
+		of[i].operands = append(of[i].operands, x)
+	}
+	for _, c := range list {
+		f.at(c.Pos())
+		c.head = f.head(c)
+	}
+	return list
+}
+
+// operands are the operands of a case: its channel, and what it sends.
+func (f *fctx) operands(comm ast.Stmt) []func() string {
+	channel := func(e ast.Expr) func() string {
+		return func() string {
+			f.early(e)
+			return f.expr(e)
+		}
+	}
+	if m, ok := comm.(*ast.SendStmt); ok {
+		return []func() string{channel(m.Chan), func() string {
+			f.early(m.Value)
+			return f.rval(m.Value, f.elemOf(m.Chan))
+		}}
+	}
+	if ch := receivesFrom(comm); ch != nil {
+		return []func() string{channel(ch)}
+	}
+	return nil
+}
+
+// receivesFrom is the channel from which a case of a select receives, nil if it does not.
+func receivesFrom(comm ast.Stmt) ast.Expr {
+	switch m := comm.(type) {
+	case *ast.ExprStmt:
+		return ast.Unparen(m.X).(*ast.UnaryExpr).X
+	case *ast.AssignStmt:
+		return ast.Unparen(m.Rhs[0]).(*ast.UnaryExpr).X
+	}
+	return nil
+}
+
+// head is the line that begins a case. What it receives may have to be stored behind it.
+func (f *fctx) head(c *clause) string {
+	switch m := c.Comm.(type) {
+	case *ast.SendStmt:
+		return fmt.Sprintf("case %s <- %s:", c.operands[0], c.operands[1])
+	case *ast.ExprStmt:
+		return fmt.Sprintf("case <-%s:", c.operands[0])
+	case *ast.AssignStmt:
+		et := f.elemOf(receivesFrom(m))
+		r := &ranger{f: f, s: &ast.RangeStmt{Tok: m.Tok}}
+		if len(m.Lhs) == 1 && !isRef(et) {
+			if name, plain := r.plain(m.Lhs[0], "t"); plain {
+				return fmt.Sprintf("case %s := <-%s:", name, c.operands[0])
+			}
+		}
+		v, ok := f.fresh("t"), f.fresh("ok")
+		c.pre = f.capture(func() { f.storeReceived(m, v, ok, et) })
+		if len(m.Lhs) == 1 {
+			return fmt.Sprintf("case %s := <-%s:", v, c.operands[0])
+		}
+		return fmt.Sprintf("case %s, %s := <-%s:", v, ok, c.operands[0])
+	}
+	return "default:"
+}
+
+// storeReceived stores what a case has received. Its places are evaluated only then.
+func (f *fctx) storeReceived(m *ast.AssignStmt, v, ok string, et types.Type) {
+	f.storePart(m, m.Lhs[0], f.received(v, et), et)
+	if len(m.Lhs) == 2 {
+		f.storePart(m, m.Lhs[1], ok, types.Typ[types.Bool])
+	}
 }
 
 func (f *fctx) forStmt(s *ast.ForStmt, label string) {
@@ -486,7 +530,21 @@ func (f *fctx) onlyCase(s *ast.SelectStmt, label string) bool {
 	if c.Comm == nil {
 		return false
 	}
-	f.stmt(c.Comm)
+	if m, ok := c.Comm.(*ast.AssignStmt); ok && m.Tok == token.ASSIGN {
+		f.at(c.Comm.Pos())
+		ch := receivesFrom(m)
+		f.early(ch)
+		x := f.settle(f.expr(ch))
+		v, ok := f.fresh("t"), f.fresh("ok")
+		names := v
+		if len(m.Lhs) == 2 {
+			names += ", " + ok
+		}
+		f.waiting(func() { f.emit("%s := <-%s", names, x) })
+		f.storeReceived(m, v, ok, f.elemOf(ch))
+	} else {
+		f.stmt(c.Comm)
+	}
 	f.stmts(c.Body)
 	return true
 }
@@ -547,240 +605,6 @@ func (f *fctx) simpleFor(s *ast.ForStmt, ib *buffer, cond string, pb *buffer, la
 	f.at(s.Body.Rbrace)
 	f.emit("}")
 	f.pop()
-}
-
-// rangeStmt: the variables are new in each iteration, as in Go since 1.22.
-func (f *fctx) rangeStmt(s *ast.RangeStmt, label string) {
-	p := f.p
-	t := f.typeOf(s.X)
-	f.early(s.X)
-	r := &ranger{f: f, s: s, label: label, hasVal: s.Value != nil && !isBlank(s.Value)}
-	switch u := under(deref(t)).(type) {
-	case *types.Basic:
-		switch {
-		case p.isText(t):
-			r.text()
-		case u.Info()&types.IsInteger != 0:
-			r.integer(t)
-		default:
-			p.refuse("range over type %s", t)
-		}
-	case *types.Slice:
-		r.slice(u)
-	case *types.Array:
-		r.array(t, u)
-	case *types.Map:
-		r.mapping(u)
-	case *types.Chan:
-		r.channel(u)
-	default:
-		p.refuse("range over type %s", t)
-	}
-	f.stmts(s.Body.List)
-	f.at(s.Body.Rbrace)
-	f.emit("}")
-	f.pop()
-}
-
-// ranger writes the beginning of a range loop.
-type ranger struct {
-	f      *fctx
-	s      *ast.RangeStmt
-	label  string
-	hasVal bool
-	second func(string) // assigns to the second variable of the header
-}
-
-// set gives the value of an iteration to a variable of the header.
-func (r *ranger) set(e ast.Expr, x string, xt types.Type) {
-	f := r.f
-	if e == nil || isBlank(e) {
-		return
-	}
-	if r.s.Tok == token.DEFINE {
-		f.declare(f.p.Info.Defs[e.(*ast.Ident)].(*types.Var), x)
-		return
-	}
-	if e == r.s.Key && r.hasVal {
-		// both places are found before the first assignment
-		f.hard = true
-		key := f.place(e)
-		r.second = f.place(r.s.Value)
-		f.hard = false
-		key(f.convert(x, xt, f.typeOf(e)))
-		return
-	}
-	if e == r.s.Value && r.second != nil {
-		r.second(f.convert(x, xt, f.typeOf(e)))
-		return
-	}
-	f.place(e)(f.convert(x, xt, f.typeOf(e)))
-}
-
-// plain is the name that the loop can give to a variable of the header itself; other is a name in its place.
-func (r *ranger) plain(e ast.Expr, other string) (name string, isPlain bool) {
-	f := r.f
-	if r.s.Tok != token.DEFINE || e == nil || isBlank(e) {
-		return f.fresh(other), false
-	}
-	v := f.p.Info.Defs[e.(*ast.Ident)].(*types.Var)
-	i := f.p.Vars[v]
-	if i == nil || !i.Used || i.Assigned || f.p.isBoxed(v) || isRef(f.p.vtype(v)) {
-		return f.fresh(other), false
-	}
-	return f.varName(v), true
-}
-
-// key is the variable that counts, and what gives it to the key of the header.
-func (r *ranger) key() (string, func(types.Type)) {
-	i, plain := r.plain(r.s.Key, "i")
-	return i, func(t types.Type) {
-		if !plain {
-			r.set(r.s.Key, i, t)
-		}
-	}
-}
-
-func (r *ranger) integer(t types.Type) {
-	f := r.f
-	n := f.expr(r.s.X)
-	if !isLiteral(n) {
-		n = f.temp(n)
-	}
-	i, setKey := r.key()
-	f.push(r.label, 'f')
-	f.emit("for %s := 0; %s < %s; %s++ {", i, i, n, i)
-	setKey(t)
-}
-
-func (r *ranger) slice(u *types.Slice) {
-	f, p := r.f, r.f.p
-	x := f.expr(r.s.X)
-	v, plain := "", false
-	if r.hasVal {
-		v, plain = r.plain(r.s.Value, "x")
-	}
-	if !p.grows(u.Elem()) && (!r.hasVal || plain && !p.boxes(u.Elem())) {
-		// the loop of the subset
-		i, plainKey := "_", true
-		if r.s.Key != nil && !isBlank(r.s.Key) {
-			i, plainKey = r.plain(r.s.Key, "i")
-		}
-		f.push(r.label, 'f')
-		switch {
-		case r.hasVal:
-			f.emit("for %s, %s := range %s {", i, v, bare(x))
-		case i == "_":
-			f.emit("for range %s {", bare(x))
-		default:
-			f.emit("for %s := range %s {", i, bare(x))
-		}
-		if !plainKey {
-			r.set(r.s.Key, i, types.Typ[types.Int])
-		}
-		return
-	}
-	x = f.temp(x)
-	n := f.temp(p.sliceLen(u.Elem(), x))
-	arr, at := x, ""
-	if p.grows(u.Elem()) && r.hasVal {
-		// each index is inside of the slice, so that the array is read without a look
-		name := p.sliceStruct(u.Elem())
-		arr = f.temp(fmt.Sprintf("%s_arr(%s)", name, x))
-		at = f.temp(fmt.Sprintf("%s_off(%s)", name, x)) + "+"
-	}
-	i, setKey := r.key()
-	f.push(r.label, 'f')
-	f.emit("for %s := 0; %s < %s; %s++ {", i, i, n, i)
-	setKey(types.Typ[types.Int])
-	if r.hasVal {
-		r.set(r.s.Value, p.copyOf(u.Elem(), p.slot(u.Elem(), fmt.Sprintf("%s[%s%s]", arr, at, i))), u.Elem())
-	}
-}
-
-func (r *ranger) array(t types.Type, u *types.Array) {
-	f, p := r.f, r.f.p
-	x := ""
-	if r.hasVal || f.hasCall(r.s.X) { // else Go does not evaluate it
-		x = f.expr(r.s.X)
-		switch {
-		case r.hasVal && !isPtr(t):
-			x = p.copyOf(t, x)
-		case r.hasVal && u.Len() > 0:
-			x = f.notNil(x)
-		}
-		x = f.temp(x)
-	}
-	i, setKey := r.key()
-	f.push(r.label, 'f')
-	f.emit("for %s := 0; %s < %d; %s++ {", i, i, u.Len(), i)
-	setKey(types.Typ[types.Int])
-	if r.hasVal {
-		r.set(r.s.Value, p.copyOf(u.Elem(), p.slot(u.Elem(), x+"["+i+"]")), u.Elem())
-	}
-}
-
-// mapping goes over the keys of now, except for those that are deleted meanwhile.
-func (r *ranger) mapping(u *types.Map) {
-	f, p := r.f, r.f.p
-	m := f.temp(f.expr(r.s.X))
-	ks := f.temp(fmt.Sprintf("%s(%s)", p.mapFunc(u, "keys"), m))
-	at := f.fresh("at")
-	i := f.fresh("i")
-	f.push(r.label, 'f')
-	f.emit("for %s := 0; %s < len(%s); %s++ {", i, i, ks, i)
-	f.emit("%s := %s(%s, %s[%s])", at, p.mapFunc(u, "find"), m, ks, i)
-	f.emit("if %s < 0 {", at)
-	f.emit("continue")
-	f.emit("}")
-	if r.s.Key != nil && !isBlank(r.s.Key) {
-		r.set(r.s.Key, p.copyOf(u.Key(), ks+"["+i+"]"), u.Key())
-	}
-	if r.hasVal {
-		r.set(r.s.Value, p.copyOf(u.Elem(), fmt.Sprintf("%s(%s, %s)", p.mapFunc(u, "at"), m, at)), u.Elem())
-	}
-}
-
-func (r *ranger) channel(u *types.Chan) {
-	f := r.f
-	x := f.expr(r.s.X)
-	if f.announces() {
-		x = f.pin(x)
-		f.push(r.label, 'f')
-		f.emit("for {")
-		v, ok := f.fresh("x"), f.fresh("ok")
-		f.waiting(func() { f.emit("%s, %s := <-%s", v, ok, x) })
-		f.emit("if !%s {", ok)
-		f.emit("break")
-		f.emit("}")
-		if r.s.Key != nil && !isBlank(r.s.Key) {
-			r.set(r.s.Key, v, u.Elem())
-		}
-		return
-	}
-	f.push(r.label, 'f')
-	if r.s.Key == nil || isBlank(r.s.Key) {
-		f.emit("for range %s {", bare(x))
-		return
-	}
-	i, setKey := r.key()
-	f.emit("for %s := range %s {", i, bare(x))
-	setKey(u.Elem())
-}
-
-// text goes over the runes of a string.
-func (r *ranger) text() {
-	f, p := r.f, r.f.p
-	b := f.temp(p.golf("Bytes", f.expr(r.s.X)))
-	w := f.temp("0")
-	i, setKey := r.key()
-	f.push(r.label, 'f')
-	f.emit("for %s := 0; %s < %s; %s += %s {", i, i, p.sliceLen(types.Typ[types.Byte], b), i, w)
-	f.emit("%s = %s", w, p.golf("Width", b, i))
-	setKey(types.Typ[types.Int])
-	if r.hasVal {
-		r.set(r.s.Value, p.golf("Rune", b, i), types.Typ[types.Rune])
-	}
 }
 
 // stable: nobody assigns to the variable, so that it can be read again later.

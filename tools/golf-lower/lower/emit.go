@@ -2,13 +2,14 @@ package lower
 
 import (
 	"fmt"
+	"go/ast"
 	"go/token"
 	"slices"
 	"strings"
 
-	"golflower/tree"
-
 	"golflower/load"
+	"golflower/origin"
+	"golflower/tree"
 )
 
 // buffer collects lines.
@@ -70,6 +71,11 @@ type Output struct {
 	Lines []Place // Lines[k-1] is the place of line k
 	Files int     // how many files were lowered
 
+	Things map[int][]Thing // on what line k can wait
+	clock  map[string]bool // the functions of the clock
+
+	library map[string]string // those of the standard library, with their names there
+
 	Clock    bool    // the program has a clock
 	Recovers bool    // the program recovers panics: one that golf itself raises is no answer
 	Sites    []Place // Sites[k-1] is the place of the panic with number k
@@ -79,16 +85,56 @@ type Output struct {
 	Plain *Output // the same without holds, if there are some
 }
 
-// Map has a line for each line of the output: its file, by the name that name gives it, its line and function, or 0 if it
-// is generated.
+// Thing is something on which a statement can wait.
+type Thing struct {
+	Kind string  // how a goroutine waits on it, as golf tells it
+	Text string  // how the statement names it, "" if it is long
+	Made []Place // where it may have been made
+}
+
+// Generated is how a function of the lowered file is called that is none of the user's: the clock, the name that it has in
+// the standard library, or "" for others.
+func (out *Output) Generated(name string) string {
+	for _, wrapper := range []string{"golf_run_", "golf_go_", "golf_defer_"} {
+		name = strings.TrimPrefix(name, wrapper)
+	}
+	if out.clock[name] {
+		return "the clock"
+	}
+	return out.library[name]
+}
+
+// FunctionAt is the name of the function of the lowered file around a line.
+func (out *Output) FunctionAt(line int) string {
+	text := strings.Split(out.Text, "\n")
+	for i := min(line, len(text)) - 1; i >= 0; i-- {
+		if name, ok := strings.CutPrefix(text[i], "func "); ok {
+			name, _, _ = strings.Cut(name, "(")
+			return name
+		}
+	}
+	return "generated code"
+}
+
+// Map has a line for each line of the output: FILE:LINE:COLUMN, a tab and the function. The file has the name that name gives
+// it. A generated line is 0, and a tab and what its function is called, if Generated has a name.
 func (out *Output) Map(name func(string) string) string {
 	var sb strings.Builder
-	for _, p := range out.Lines {
-		if p.Line == 0 {
-			sb.WriteString("0\n")
-			continue
+	generated := ""
+	texts := strings.Split(out.Text, "\n")
+	for i, p := range out.Lines {
+		if rest, ok := strings.CutPrefix(texts[i], "func "); ok {
+			function, _, _ := strings.Cut(rest, "(")
+			generated = out.Generated(function)
 		}
-		fmt.Fprintf(&sb, "%s %d %s\n", name(p.File), p.Line, p.Func)
+		switch {
+		case p.Line > 0:
+			fmt.Fprintf(&sb, "%s:%d:%d\t%s\n", name(p.File), p.Line, p.Column, p.Func)
+		case generated != "":
+			fmt.Fprintf(&sb, "0\t%s\n", generated)
+		default:
+			sb.WriteString("0\n")
+		}
 	}
 	return sb.String()
 }
@@ -122,15 +168,20 @@ func (p *prog) output(lines []tree.Line, holds bool) (*Output, error) {
 	}
 	starts := p.opt.Tests && (p.parallel && p.parts || file.Starts(p.stdFunc("testing", "runner")))
 	p.passes(file, holds)
-	out := &Output{Files: p.userFiles(), Recovers: p.unwind, Clock: p.clock || p.timed, Starts: starts}
+	out := &Output{
+		Files: p.userFiles(), Recovers: p.unwind, Clock: p.clock || p.timed, Starts: starts,
+		clock: p.clockwork, library: p.library,
+	}
 	places := p.newPlaces()
+	printed := file.Print()
 	var sb strings.Builder
-	for _, l := range file.Print() {
+	for _, l := range printed {
 		sb.WriteString(l.Text)
 		sb.WriteByte('\n')
 		out.Lines = append(out.Lines, places.of(l.Pos))
 	}
 	out.Text = sb.String()
+	out.Things = p.things(printed, places)
 	for _, pos := range p.sites {
 		out.Sites = append(out.Sites, places.of(pos))
 	}
@@ -156,6 +207,41 @@ func (p *prog) passes(file *tree.File, holds bool) {
 		file.DropQuestions()
 	}
 	file.Chains(p.fresh)
+}
+
+// things finds on what the lines can wait.
+func (p *prog) things(lines []tree.Line, places *places) map[int][]Thing {
+	var files []*ast.File
+	for _, k := range p.List {
+		if k.User {
+			files = append(files, k.Files...)
+		}
+	}
+	finder := origin.New(p.Info, files)
+	all := map[int][]Thing{}
+	for i, l := range lines {
+		if !canBlock(l.Text) {
+			continue
+		}
+		for _, t := range finder.At(l.Pos) {
+			var made []Place
+			for _, pos := range t.Made {
+				made = append(made, places.of(pos))
+			}
+			all[i+1] = append(all[i+1], Thing{t.Kind, t.Text, made})
+		}
+	}
+	return all
+}
+
+// canBlock: the line has something that may block, or calls a function of the lowering that does.
+func canBlock(line string) bool {
+	for _, part := range []string{"<-", "select ", "range ", "Lock()", "Wait()", "wait_"} {
+		if strings.Contains(line, part) {
+			return true
+		}
+	}
+	return false
 }
 
 // userFiles is the number of the user's files.

@@ -135,8 +135,12 @@ func (f *fctx) expr(e ast.Expr) string {
 		if y := f.bitsOf(e); y != nil {
 			return f.expr(y)
 		}
-		x := f.notNil(f.expr(e.X))
-		if isRef(deref(f.typeOf(e.X))) {
+		x := f.expr(e.X)
+		if isArray(deref(f.typeOf(e.X))) {
+			return f.nilChecked(x)
+		}
+		x = f.notNil(x)
+		if isStruct(deref(f.typeOf(e.X))) {
 			return x
 		}
 		return x + ".v"
@@ -222,7 +226,7 @@ func (f *fctx) address(e ast.Expr) string {
 		return fmt.Sprintf("(&%s{v: %s})", p.box(p.lt(t)), f.expr(e))
 	}
 	if s, ok := e.(*ast.StarExpr); ok {
-		return f.expr(s.X)
+		return f.nilChecked(f.expr(s.X))
 	}
 	x := f.expr(e)
 	if isRef(t) {
@@ -467,6 +471,9 @@ func (f *fctx) compare(e *ast.BinaryExpr) string {
 	}
 	xy := f.ordered(func() string { return f.convert(f.expr(e.X), tx, t) }, func() string { return f.convert(f.expr(e.Y), ty, t) })
 	if e.Op == token.EQL || e.Op == token.NEQ {
+		if pointsToArray(t) {
+			p.refuse("comparison of pointers to arrays")
+		}
 		f.comparable(t, xy)
 		if !isIface(t) && !isRef(t) && p.lt(t) != "struct{}" && !p.isText(t) && !isFloat(t) {
 			return fmt.Sprintf("(%s %s %s)", xy[0], e.Op, xy[1])
@@ -672,6 +679,9 @@ func (f *fctx) arrayElement(e *ast.IndexExpr, u *types.Array, a, i string) strin
 		if f.p.Info.Types[e.Index].Value == nil {
 			f.indexError(i, fmt.Sprint(u.Len()))
 		}
+	} else if isPtr(f.typeOf(e.X)) {
+		i = f.pin(i)
+		a = f.nilChecked(a)
 	}
 	return f.p.slot(u.Elem(), fmt.Sprintf("%s[%s]", a, i))
 }

@@ -56,6 +56,8 @@ func parseFormat(s string) ([]part, string) {
 			parts = append(parts, part{lit: "%"})
 		case strings.IndexByte("dsvtqxXcbowTfegU", v.char) < 0:
 			return nil, "the verb %" + string(v.char)
+		case v.plus && v.char == 'q':
+			return nil, "the verb %+q"
 		case v.sharp && strings.IndexByte("xXobU", v.char) < 0:
 			return nil, "the verb %#" + string(v.char)
 		case v.prec >= 0 && strings.IndexByte("fegdsvqxX", v.char) < 0:

@@ -35,12 +35,16 @@ func (p *prog) typeName(x string, t types.Type) string {
 
 // format is the text of a value: at depth 0 of the operand itself; methods: its own methods may be asked.
 func (p *prog) format(x string, t types.Type, v *verb, depth int, methods bool) string {
-	plain := v.char == 'v' || v.char == 's' || v.char == 'q'
+	plain := strings.IndexByte("vsqxX", v.char) >= 0
 	if isIface(t) {
-		return fmt.Sprintf("%s(%s)", p.formatterOf(v).name, x)
+		return fmt.Sprintf("%s(%s)", p.formatterAt(v, depth, methods).name, x)
 	}
 	if name := hasTextMethod(t); name != "" && methods && plain {
-		return p.formatString(p.textMethod(x, t, name), v)
+		text := p.formatString(p.textMethod(x, t, name), v)
+		if text == "" {
+			p.refuse("%%%c with these flags of a value of type %s", v.char, t)
+		}
+		return text
 	}
 	switch u := under(t).(type) {
 	case *types.Basic:
@@ -54,7 +58,7 @@ func (p *prog) format(x string, t types.Type, v *verb, depth int, methods bool) 
 		return p.formatAddress(x, t, v)
 	case *types.Struct:
 		if isStruct(t) {
-			return p.formatStruct(x, t, u, v)
+			return p.formatStruct(x, t, u, v, methods)
 		}
 		return p.textConst("{}")
 	case *types.Slice:
@@ -214,7 +218,7 @@ func (p *prog) formatInteger(x string, t types.Type, v *verb) string {
 func (p *prog) formatPointer(x string, u *types.Pointer, v *verb) string {
 	l := p.lt(u)
 	fn := p.aux("format", "pointer "+p.verbKey(v)+typeKey(u), func(name string, b *buffer) {
-		text := p.format("x", u.Elem(), v, 1, false)
+		text := p.format("x", u.Elem(), v, 1, true) // it has no methods of its own, or the pointer would have them
 		b.add(0, "func %s(x %s) *%s {", name, l, p.structName(p.textType()))
 		b.add(0, "if x == nil {")
 		b.add(0, "return %s", p.padded(p.textConst("<nil>"), v))
@@ -244,13 +248,13 @@ func (p *prog) formatAddress(x string, t types.Type, v *verb) string {
 
 func (p *prog) verbKey(v *verb) string { return fmt.Sprintf("%c%v ", v.char, *v) }
 
-// formatStruct is {..}; the methods of what an unexported field holds are not asked, as in Go.
-func (p *prog) formatStruct(x string, t types.Type, u *types.Struct, v *verb) string {
+// formatStruct is {..}; the methods of what an unexported field holds are not asked, however deep, as in Go.
+func (p *prog) formatStruct(x string, t types.Type, u *types.Struct, v *verb, methods bool) string {
 	if p.hasNative(t) {
 		p.refuse("printing a value of type %s", t)
 	}
 	s := p.structOf(t)
-	fn := p.aux("format", "struct "+p.verbKey(v)+typeKey(t), func(name string, b *buffer) {
+	fn := p.aux("format", fmt.Sprint("struct ", p.verbKey(v), methods, typeKey(t)), func(name string, b *buffer) {
 		pieces := []piece{{lit: "{", isLit: true}}
 		for i, f := range s.fields {
 			if i > 0 {
@@ -259,7 +263,7 @@ func (p *prog) formatStruct(x string, t types.Type, u *types.Struct, v *verb) st
 			if v.plus {
 				pieces = append(pieces, piece{lit: f.v.Name() + ":", isLit: true})
 			}
-			pieces = append(pieces, piece{text: p.format("x."+p.fieldRef(t, i), f.v.Type(), v, 1, f.v.Exported())})
+			pieces = append(pieces, piece{text: p.format("x."+p.fieldRef(t, i), f.v.Type(), v, 1, methods && f.v.Exported())})
 		}
 		pieces = append(pieces, piece{lit: "}", isLit: true})
 		b.add(0, "func %s(x *%s) *%s {", name, s.name, p.structName(p.textType()))
@@ -302,7 +306,7 @@ func (p *prog) formatMap(x string, u *types.Map, v *verb, methods bool) string {
 	fn := p.aux("format", fmt.Sprint("map ", p.verbKey(v), methods, typeKey(u)), func(name string, b *buffer) {
 		less := p.keyLess(u.Key())
 		key := p.format("ks[i]", u.Key(), v, 1, methods)
-		val := p.format(fmt.Sprintf("%s(m, ks[i])", p.mapFunc(u, "get")), u.Elem(), v, 1, methods)
+		val := p.format(p.mapFunc(u, "at")+"(m, at)", u.Elem(), v, 1, methods)
 		w := func(format string, args ...any) { b.add(0, format, args...) }
 		w("func %s(m %s) *%s {", name, p.lt(u), p.structName(p.textType()))
 		w("ks := %s(m)", p.mapFunc(u, "keys"))
@@ -314,7 +318,17 @@ func (p *prog) formatMap(x string, u *types.Map, v *verb, methods bool) string {
 		w("}")
 		w("}")
 		w("r := %s", p.textConst("map["))
+		if isFloat(u.Key()) {
+			w("odd := 0")
+		}
 		w("for i := 0; i < len(ks); i++ {")
+		w("at := %s(m, ks[i])", p.mapFunc(u, "find"))
+		if isFloat(u.Key()) {
+			w("if at < 0 {")
+			w("at = %s(m, ks[i], odd)", p.mapFunc(u, "odd"))
+			w("odd++")
+			w("}")
+		}
 		w("if i > 0 {")
 		w("r = %s", p.golf("Join", "r", p.textConst(" ")))
 		w("}")
@@ -346,15 +360,20 @@ func (p *prog) keyLess(t types.Type) func(x, y string) string {
 
 // formatter is the function that makes the text of an interface by a verb.
 type formatter struct {
-	name  string
-	verb  *verb
-	done  map[*dyn]bool
-	cases []string
+	name    string
+	verb    *verb
+	depth   int  // 0 for an operand, 1 for what is in one
+	methods bool // the methods of what the interface holds may be asked
+	done    map[*dyn]bool
+	cases   []string
 }
 
-func (p *prog) formatterOf(v *verb) *formatter {
+func (p *prog) formatterOf(v *verb) *formatter { return p.formatterAt(v, 0, true) }
+
+// formatterAt is the formatter of an interface that may be a part of an operand.
+func (p *prog) formatterAt(v *verb, depth int, methods bool) *formatter {
 	p.usesAny = true
-	key := p.verbKey(v)
+	key := fmt.Sprint(p.verbKey(v), depth, methods)
 	f := p.formats[key]
 	if f == nil {
 		names := map[byte]string{'v': "value", 's': "string", 'T': "type", 'P': "panic"}
@@ -362,7 +381,7 @@ func (p *prog) formatterOf(v *verb) *formatter {
 		if n == "" {
 			n = string(v.char)
 		}
-		f = &formatter{name: p.fresh("golf_format_" + n), verb: v, done: map[*dyn]bool{}}
+		f = &formatter{name: p.fresh("golf_format_" + n), verb: v, depth: depth, methods: methods, done: map[*dyn]bool{}}
 		p.formats[key] = f
 		p.formList = append(p.formList, f)
 		p.lt(p.textType())
@@ -410,7 +429,7 @@ func (p *prog) formatCase(f *formatter, d *dyn) (stmt string) {
 	if f.verb.char == 'T' {
 		return "return " + p.padded(p.textConst(typeText(d.t)), f.verb)
 	}
-	return "return " + p.format("x."+d.field(), d.t, f.verb, 0, true)
+	return "return " + p.format("x."+d.field(), d.t, f.verb, f.depth, f.methods)
 }
 
 // formatTables writes the functions of the formatters.
@@ -421,6 +440,8 @@ func (p *prog) formatTables() {
 		b.add(0, "if x == nil {")
 		if f.verb.char == 'K' {
 			b.add(0, "return nil")
+		} else if f.depth > 0 { // without the width, as in Go
+			b.add(0, "return %s", p.textConst("<nil>"))
 		} else if f.verb.char == 'P' {
 			b.add(0, "return %s", p.textConst("nil"))
 		} else if f.verb.char == 'T' || f.verb.char == 'v' {

@@ -27,7 +27,8 @@ type fctx struct {
 	wrapped *string         // gets the operand of %w
 	hard    bool            // on the left of a, b = ..: a variable may change before it is used
 
-	hoisted map[ast.Expr]string // what has been evaluated before its statement (order.go)
+	caps    map[types.Object]bool // the variables that it captures
+	hoisted map[ast.Expr]string   // what has been evaluated before its statement (order.go)
 }
 
 func (p *prog) newFctx(name string) *fctx {
@@ -184,6 +185,14 @@ func (p *prog) function(fn *function) {
 func (p *prog) functionBuf(fn *function) *buffer {
 	f := p.newFctx(fn.name)
 	f.sig = fn.sig
+	p.findTargets(fn.body, fn.sig.Results())
+	f.caps = map[types.Object]bool{}
+	for _, v := range fn.caps {
+		f.caps[v] = true
+	}
+	if p.Fset.Position(fn.pos).Filename == clockFile {
+		p.clockwork[fn.name] = true
+	}
 	f.defers = hasDefer(fn.body)
 	if fn.test {
 		f.testVar = fn.sig.Params().At(0)

@@ -273,6 +273,7 @@ func (p *prog) tables() {
 	}
 	p.comparableTable()
 	p.incomparableTables()
+	p.launchTable()
 	if p.usesAny {
 		eb := &buffer{}
 		eb.add(0, "type golf_any struct {")

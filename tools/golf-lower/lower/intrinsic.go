@@ -5,6 +5,7 @@ import (
 	"go/ast"
 	"go/constant"
 	"go/types"
+	"strings"
 
 	"golflower/load"
 )
@@ -20,6 +21,7 @@ var valueVerbs = map[string]*verb{
 func (f *fctx) intrinsic(fn *types.Func, c *ast.CallExpr) (string, bool) {
 	p := f.p
 	if v := valueVerbs[fn.FullName()]; v != nil {
+		p.need(&p.texts)
 		return fmt.Sprintf("%s(%s)", p.formatterOf(v).name, f.expr(c.Args[0])), true
 	}
 	if what := p.lacks(fn); what != "" && f.user() {
@@ -67,6 +69,12 @@ func (f *fctx) intrinsic(fn *types.Func, c *ast.CallExpr) (string, bool) {
 		return "golf_quiet()", true
 	case "testing.Short":
 		return fmt.Sprint(p.opt.Short), true
+	case "time.AfterFunc":
+		if f.user() {
+			return f.afterFunc(fn, c), true
+		}
+	case "time.launch":
+		return fmt.Sprintf("%s(%s)", p.launch(), strings.Join(f.args(fn.Signature(), c), ", ")), true
 	case "os.write":
 		return p.golf("Write", f.expr(c.Args[0])), true
 	case "os.writeErr":
@@ -86,6 +94,8 @@ func (f *fctx) intrinsic(fn *types.Func, c *ast.CallExpr) (string, bool) {
 	case "golf.litBytes":
 		p.usesBytes = true
 		return fmt.Sprintf("golf_litBytes(%s)", f.expr(c.Args[0])), true
+	case "runtime.panicNil":
+		return p.textConst(panicNil()), true
 	case "runtime.GC":
 		p.imports["runtime"] = true
 		return "runtime.GC()", true
@@ -234,7 +244,7 @@ func (f *fctx) errorsAs(c *ast.CallExpr) string {
 		p.refuse("errors.As with this operand")
 	}
 	t := pt.Elem()
-	xs := f.ordered(func() string { return f.expr(c.Args[0]) }, func() string { return f.expr(c.Args[1]) })
+	xs := f.ordered(func() string { return f.rval(c.Args[0], errorType) }, func() string { return f.expr(c.Args[1]) })
 	fn := p.aux("as", "error "+typeKey(t), func(name string, b *buffer) {
 		inside := p.stdFunc("errors", "inside")
 		errs := types.NewSlice(errorType)

@@ -211,7 +211,11 @@ type prog struct {
 	timed       bool              // the clock is reached
 	parallel    bool              // T.Parallel is reached
 	parts       bool              // T.Run is reached
-	rawNative   bool              // a method of sync is called as it is (clock.go)
+	clockwork   map[string]bool   // the functions of the clock
+	library     map[string]string // those of the standard library, with their names there
+	timers      timers
+	targets     map[ast.Expr]types.Type // the interfaces that get values (copies.go)
+	rawNative   bool                    // a method of sync is called as it is (clock.go)
 
 	open    []string          // types that are being held (types.go)
 	ownName map[string]string // the structs of those that contain themselves
@@ -232,6 +236,7 @@ func newProg(l *load.Loader, opt Options, n needs) *prog {
 		tests: map[string]*ifaceTest{}, namesakes: map[string]*namesake{}, uncompared: map[string]string{}, formats: map[string]*formatter{}, literals: map[string]bool{},
 		imports: map[string]bool{}, bodies: map[*types.Func]*ast.FuncDecl{}, asked: map[string]bool{},
 		globs: map[*types.Var]bool{}, started: map[*load.Pkg][]string{}, reached: map[*types.Package]bool{}, siteNumbers: map[token.Pos]int{}, inner: map[string]string{},
+		clockwork: map[string]bool{"golf_quiet": true}, library: map[string]string{}, targets: map[ast.Expr]types.Type{},
 	}
 	for elem := range n.grow {
 		p.Growing[elem] = true

@@ -13,6 +13,10 @@ import (
 // N stands for the name of the type, K and V for the types of keys and values, EQUAL for the comparison of a key with k, HASH
 // for the hash of k, SIZE for the function that gives the size of a table. A line after "TABLE" is there if keys have a hash.
 // N_slot is the place of a key in the table, or the free one where it would be. N_keys has the keys of now, for range.
+//
+// Two things are so only for keys that may hold floats; their lines are after "ODD", and SELF compares k with itself. A key
+// that is put again replaces the one that equals it, as -0 does 0. A key that is not equal to itself is found by its number
+// among such keys, by N_odd: none of them can be deleted.
 const mapText = `
 type N struct {
 	keys []K
@@ -125,6 +129,7 @@ func N_put(m *N, k K, v V) {
 		TABLE j := N_slot(m, k)
 		TABLE i := m.table[j] - 1
 		TABLE if i >= 0 {
+			TABLE ODD m.keys[i] = k
 			TABLE m.vals[i] = v
 			TABLE return
 		TABLE }
@@ -142,6 +147,7 @@ func N_put(m *N, k K, v V) {
 	TABLE }
 	i := N_find(m, k)
 	if i >= 0 {
+		ODD m.keys[i] = k
 		m.vals[i] = v
 		return
 	}
@@ -210,14 +216,32 @@ func N_keys(m *N) []K {
 		}
 	}
 	return ks
-}`
+}
+ODD func N_odd(m *N, k K, j int) int {
+	ODD if SELF {
+		ODD return -1
+	ODD }
+	ODD for i := 0; i < m.top; i++ {
+		ODD if m.gone == nil || !m.gone[i] {
+			ODD k = m.keys[i]
+			ODD if !(SELF) {
+				ODD if j == 0 {
+					ODD return i
+				ODD }
+				ODD j--
+			ODD }
+		ODD }
+	ODD }
+	ODD return -1
+ODD }`
 
 func (p *prog) mapStruct(m *types.Map) string {
 	k, v := p.lt(m.Key()), p.lt(m.Elem())
-	return p.aux("map", p.valueKey(k, m.Key())+","+p.valueKey(v, m.Elem())+ifaceSuffix(m.Key()), func(n string, b *buffer) {
+	return p.aux("map", p.valueKey(k, m.Key())+","+p.valueKey(v, m.Elem())+keySuffix(m.Key()), func(n string, b *buffer) {
 		equal := p.equal(m.Key(), "m.keys[i]", "k")
 		zero := p.zero(m.Elem())
 		words := map[string]string{"K": k, "V": v}
+		self := p.equal(m.Key(), "k", "k")
 		hash, size := p.hash(m.Key(), "k"), ""
 		if hash != "" {
 			size = p.stdFunc("golf", "TableSize")
@@ -228,17 +252,44 @@ func (p *prog) mapStruct(m *types.Map) string {
 			if table && hash == "" {
 				continue
 			}
+			t, odd := strings.CutPrefix(t, "ODD ")
+			if odd && !holdsFloat(m.Key()) {
+				continue
+			}
+			t = fill(t, n, words) // before names of the user's come into it
 			t = strings.Replace(strings.Replace(t, "HASH", hash, 1), "SIZE", size, 1)
-			t = fill(t, n, words)
-			t = strings.Replace(t, "EQUAL", bare(equal), 1)
+			t = strings.Replace(strings.Replace(t, "EQUAL", bare(equal), 1), "SELF", bare(self), 1)
 			b.add(0, "%s", strings.Replace(t, "ZERO", zero, 1))
 		}
 	})
 }
 
-func ifaceSuffix(t types.Type) string {
-	if isIface(t) {
+// holdsFloat: a value of the type may hold a float, also in an interface.
+func holdsFloat(t types.Type) bool {
+	switch u := under(t).(type) {
+	case *types.Basic:
+		return u.Info()&types.IsFloat != 0
+	case *types.Interface:
+		return true
+	case *types.Array:
+		return holdsFloat(u.Elem())
+	case *types.Struct:
+		for i := range u.NumFields() {
+			if holdsFloat(u.Field(i).Type()) {
+				return true
+			}
+		}
+	}
+	return false
+}
+
+// keySuffix tells keys apart that are held alike and compared otherwise.
+func keySuffix(t types.Type) string {
+	switch {
+	case isIface(t):
 		return " any"
+	case isFloat(t):
+		return " " + under(t).String()
 	}
 	return ""
 }

@@ -4,6 +4,7 @@ import (
 	"go/ast"
 	"go/token"
 	"go/types"
+	"slices"
 )
 
 // The order of evaluation. The specification of Go orders calls and receives, and leaves open when a variable beside them is
@@ -33,7 +34,7 @@ func (f *fctx) earlyIn(left, right []ast.Expr) {
 	for _, e := range right {
 		o.visit(e)
 	}
-	if o.matters {
+	if o.matters || len(right) > 1 && slices.ContainsFunc(right, f.divides) {
 		for _, l := range left {
 			f.hoistOperands(l)
 		}
@@ -85,6 +86,16 @@ func (o *orderer) visit(e ast.Expr) {
 	if tv := p.Info.Types[e]; e == nil || tv.Value != nil || tv.IsType() {
 		return
 	}
+	if o.f.convertedFirst(e) {
+		o.inTurn(false, func() { o.parts(e) })
+		return
+	}
+	o.parts(e)
+}
+
+// parts visits the parts of an expression, and what it reads itself.
+func (o *orderer) parts(e ast.Expr) {
+	p := o.f.p
 	switch e := e.(type) {
 	case *ast.ParenExpr:
 		o.visit(e.X)
@@ -96,13 +107,17 @@ func (o *orderer) visit(e ast.Expr) {
 			return
 		}
 		o.visit(e.X)
-		o.open = o.open || p.Info.Selections[e].Kind() == types.FieldVal
+		o.open = o.open || p.Info.Selections[e].Kind() == types.FieldVal || o.copiesReceiver(e)
 	case *ast.IndexExpr:
 		if p.isInstance(e) {
 			return
 		}
+		if o.f.byNewString(e) {
+			o.inTurn(false, func() { o.visits(e.X, e.Index) })
+			return
+		}
 		o.visit(e.X)
-		o.visit(e.Index)
+		o.index(e)
 		o.open = true
 	case *ast.SliceExpr:
 		o.inTurn(false, func() { o.visits(e.X, e.Low, e.High, e.Max) })
@@ -125,6 +140,25 @@ func (o *orderer) visit(e ast.Expr) {
 	case *ast.CallExpr:
 		o.call(e)
 	}
+}
+
+// index visits an index, or the key of a map.
+func (o *orderer) index(e *ast.IndexExpr) {
+	if o.f.keyFirst(e) {
+		o.inTurn(false, func() { o.visit(e.Index) })
+	} else {
+		o.visit(e.Index)
+	}
+}
+
+// copiesReceiver: the selector is a method that gets a copy of what a pointer points to. Go reads it behind the calls.
+func (o *orderer) copiesReceiver(e *ast.SelectorExpr) bool {
+	s := o.f.p.selectionOf(e)
+	if s.kind != types.MethodVal {
+		return false
+	}
+	recv := s.obj.(*types.Func).Signature().Recv().Type()
+	return !isPtr(recv) && !isIface(recv) && (isPtr(o.f.typeOf(e.X)) || len(s.index) > 1)
 }
 
 func (o *orderer) visits(list ...ast.Expr) {
@@ -201,7 +235,7 @@ func (o *orderer) place(l ast.Expr) {
 		} else {
 			o.visit(l.X)
 		}
-		o.visit(l.Index)
+		o.index(l)
 	case *ast.SelectorExpr:
 		if o.f.p.Info.Selections[l] == nil {
 			return
@@ -257,15 +291,41 @@ func (f *fctx) hoist(e ast.Expr) {
 	}
 	if f.comesFirst(e) {
 		f.earlyOperands(e)
-		if f.hasCall(e) || f.reads(e) {
-			x := f.pin(f.expr(e))
-			if f.hoisted == nil {
-				f.hoisted = map[ast.Expr]string{}
-			}
-			f.hoisted[e] = x
-		}
+		f.hoistValue(e)
 		return
 	}
+	f.hoistParts(e)
+	if f.convertedFirst(e) {
+		f.hoistValue(e)
+	}
+}
+
+// hoistValue evaluates an expression, if a call may change what it reads.
+func (f *fctx) hoistValue(e ast.Expr) {
+	if _, done := f.hoisted[e]; done || !f.hasCall(e) && !f.reads(e) {
+		return
+	}
+	x := f.rval(e, f.typeOf(e))
+	if !isLiteral(x) {
+		x = f.temp(x)
+	}
+	if f.hoisted == nil {
+		f.hoisted = map[ast.Expr]string{}
+	}
+	f.hoisted[e] = x
+}
+
+// hoistIndex is hoist for an index, or for the key of a map.
+func (f *fctx) hoistIndex(e *ast.IndexExpr) {
+	f.hoist(e.Index)
+	if f.keyFirst(e) {
+		f.hoistValue(e.Index)
+	}
+}
+
+// hoistParts evaluates the operations in an expression that come first.
+func (f *fctx) hoistParts(e ast.Expr) {
+	p := f.p
 	switch e := e.(type) {
 	case *ast.ParenExpr:
 		f.hoist(e.X)
@@ -276,7 +336,7 @@ func (f *fctx) hoist(e ast.Expr) {
 	case *ast.IndexExpr:
 		if !p.isInstance(e) {
 			f.hoist(e.X)
-			f.hoist(e.Index)
+			f.hoistIndex(e)
 		}
 	case *ast.StarExpr:
 		f.hoist(e.X)
@@ -316,7 +376,7 @@ func (f *fctx) hoistOperands(l ast.Expr) {
 		} else {
 			f.hoist(l.X)
 		}
-		f.hoist(l.Index)
+		f.hoistIndex(l)
 	case *ast.SelectorExpr:
 		if f.p.Info.Selections[l] == nil {
 			return
@@ -337,6 +397,8 @@ func (f *fctx) comesFirst(e ast.Expr) bool {
 	switch e := e.(type) {
 	case *ast.SliceExpr:
 		return true
+	case *ast.IndexExpr:
+		return f.byNewString(e)
 	case *ast.UnaryExpr:
 		return e.Op == token.ARROW
 	case *ast.BinaryExpr:

@@ -225,18 +225,20 @@ func (f *fctx) goCall(c *ast.CallExpr) string {
 		}
 		if b == "recover" {
 			// recover does nothing if it is deferred itself
-			return p.aux("golf", "nothing", func(name string, b *buffer) {
-				b.add(0, "func %s() {", name)
-				b.add(0, "}")
-			}) + "()"
+			return p.nothingCall()
 		}
 		p.refuse("%s after go or defer", b)
 	}
 	switch p.calleeName(c) {
 	case "fmt.Println", "fmt.Print", "fmt.Printf", "fmt.Fprintln", "fmt.Fprint", "fmt.Fprintf":
-		if _, _, ok := f.printParts(c); ok {
+		if f.printsNow(c) {
 			return f.printCall(c)
 		}
+	case "fmt.Sprintln", "fmt.Sprint", "fmt.Sprintf", "fmt.Errorf": // nobody sees the text
+		for _, a := range c.Args {
+			f.discard(f.expr(a))
+		}
+		return p.nothingCall()
 	case "runtime.GC":
 		return p.collector() + "()"
 	case "runtime.Goexit":
@@ -244,6 +246,52 @@ func (f *fctx) goCall(c *ast.CallExpr) string {
 		return "golf_goexit()"
 	}
 	return f.callText(c)
+}
+
+// nothingCall is the call of a function that does nothing.
+func (p *prog) nothingCall() string {
+	return p.aux("golf", "nothing", func(name string, b *buffer) {
+		b.add(0, "func %s() {", name)
+		b.add(0, "}")
+	}) + "()"
+}
+
+// printsNow: a call after go or defer prints to a file, and the text of its operands is the same before it and when it runs.
+func (f *fctx) printsNow(c *ast.CallExpr) bool {
+	args := c.Args
+	if strings.HasPrefix(f.p.calleeName(c), "fmt.Fprint") {
+		if !f.isFile(args[0]) {
+			return false
+		}
+		args = args[1:]
+	}
+	for _, a := range args {
+		if f.p.Info.Types[a].Value == nil && !settled(f.typeOf(a)) {
+			return false
+		}
+	}
+	return !c.Ellipsis.IsValid()
+}
+
+// settled: the text of a value of the type is that of the value alone, and no method makes it.
+func settled(t types.Type) bool {
+	if hasTextMethod(t) != "" {
+		return false
+	}
+	switch u := under(t).(type) {
+	case *types.Basic:
+		return true
+	case *types.Array:
+		return settled(u.Elem())
+	case *types.Struct:
+		for i := range u.NumFields() {
+			if !settled(u.Field(i).Type()) {
+				return false
+			}
+		}
+		return true
+	}
+	return false
 }
 
 // panicCall is panic as a call of one function.
@@ -275,7 +323,7 @@ func (f *fctx) panicText(a ast.Expr) (string, bool) {
 		return f.expr(a), false
 	}
 	if isNil(p, a) {
-		return quoted("panic called with nil argument (use GODEBUG=panicnil=1 to disable)"), false
+		return quoted(panicNil()), false
 	}
 	if p.texts {
 		return p.told(f.expr(a), types.Default(t)), true
@@ -288,6 +336,14 @@ func (f *fctx) panicText(a ast.Expr) (string, bool) {
 	}
 	p.refuse("panic with a value of type %s", t)
 	return "", false
+}
+
+// panicNil is the text of panic(nil).
+func panicNil() string {
+	if load.Since("go1.27") {
+		return "runtime error: panic called with nil argument"
+	}
+	return "panic called with nil argument (use GODEBUG=panicnil=1 to disable)"
 }
 
 // told is the text that a panic which nobody recovers tells of its value. The word address stands for an address.

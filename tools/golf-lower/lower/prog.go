@@ -51,6 +51,9 @@ func (p *prog) funcRef(fn *types.Func, args []types.Type) string {
 		return name
 	}
 	p.asked[name] = true
+	if load.IsStandard(p.Fset.Position(fn.Pos()).Filename) {
+		p.library[name] = fn.FullName()
+	}
 	if len(p.asked) > 20000 {
 		p.refuse("so many instances of generic functions")
 	}
@@ -378,6 +381,10 @@ func (p *prog) drain() {
 func (p *prog) initPiece(in *types.Initializer) *buffer {
 	f := p.newFctx("init")
 	f.at(in.Rhs.Pos())
+	p.findTargets(in.Rhs, nil)
+	if len(in.Lhs) == 1 && isIface(in.Lhs[0].Type()) {
+		p.targets[in.Rhs] = in.Lhs[0].Type()
+	}
 	if len(in.Lhs) > 1 {
 		parts, types := f.multi(in.Rhs, len(in.Lhs))
 		for i, v := range in.Lhs {

@@ -293,6 +293,9 @@ func (f *fctx) exprStmt(e ast.Expr) {
 	}
 }
 
+// plainFunc is the type func().
+var plainFunc = types.NewSignatureType(nil, nil, nil, nil, nil, false)
+
 // once is o.Do(g) at the user's line: whoever waits for the first call waits there.
 func (f *fctx) once(sel *ast.SelectorExpr, c *ast.CallExpr) {
 	p := f.p
@@ -302,7 +305,7 @@ func (f *fctx) once(sel *ast.SelectorExpr, c *ast.CallExpr) {
 	g := ""
 	lit, isLit := ast.Unparen(c.Args[0]).(*ast.FuncLit)
 	if !isLit {
-		g = f.pin(f.expr(c.Args[0]))
+		g = f.pin(f.rval(c.Args[0], plainFunc))
 	}
 	f.emit("if !%s.done {", o)
 	f.waiting(func() { f.emit("%s.m.Lock()", o) })
@@ -311,7 +314,7 @@ func (f *fctx) once(sel *ast.SelectorExpr, c *ast.CallExpr) {
 		name, li := f.lift(lit)
 		f.emit("%s(%s)", name, strings.Join(p.capNames(li), ", "))
 	} else {
-		f.emit("%s_call(%s)", p.fnStruct(under(f.typeOf(c.Args[0])).(*types.Signature)).name, g)
+		f.emit("%s_call(%s)", p.fnStruct(plainFunc).name, g)
 	}
 	f.emit("%s.done = true", o)
 	f.emit("}")
@@ -439,19 +442,31 @@ func (f *fctx) assignAll(s *ast.AssignStmt) {
 	}
 	vals := make([]string, len(s.Rhs))
 	for i, r := range s.Rhs {
-		t := f.lhsType(s.Lhs[i], f.typeOf(r))
-		if v := f.newVar(s, s.Lhs[i]); v != nil {
-			t = f.p.vtype(v)
+		if !f.late(r, s.Lhs[:i]) {
+			vals[i] = f.assigned(s, i)
 		}
-		x := f.rval(r, t)
-		if !isLiteral(x) {
-			x = f.temp(x)
+	}
+	for i, store := range stores {
+		if vals[i] == "" {
+			f.makeEntry(s.Lhs[i])
+			vals[i] = f.assigned(s, i)
 		}
-		vals[i] = x
+		store(vals[i])
 	}
-	for i, st := range stores {
-		st(vals[i])
+}
+
+// assigned is a value of a, b = x, y.
+func (f *fctx) assigned(s *ast.AssignStmt, i int) string {
+	r := s.Rhs[i]
+	t := f.lhsType(s.Lhs[i], f.typeOf(r))
+	if v := f.newVar(s, s.Lhs[i]); v != nil {
+		t = f.p.vtype(v)
 	}
+	x := f.rval(r, t)
+	if isLiteral(x) {
+		return x
+	}
+	return f.temp(x)
 }
 
 func isBlank(e ast.Expr) bool {
@@ -567,6 +582,9 @@ func (f *fctx) lvalue(l ast.Expr) func() string {
 	case *ast.StarExpr:
 		x := f.pin(f.expr(l.X))
 		return func() string {
+			if isArray(f.typeOf(l)) {
+				return f.nilChecked(x)
+			}
 			f.notNil(x)
 			if isRef(f.typeOf(l)) {
 				return x
@@ -584,11 +602,9 @@ func (f *fctx) field(x string, l *ast.SelectorExpr, s *selection) string {
 	return r
 }
 
-// operand is the right side of l op= e, or 1 for l++ and l--. A call in it comes before what l is now.
+// operand is the right side of l op= e, or 1 for l++ and l--.
 func (f *fctx) operand(op token.Token, e ast.Expr, t types.Type) string {
 	switch {
-	case e != nil && f.hasCall(e):
-		return f.pin(f.count(op, e))
 	case e != nil:
 		return f.count(op, e)
 	case isFloat(t):
@@ -597,10 +613,26 @@ func (f *fctx) operand(op token.Token, e ast.Expr, t types.Type) string {
 	return "1"
 }
 
+// callsYet: the expression, if there is one, has a call that has not been evaluated before its statement.
+func (f *fctx) callsYet(e ast.Expr) bool {
+	return e != nil && f.calls(e, func(e ast.Expr) bool {
+		_, done := f.hoisted[e]
+		return done
+	})
+}
+
 // hasCall: the expression calls a function or receives.
 func (f *fctx) hasCall(e ast.Expr) bool {
+	return f.calls(e, func(ast.Expr) bool { return false })
+}
+
+// calls: the expression calls a function or receives, apart from its parts that are left out.
+func (f *fctx) calls(e ast.Expr, without func(ast.Expr) bool) bool {
 	found := false
 	ast.Inspect(e, func(n ast.Node) bool {
+		if e, ok := n.(ast.Expr); ok && without(e) {
+			return false
+		}
 		switch n := n.(type) {
 		case *ast.FuncLit:
 			return false
@@ -628,7 +660,11 @@ func (f *fctx) opAssign(l ast.Expr, op token.Token, e ast.Expr) {
 		if m, ok := under(f.typeOf(ix.X)).(*types.Map); ok {
 			xs := f.ordered(func() string { return f.expr(ix.X) }, func() string { return f.rval(ix.Index, m.Key()) })
 			x, k := f.pin(xs[0]), f.hashable(m, f.pin(xs[1]), "")
+			calls := f.callsYet(e)
 			y := f.operand(op, e, t)
+			if calls {
+				y = f.pin(y)
+			}
 			old := fmt.Sprintf("%s(%s, %s)", p.mapFunc(m, "get"), x, k)
 			r := f.arith(op, t, old, y)
 			f.runtimeError(x+" == nil", "assignment to entry in nil map")
@@ -637,8 +673,14 @@ func (f *fctx) opAssign(l ast.Expr, op token.Token, e ast.Expr) {
 		}
 	}
 	place := f.lvalue(l)
-	y := f.operand(op, e, t)
+	y := ""
+	if f.callsYet(e) {
+		y = f.pin(f.count(op, e))
+	}
 	lv := place()
+	if y == "" {
+		y = f.operand(op, e, t)
+	}
 	r := f.arith(op, t, lv, y)
 	if strings.HasPrefix(r, "("+lv+" "+op.String()+" ") {
 		if y == "1" && (op == token.ADD || op == token.SUB) {
@@ -725,14 +767,23 @@ func (f *fctx) returnStmt(s *ast.ReturnStmt) {
 }
 
 func (f *fctx) ifStmt(s *ast.IfStmt) {
+	f.branches(s, "if ", f.condition(s))
+}
+
+// condition is the condition of an if, behind the statements that it needs.
+func (f *fctx) condition(s *ast.IfStmt) string {
 	if s.Init != nil {
 		f.stmt(s.Init)
 		f.at(s.Cond.Pos())
 	}
 	f.early(s.Cond)
-	c := f.expr(s.Cond)
+	return f.expr(s.Cond)
+}
+
+// branches is an if with its condition, and with how it begins.
+func (f *fctx) branches(s *ast.IfStmt, head, cond string) {
 	f.at(s.Pos())
-	f.emit("if %s {", bare(c))
+	f.emit("%s%s {", head, bare(cond))
 	f.stmts(s.Body.List)
 	f.at(s.Body.Rbrace)
 	switch e := s.Else.(type) {
@@ -748,13 +799,14 @@ func (f *fctx) ifStmt(s *ast.IfStmt) {
 
 // elseIf is an else with an if, which needs a block of its own if its condition needs statements.
 func (f *fctx) elseIf(s *ast.IfStmt) {
-	b := f.capture(func() { f.ifStmt(s) })
-	if first := b.lines[0].Text; strings.HasPrefix(first, "if ") {
-		b.lines[0].Text = "} else " + first
-		f.splice(b)
+	var cond string
+	b := f.capture(func() { cond = f.condition(s) })
+	if len(b.lines) == 0 {
+		f.branches(s, "} else if ", cond)
 		return
 	}
 	f.emit("} else {")
 	f.splice(b)
+	f.branches(s, "if ", cond)
 	f.emit("}")
 }

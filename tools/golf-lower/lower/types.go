@@ -437,6 +437,9 @@ func (p *prog) set(t types.Type, dst, src string) string {
 	return fmt.Sprintf("%s(%s, %s)", f, dst, src)
 }
 
+// pointsToArray: the type is that of pointers to arrays. They are held as slices, which the subset does not compare.
+func pointsToArray(t types.Type) bool { return isPtr(t) && isArray(deref(t)) }
+
 // equal compares two values of a type.
 func (p *prog) equal(t types.Type, a, b string) string {
 	switch {
@@ -482,6 +485,9 @@ func (p *prog) equal(t types.Type, a, b string) string {
 	if p.lt(t) == "struct{}" {
 		return "true"
 	}
+	if pointsToArray(t) {
+		return fmt.Sprintf("%s(%s, %s)", p.unequalArrays(t), a, b)
+	}
 	if isFloat(t) {
 		return fmt.Sprintf("%s(%s, %s)", p.floatFunc(t, "feq%d"), a, b)
 	}
@@ -489,4 +495,17 @@ func (p *prog) equal(t types.Type, a, b string) string {
 		return p.golf("Equal", a, b)
 	}
 	return fmt.Sprintf("(%s == %s)", a, b)
+}
+
+// unequalArrays is the function that compares pointers to arrays, of which one must be nil: others end the program.
+func (p *prog) unequalArrays(t types.Type) string {
+	return p.aux("equal", "pointers "+typeKey(t), func(name string, b *buffer) {
+		l := p.lt(t)
+		b.add(0, "func %s(a %s, b %s) bool {", name, l, l)
+		b.add(0, "if a != nil && b != nil {")
+		b.add(0, "panic(\"lowering: comparing pointers to arrays is not supported\")")
+		b.add(0, "}")
+		b.add(0, "return a == nil && b == nil")
+		b.add(0, "}")
+	})
 }

@@ -217,6 +217,18 @@ func (f *fctx) notNil(x string) string {
 	return x
 }
 
+// nilChecked is notNil where golf itself raises no error, or another one: a pointer to an array is a slice there.
+func (f *fctx) nilChecked(x string) string {
+	if f.unwinds() || x == "nil" {
+		return f.notNil(x)
+	}
+	x = f.pin(x)
+	f.emit("if %s == nil {", x)
+	f.emit("panic(%q)", nilText)
+	f.emit("}")
+	return x
+}
+
 // walk goes through fields, and raises the error of a nil pointer on the way.
 func (f *fctx) walk(x string, t types.Type, path []int) (string, types.Type) {
 	if !f.unwinds() || !f.user() {

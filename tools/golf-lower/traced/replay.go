@@ -41,8 +41,8 @@ func numbers(schedule string, count int) ([]uint64, bool) {
 }
 
 // scheduleOf is the schedule that the words of a run name, and the words without those that only add collections, with at
-// most MostTurns turns.
-func scheduleOf(words []string) (schedule string, bare []string) {
+// most so many turns.
+func scheduleOf(words []string, most int) (schedule string, bare []string) {
 	schedule = "rotate"
 	for i := 0; i < len(words); i++ {
 		name, value, whole := strings.Cut(words[i], "=")
@@ -60,8 +60,8 @@ func scheduleOf(words []string) (schedule string, bare []string) {
 			}
 		}
 	}
-	if i := slices.Index(bare, "--turns"); i < 0 || number(bare[i+1]) > MostTurns {
-		bare = withTurns(bare, strconv.Itoa(MostTurns))
+	if i := slices.Index(bare, "--turns"); i < 0 || number(bare[i+1]) > most {
+		bare = withTurns(bare, strconv.Itoa(most))
 	}
 	return schedule, bare
 }

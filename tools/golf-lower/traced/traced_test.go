@@ -30,7 +30,7 @@ func TestScheduleOfWords(t *testing.T) {
 		"--schedule=seed:7 --recover":        "seed:7 [--schedule seed:7 --turns 500000]",
 		"--markers 2 --schedule choices:0,1": "choices:0,1 [--schedule choices:0,1 --turns 500000]",
 	} {
-		schedule, bare := scheduleOf(strings.Fields(line))
+		schedule, bare := scheduleOf(strings.Fields(line), MostTurns)
 		if got := fmt.Sprint(schedule, " ", bare); got != want {
 			t.Errorf("%s: %s, want %s", line, got, want)
 		}
@@ -77,5 +77,13 @@ func TestTurnsAreRead(t *testing.T) {
 	}
 	if _, ok := turnOf("goroutine 1: chan receive at line 5"); ok {
 		t.Error("a line of a collection is no turn")
+	}
+	for _, line := range []string{"turn 1: goroutine 1 at line 11", "turn 7: goroutine 1 at line 11, starts goroutine 2"} {
+		if g, at, ok := takenBy(line); g != 1 || at != 11 || !ok {
+			t.Errorf("%s: taken by %d at %d", line, g, at)
+		}
+	}
+	if _, _, ok := takenBy("collection 1: marked 0"); ok {
+		t.Error("a collection is no turn")
 	}
 }

@@ -41,7 +41,7 @@ const MostTurns = 500000
 // Waits runs the lowered text by the words of a run, and returns the goroutines that are blocked at its end, by rising
 // number. There are none if the run does not end so, or if it is too long.
 func Waits(run Tracer, text string, words []string) ([]*Wait, error) {
-	schedule, bare := scheduleOf(words)
+	schedule, bare := scheduleOf(words, MostTurns)
 	f := &finder{run: run, text: text, lines: strings.Split(text, "\n"), words: bare}
 	var err error
 	if f.first, err = read(run, text, bare); err != nil || !f.first.asleep {

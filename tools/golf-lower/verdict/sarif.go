@@ -126,7 +126,11 @@ func sarifOf(p *Package, t *Test, g *Goroutine) sarifResult {
 		}
 	}
 	related(g.Started, "started here")
-	related(g.Made, "what it waits on is made here")
+	for _, t := range g.On {
+		for _, made := range t.Made {
+			related(&made, t.Name+" is made here")
+		}
+	}
 	return r
 }
 

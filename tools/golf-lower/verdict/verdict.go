@@ -37,7 +37,7 @@ type Place struct {
 
 func (p Place) String() string {
 	if p.Line == 0 {
-		return "generated code in " + p.Function
+		return "generated code of " + p.Function
 	}
 	s := fmt.Sprintf("%s:%d:%d", p.File, p.Line, p.Column)
 	if p.Function != "" {
@@ -46,20 +46,45 @@ func (p Place) String() string {
 	return s
 }
 
+// at is the place behind a word such as started.
+func (p Place) at() string {
+	if p.Line == 0 {
+		return "in " + p.Function
+	}
+	return "at " + p.String()
+}
+
 // slashed is the name of the file with slashes, whatever the system has.
 func (p Place) slashed() string { return filepath.ToSlash(p.File) }
+
+// Thing is something that a goroutine waits on.
+type Thing struct {
+	Name string  // as the statement names it
+	Made []Place `json:",omitempty"` // where it was made: no place if that is not known
+}
+
+func (t Thing) String() string {
+	if len(t.Made) == 0 {
+		return t.Name
+	}
+	var made []string
+	for _, p := range t.Made {
+		made = append(made, p.String())
+	}
+	return fmt.Sprintf("%s (made at %s)", t.Name, strings.Join(made, " or "))
+}
 
 // Goroutine is one that is blocked.
 type Goroutine struct {
 	Number  int
 	Wait    string // how it waits, as chan send
 	At      Place
-	Started *Place `json:",omitempty"` // where it was started; nil for goroutine 1
-	Made    *Place `json:",omitempty"` // where what it waits on was made, if that is known
-	Holder  int    `json:",omitempty"` // the goroutine that has locked what it waits for
-	Locked  *Place `json:",omitempty"` // and where
-	More    int    `json:",omitempty"` // how many others wait at the same place and were started at the same place
-	Again   string `json:",omitempty"` // the command that shows it again
+	Started *Place  `json:",omitempty"` // where it was started; nil for goroutine 1
+	On      []Thing `json:",omitempty"` // all that a select waits on, or what another statement may wait on
+	Holder  int     `json:",omitempty"` // the goroutine that has locked what it waits for
+	Locked  *Place  `json:",omitempty"` // and where
+	More    int     `json:",omitempty"` // how many others wait at the same place and were started at the same place
+	Again   string  `json:",omitempty"` // the command that shows it again
 }
 
 // same: both wait at one place and were started at one place.
@@ -70,28 +95,53 @@ func (g *Goroutine) same(o *Goroutine) bool {
 
 // lines tell of the goroutine.
 func (g *Goroutine) lines() []string {
-	list := []string{fmt.Sprintf("goroutine %d: %s at %s", g.Number, g.Wait, g.At)}
-	if g.Started != nil {
-		list = append(list, "    started at "+g.Started.String())
+	list := g.parts("waits on ")
+	switch g.More {
+	case 0:
+	case 1:
+		list = append(list, "and 1 more at the same places")
+	default:
+		list = append(list, fmt.Sprintf("and %d more at the same places", g.More))
 	}
-	if g.Made != nil {
-		list = append(list, "    waits on what was made at "+g.Made.String())
+	for i := range list[1:] {
+		list[i+1] = "    " + list[i+1]
+	}
+	return list
+}
+
+// Line tells of the goroutine in one line.
+func (g *Goroutine) Line() string { return strings.Join(g.parts("on "), ", ") }
+
+// parts tell how and where the goroutine waits, where it was started, on what it waits, and who has locked that.
+func (g *Goroutine) parts(on string) []string {
+	list := []string{fmt.Sprintf("goroutine %d: %s %s", g.Number, g.Wait, g.At.at())}
+	if g.Started != nil {
+		list = append(list, "started "+g.Started.at())
+	}
+	if len(g.On) > 0 {
+		list = append(list, on+g.Things())
 	}
 	switch {
 	case g.Locked == nil:
 	case g.Holder == g.Number:
-		list = append(list, "    locked by itself at "+g.Locked.String())
+		list = append(list, "locked by itself "+g.Locked.at())
 	default:
-		list = append(list, fmt.Sprintf("    locked by goroutine %d at %s", g.Holder, g.Locked))
-	}
-	switch g.More {
-	case 0:
-	case 1:
-		list = append(list, "    and 1 more at the same places")
-	default:
-		list = append(list, fmt.Sprintf("    and %d more at the same places", g.More))
+		list = append(list, fmt.Sprintf("locked by goroutine %d %s", g.Holder, g.Locked.at()))
 	}
 	return list
+}
+
+// Things names what the goroutine waits on.
+func (g *Goroutine) Things() string {
+	between := " or "
+	if strings.HasPrefix(g.Wait, "select") {
+		between = " and "
+	}
+	var names []string
+	for _, t := range g.On {
+		names = append(names, t.String())
+	}
+	return strings.Join(names, between)
 }
 
 // Merge adds goroutines to a list. Those that wait at the same place and were started at the same place are one.

@@ -21,7 +21,7 @@ func sample() []*Package {
 			{Name: "TestSkipped", Kind: Skip, Log: "    pool_test.go:9: not today\n"},
 			{Name: "TestWrong", Kind: Fail, Printed: "printed\n", Log: "    pool_test.go:20: got <1>\n"},
 			{Name: "TestLeaks", Kind: Leak, Goroutines: []Goroutine{
-				{Number: 5, Wait: "chan send", At: at, Started: &from, More: 2, Again: "golf-go test -run '^TestLeaks$' --schedule seed:3 pool"},
+				{Number: 5, Wait: "chan send", At: at, Started: &from, On: []Thing{{"p.out", []Place{from}}}, More: 2, Again: "golf-go test -run '^TestLeaks$' --schedule seed:3 pool"},
 			}},
 			{Name: "TestLocks", Kind: Deadlock, Reasons: []string{"fatal error: all goroutines are asleep - deadlock!"},
 				Goroutines: []Goroutine{{Number: 2, Wait: "sync.Mutex.Lock", At: at, Started: &from, Holder: 3, Locked: &locked}}},
@@ -38,6 +38,7 @@ const wantText = `--- FAIL: TestWrong (0.00s)
 --- LEAK: TestLeaks (0.00s)
     goroutine 5: chan send at pool/pool.go:12:3 in (*Pool).work
         started at pool/pool.go:7:2 in New
+        waits on p.out (made at pool/pool.go:7:2 in New)
         and 2 more at the same places
     shown again by: golf-go test -run '^TestLeaks$' --schedule seed:3 pool
 --- DEADLOCK: TestLocks (0.00s)
@@ -54,6 +55,26 @@ FAIL	example.com/m/pool	1.50s	[1 ok, 1 SKIP, 1 FAIL, 1 DEADLOCK, 1 LEAK, 1 stopp
 refused: broken_test.go:5:30: undefined: nowhere
 FAIL	example.com/m/broken	0.00s	[1 refused]
 `
+
+func TestAGoroutineIsToldInOneLine(t *testing.T) {
+	at, made := Place{"a.go", 5, 2, "send"}, Place{"a.go", 3, 7, "main"}
+	for _, c := range []struct {
+		g    Goroutine
+		want string
+	}{
+		{Goroutine{Number: 1, Wait: "chan send", At: at}, "goroutine 1: chan send at a.go:5:2 in send"},
+		{Goroutine{Number: 2, Wait: "chan send", At: at, Started: &Place{Function: "the clock"}},
+			"goroutine 2: chan send at a.go:5:2 in send, started in the clock"},
+		{Goroutine{Number: 3, Wait: "select", At: at, On: []Thing{{"c", []Place{made, at}}, {"d", nil}}},
+			"goroutine 3: select at a.go:5:2 in send, on c (made at a.go:3:7 in main or a.go:5:2 in send) and d"},
+		{Goroutine{Number: 4, Wait: "sync.Mutex.Lock", At: at, On: []Thing{{"a", nil}, {"b", nil}}, Holder: 4, Locked: &made},
+			"goroutine 4: sync.Mutex.Lock at a.go:5:2 in send, on a or b, locked by itself at a.go:3:7 in main"},
+	} {
+		if got := c.g.Line(); got != c.want {
+			t.Errorf("%s, want %s", got, c.want)
+		}
+	}
+}
 
 func TestTextHasALineForEachPackage(t *testing.T) {
 	var sb strings.Builder
@@ -244,7 +265,7 @@ func TestSARIFHasWhatItsSchemaRequires(t *testing.T) {
 		t.Fatalf("%+v", run)
 	}
 	r := run.Results[0]
-	if r.RuleID != run.Tool.Driver.Rules[r.RuleIndex].ID || r.Message.Text == "" || len(r.PartialFingerprints) == 0 || len(r.RelatedLocations) != 1 {
+	if r.RuleID != run.Tool.Driver.Rules[r.RuleIndex].ID || r.Message.Text == "" || len(r.PartialFingerprints) == 0 || len(r.RelatedLocations) != 2 {
 		t.Errorf("%+v", r)
 	}
 	at := r.Locations[0].PhysicalLocation

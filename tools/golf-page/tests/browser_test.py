@@ -17,7 +17,7 @@ sys.path.insert(0, HERE)
 
 from browser import Browser, browser_program
 from page_test import EXAMPLES, EXPLORE, FILES, LEAK_CYCLE, MANY_GOROUTINES, MANY_TURNS
-from page_test import assert_same, example, many_functions, page_of, ran, sample, turn_lines
+from page_test import assert_same, example, lowered_page_of, many_functions, page_of, ran, sample, turn_lines
 
 HOSTILE = """package main
 
@@ -69,6 +69,28 @@ func main() {
 	wait(c)
 }
 """
+# Generated code starts two goroutines and the user's main a third, which runs generated code too.
+LOWERED = """package main
+
+func tick(c chan int) {
+	<-c
+}
+
+func begin(c chan int) {
+	go tick(c)
+	go tick(c)
+}
+
+func main() {
+	c := make(chan int)
+	begin(c)
+	go tick(c)
+	for i := 0; i < 9; i++ {
+	}
+}
+"""
+LINES = "".join("0\tthe clock\n" if 3 <= line <= 10 else f"made.go:{line}:2\tmain\n" if line > 11 else "0\n"
+                for line in range(1, LOWERED.count("\n") + 1))
 SHOTS = os.environ.get("GOLF_PAGE_SHOTS")
 
 
@@ -93,11 +115,14 @@ class InBrowser(unittest.TestCase):
 
     def open(self, path, *line, width=1280, fragment="", dark=False):
         """Makes the page of a file and opens it. Returns the seconds that it takes to open."""
+        return self.open_page(path, page_of(path, *line), width=width, fragment=fragment, dark=dark)
+
+    def open_page(self, path, page, **how):
         self.name = os.path.basename(path).removesuffix(".go")
         self.page = os.path.join(self.folder.name, f"{self.name}.html")
         with open(self.page, "w", encoding="utf-8") as file:
-            file.write(page_of(path, *line).html())
-        return self.browser.open(self.page, width=width, fragment=fragment, dark=dark)
+            file.write(page.html())
+        return self.browser.open(self.page, **how)
 
     def tearDown(self):
         self.assertEqual(self.browser.faults(), [])
@@ -505,6 +530,15 @@ class Large(InBrowser):
         self.assertLess(self.value("document.querySelectorAll('.lane').length"), 10)
         if SHOTS:
             self.browser.shot(os.path.join(SHOTS, "thousand.png"))
+
+    def test_generated_goroutines_are_one_lane(self):
+        path = self.file(LOWERED)
+        lines = path + ".lines"
+        with open(lines, "w", encoding="utf-8") as file:
+            file.write(LINES)
+        self.open_page(path, lowered_page_of(path, lines, path))
+        self.assertEqual(self.value("[...document.querySelectorAll('.lane .who b')].map(each => each.textContent)"),
+                         ["G1 main", "G4 the clock", "2 × the clock"])
 
     def test_100_000_turns(self):
         self.open_soon(self.file(MANY_TURNS))

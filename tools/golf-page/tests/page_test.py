@@ -67,6 +67,11 @@ def page_of(path, *line):
     return page.page_of({"--golf": GOLF, "--explore": EXPLORE}, path, list(line))
 
 
+def lowered_page_of(path, lines, *sources):
+    """Returns the page of a lowered file, of which a file has the places."""
+    return page.page_of({"--golf": GOLF, "--explore": EXPLORE, "--lines": lines, "--source": list(sources)}, path, [])
+
+
 def data_of(path, *line):
     """Returns what the script of the page reads, from its text."""
     text = page_of(path, *line).html()
@@ -665,7 +670,8 @@ func work() {
 func tick() {
 }
 """
-MAP = "0\n0\na.go 3 work\na.go 4 work\na.go 5 work\n0\n0\n0\n"
+MAP = "0\n0\na.go:3:1\twork\na.go:4:2\twork\na.go:5:2\twork\n0\n0\tthe clock\n0\tthe clock\n"
+NOTES = "site\t1\ta.go:5:9 in work\nwait\t4\tchan send\tc (made at a.go:3:7 in work)\n"
 
 
 class LoweredFiles(unittest.TestCase):
@@ -673,7 +679,7 @@ class LoweredFiles(unittest.TestCase):
 
     def places(self, *names):
         return places.Lowered([(f"x/{name}", b"package main\n" * 9) for name in names], LOWERED,
-                              MAP.replace("a.go", names[-1]))
+                              MAP.replace("a.go", names[-1]), NOTES)
 
     def test_rows_of_one_file(self):
         self.assertEqual([self.places("a.go").row(line) for line in (4, 7, 99)], [4, 0, 0])
@@ -683,12 +689,13 @@ class LoweredFiles(unittest.TestCase):
         self.assertEqual((found.row(4), found.files), (13, [["b.go", 0], ["a.go", 9]]))
 
     def test_words(self):
-        one, two = self.places("a.go"), self.places("b.go", "a.go")
-        self.assertEqual(one.told(4), "line 4 in work")
-        self.assertEqual(two.told(4), "line 4 of a.go in work")
-        self.assertEqual(one.told(8), "line 0 in tick [line 8 of the lowered file]")
-        self.assertEqual(one.told_text("goroutine 2: chan send at line 4, started at line 5"),
-                         "goroutine 2: chan send at line 4 in work, started at line 5 in work")
+        found = self.places("a.go")
+        self.assertEqual([found.at(line) for line in (4, 6, 8)], ["at a.go:4:2 in work", "in work", "in the clock"])
+        self.assertEqual(found.told_text("goroutine 2: chan send at line 4, started at line 5"),
+                         "goroutine 2: chan send at a.go:4:2 in work, started at a.go:5:2 in work, "
+                         "on c (made at a.go:3:7 in work)")
+        self.assertEqual(found.told_text("goroutine 2: chan receive at line 4, reached by object 1"),
+                         "goroutine 2: chan receive at a.go:4:2 in work, reached by object 1")
 
     def test_output_is_decoded(self):
         printed = self.places("a.go").printed([(3, "a ‿ b ‿\n".encode()), (4, "‿\n".encode()), (5, "c\n".encode()),
@@ -702,12 +709,24 @@ class LoweredFiles(unittest.TestCase):
     def test_ends(self):
         found, printed = self.places("a.go"), places.Printed([])
         printed.panic = b"lost"
-        self.assertEqual(found.told_tail("panic: ‿ (goroutine 1, line 4)", printed),
-                         "panic: lost (goroutine 1, line 4 in work)")
+        self.assertEqual(found.told_tail("panic: ‿ (goroutine 1, line 4)", printed, []),
+                         "panic: lost (goroutine 1, a.go:4:2 in work)")
         unlocked = "fatal error: sync: unlock of unlocked mutex (goroutine 1, line 4)"
-        self.assertEqual(found.told_tail(unlocked, printed), unlocked.replace("line 4", "line 4 in work"))
+        self.assertEqual(found.told_tail(unlocked, printed, []), unlocked.replace("line 4", "a.go:4:2 in work"))
+        printed.site = 1
+        self.assertEqual(found.told_tail("panic: ‿ (goroutine 1, line 8)", printed, []),
+                         "panic: lost (goroutine 1, a.go:5:9 in work)")
         printed.exit = 2
-        self.assertEqual(found.told_tail(unlocked, printed), "golf-go: os.Exit(2) at line 4 in work")
+        self.assertEqual(found.told_tail(unlocked, printed, []), "golf-go: os.Exit(2) at a.go:4:2 in work")
+
+    def test_a_panic_in_generated_code_has_the_place_of_its_call(self):
+        found = self.places("a.go")
+        found.lines[4] = "\ttick()"
+        turns = [traced.Turn(1, line, None, False, False, ()) for line in (4, 5, 8)]
+        self.assertEqual(found.told_tail("panic: lost (goroutine 1, line 8)", places.Printed([]), turns),
+                         "panic: lost (goroutine 1, a.go:5:2 in work)")
+        self.assertEqual(found.told_tail("panic: lost (goroutine 1, line 8)", places.Printed([]), turns[:1]),
+                         "panic: lost (goroutine 1, in the clock)")
 
 
 if __name__ == "__main__":

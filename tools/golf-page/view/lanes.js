@@ -181,9 +181,9 @@ function foldPath(sum, below, moments, most) {
   return up.join("") + down.reverse().join("") + "Z";
 }
 
-function foldOf(list) {
+function foldOf(list, name = list[0].name || "goroutines") {
   const lane = element("li", "lane fold"), who = element("button", "who"), state = element("small");
-  const track = element("div", "track"), name = list[0].name || "goroutines";
+  const track = element("div", "track");
   who.append(element("b", "", `${count(list.length)} × ${name}`), state);
   who.title = `${count(list.length)} goroutines, ${name}${startOf(list[0])}`;
   who.setAttribute("aria-expanded", "false");
@@ -213,14 +213,21 @@ function openFold(lane, who, list) {
 // ---- all lanes
 
 function buildLanes() {
-  const lanes = $("lanes");
-  lanes.classList.toggle("dense", goroutines.length > MOST_TALL_LANES);
-  if (goroutines.length <= MOST_LANES) {
-    lanes.append(...goroutines.map(laneOf));
-    return;
-  }
+  const lanes = $("lanes"), generated = goroutines.filter(isGenerated), own = goroutines.filter(each => !isGenerated(each));
+  lanes.classList.toggle("dense", own.length > MOST_TALL_LANES);
+  if (own.length <= MOST_LANES) lanes.append(...own.map(laneOf)); else foldByStart(lanes, own);
+  if (generated.length) lanes.append(foldOf(generated, [...new Set(generated.map(({ name }) => name))].join(", ")));
+}
+
+/** Whether generated code has started a goroutine, and it has run no code of the user. */
+function isGenerated({ number, started, turns }) {
+  return number > 1 && started < 0 && turns.every(turn => data.row[turn - 1] < 0);
+}
+
+/** Puts goroutines into lanes. Those that were started at one line are one lane, if they are some. */
+function foldByStart(lanes, own) {
   const groups = new Map();
-  for (const goroutine of goroutines) {
+  for (const goroutine of own) {
     const key = goroutine.number < 2 ? String(goroutine.number) : `${goroutine.started} ${goroutine.name}`;
     groups.set(key, [...groups.get(key) ?? [], goroutine]);
   }

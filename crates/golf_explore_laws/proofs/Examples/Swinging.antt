@@ -34,9 +34,6 @@ back = record {
     frame = _;
     callers = [];
     frames = refl;
-    stays = refl;
-    line = _;
-    stands = refl;
     local = refl;
   };
 }

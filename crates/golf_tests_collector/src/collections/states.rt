@@ -5,7 +5,7 @@ ghost use Rattle.golf_model.specs.Futures.{Numbered};
 ghost use Rattle.golf_model.specs.Presence.{IsWhole};
 
 use golf_base::{List, Memory};
-use golf_data::{Channel, Object, Side, Value, Wait, WaitKind};
+use golf_data::{Channel, Object, Side, Value, Wait, WaitKind, Waits};
 use golf_ring::Ring;
 use golf_state::State;
 use std::alloc::Global;
@@ -28,14 +28,13 @@ pub fn stuck_state(alloc: Global) -> Result<State, Memory>
     }))?;
     let second = List::new(alloc);
     let g = state.spawn(second, 3)?;
-    let mut waits = List::new(alloc);
-    waits.push(Wait {
+    let wait = Wait {
         object: channel,
         side: Side::Receive,
         value: Value::Nil,
         target: None,
         with_ok: false,
-    })?;
-    state.block(g, WaitKind::Receive, 5, waits, 0, 0)?;
+    };
+    state.block(g, WaitKind::Receive, 5, Waits::one(alloc, wait), 0, 0)?;
     Ok(state)
 }

@@ -17,6 +17,14 @@ pub(crate) const TWO_ROOTS: &str = "node; node; root 0; root 1";
 /// A root with four children.
 pub(crate) const ONE_ROOT_OF_FOUR: &str = "node 1 2 3 4; node; node; node; node; root 0";
 
+/// A root with seven children.
+pub(crate) const ONE_ROOT_OF_SEVEN: &str =
+    "node 1 2 3 4 5 6 7; node; node; node; node; node; node; node; root 0";
+
+/// A root, two more nodes of its list, and then a node with four children.
+pub(crate) const LIST_BEFORE_FOUR: &str =
+    "node 1; node 2; node 3; node 4 5 6 7; node; node; node; node; root 0";
+
 /// The root 0 refers to node 1. Sleeper 0 waits on node 1 and refers to node 2, which refers to node 3.
 /// Sleeper 1 waits on node 3 and refers to node 4. Sleeper 2 waits on node 5, which no place reaches.
 pub(crate) const TWO_ROUNDS: &str = "

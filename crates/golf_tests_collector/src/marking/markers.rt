@@ -1,7 +1,8 @@
 //! Tests of markers: they share the work, and pass their gate once for each place and once more each.
 
 use crate::marking::examples::{
-    ONE_ROOT_OF_FOUR, TWO_ROOTS, graph_of, list_of_channels, marked_by,
+    LIST_BEFORE_FOUR, ONE_ROOT_OF_FOUR, ONE_ROOT_OF_SEVEN, TWO_ROOTS, graph_of, list_of_channels,
+    marked_by,
 };
 use golf_base::{Gate, Memory};
 use golf_mark::mark_alone;
@@ -34,9 +35,27 @@ fn two_markers_meet_at_the_gate(rt: HostRuntime) -> Result<(), Fail> {
 
 #[test]
 fn a_marker_steals_what_another_one_pushed(rt: HostRuntime) -> Result<(), Fail> {
-    let gate = StealingGate::new();
+    let gate = StealingGate::new(1, 1);
     let count = marked_by_two(&rt, rt.alloc(), ONE_ROOT_OF_FOUR, &gate)?;
     assert!(rt; gate.both_seen() && count == 5);
+    Ok(())
+}
+
+// Marker 0 shares a child in turn 0 and one in turn 4, and marker 1 takes both.
+#[test]
+fn a_marker_shares_more_than_once(rt: HostRuntime) -> Result<(), Fail> {
+    let gate = StealingGate::new(5, 2);
+    let count = marked_by_two(&rt, rt.alloc(), ONE_ROOT_OF_SEVEN, &gate)?;
+    assert!(rt; gate.both_seen() && count == 8);
+    Ok(())
+}
+
+// Marker 0 has one place until its turn 3, and shares one of four in turn 4.
+#[test]
+fn a_marker_shares_in_later_turns_too(rt: HostRuntime) -> Result<(), Fail> {
+    let gate = StealingGate::new(5, 1);
+    let count = marked_by_two(&rt, rt.alloc(), LIST_BEFORE_FOUR, &gate)?;
+    assert!(rt; gate.both_seen() && count == 8);
     Ok(())
 }
 

@@ -42,7 +42,7 @@ fn the_program_marks_with_two_markers_at_once(rt: HostRuntime) -> Result<(), Fai
 
 #[test]
 fn the_markers_of_the_program_share_their_work(rt: HostRuntime) -> Result<(), Fail> {
-    let gate = StealingGate::new();
+    let gate = StealingGate::new(1, 1);
     let line = "collection 1: marked 5, reported 0, kept 0, reclaimed 0, objects 5\n";
     let clean = is_clean(&rt, GLOBALS_IN_A_SLICE, line, &gate)?;
     assert!(rt; clean && gate.both_seen());

@@ -45,7 +45,7 @@ func execute(ctx context.Context, w words, low *lower.Output, tests bool, stdout
 	if r.status == usage {
 		return misused(w, stderr)
 	}
-	r.waits, r.caller = r.waiting(ctx, w), r.callers(ctx, w)
+	r.waits, r.caller = r.waiting(ctx, w), r.callers(ctx, r.again(w))
 	return r.end()
 }
 

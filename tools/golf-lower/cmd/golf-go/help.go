@@ -15,6 +15,8 @@ var usages = map[string]string{
 	"search":  "golf-go search PACKAGE [words of golf-explore search]",
 	"page":    "golf-go page PACKAGE [words of golf run, or an answer of golf-explore] > PAGE",
 	"check":   "golf-go check PACKAGES",
+
+	"validate": "golf-go validate PACKAGE [--turns N]",
 }
 
 // effects say what each word does.
@@ -26,6 +28,8 @@ var effects = map[string]string{
 	"search":  "looks for a schedule with few preemptions that shows a bug",
 	"page":    "shows a run as one page, which needs nothing else",
 	"check":   "lowers main packages and each of their tests, and runs nothing",
+
+	"validate": "says whether a program does by golf what it does by Go, and its lowered file by Go",
 }
 
 const (
@@ -59,6 +63,8 @@ const (
     --recover         remove dead goroutines and free their memory
     --why             tell why each blocked goroutine that is live is so
     --threads N       run by N threads, with no other word of golf run
+`
+	turnsWord = `    --turns N         the most turns, 1 to 10,000,000, which is the default
 `
 	allWords = `    --states N        the most states that are kept, 1 to 1,000,000
 `
@@ -99,6 +105,8 @@ var wordsOf = map[string]string{
 	"search":  ownWords + searchWords,
 	"page":    ownWords + runWords,
 	"check":   ownWords,
+
+	"validate": ownWords + turnsWord,
 }
 
 // help is the text of golf-go --help, or of one word of the family.
@@ -117,7 +125,7 @@ func help(mode string) string {
 		fmt.Fprintf(&sb, "    %s\n        %s\n", usages[m], effects[m])
 	}
 	fmt.Fprintf(&sb, "    golf-go --version\n        shows the release that is used\n    golf-go WORD --help\n        shows the words "+
-		"of run, test, explore, search, page or check\n\nWords of golf-go itself:\n\n%sWords of golf run:\n\n%s%s", ownWords+"\n", runWords, ends)
+		"of run, test, explore, search, page, check or validate\n\nWords of golf-go itself:\n\n%sWords of golf run:\n\n%s%s", ownWords+"\n", runWords, ends)
 	return sb.String()
 }
 

@@ -8,6 +8,7 @@
 //	golf-go page PACKAGE [words] > PAGE    writes the page of a run
 //	golf-go test PACKAGES [words]          runs each test alone, and looks for goroutines that it leaves
 //	golf-go check PACKAGES                 lowers the packages and their tests, and runs nothing
+//	golf-go validate PACKAGE [words]       says whether a program does by golf what it does by Go; also golf-go -validate
 //
 //	golf-go --help, golf-go WORD --help    shows the words
 //	golf-go --version                      shows the release
@@ -54,7 +55,7 @@ func main() {
 }
 
 // modes are the first words, beside files.
-var modes = []string{"run", "test", "explore", "search", "page", "check"}
+var modes = []string{"run", "test", "explore", "search", "page", "check", "validate"}
 
 // words are the words of the command line.
 type words struct {
@@ -73,6 +74,9 @@ type words struct {
 
 func parseWords(args []string) words {
 	var w words
+	if len(args) > 0 && strings.TrimLeft(args[0], "-") == "validate" {
+		args = append([]string{"validate"}, args[1:]...)
+	}
 	if len(args) > 0 && slices.Contains(modes, args[0]) {
 		w.mode = args[0]
 		args = args[1:]
@@ -195,6 +199,10 @@ func run(ctx context.Context, args []string, stdout, stderr io.Writer) int {
 	if status != 0 {
 		return status
 	}
+	if w.mode == "validate" && opt.Tests {
+		fmt.Fprintln(stderr, "golf-go: validate takes programs, and no tests: go test and golf-go FILE_test.go say how a test ends")
+		return usage
+	}
 	low, err := lower.Lower(program, opt)
 	if err != nil {
 		fmt.Fprintf(stderr, "refused: %v\n", err)
@@ -213,6 +221,8 @@ func run(ctx context.Context, args []string, stdout, stderr io.Writer) int {
 		return explore(ctx, "search", w, low, stdout, stderr)
 	case "page":
 		return page(ctx, w, args, program.Sources(), low, stdout, stderr)
+	case "validate":
+		return validate(ctx, w, low, stdout, stderr)
 	}
 	return execute(ctx, w, low, opt.Tests, stdout, stderr)
 }

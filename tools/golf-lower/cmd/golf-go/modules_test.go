@@ -26,7 +26,7 @@ func TestRunTakesAPackageAsGoDoes(t *testing.T) {
 	}
 	for _, c := range []struct{ module, pkg, errs string }{
 		{"shop", "./cmd/shop", "collection 1: reported 1\n" +
-			"goroutine 2: chan receive at line 28 of cmd/shop/main.go in deliver, started at line 22 of cmd/shop/main.go in main\n" +
+			"goroutine 2: chan receive at cmd/shop/main.go:28:2 in deliver, started at cmd/shop/main.go:22:2 in main, on orders (made at cmd/shop/main.go:21:12 in main)\n" +
 			"golf-go: 2 collections, 1 goroutine reported\n"},
 		{"shop", "example.com/shop/cmd/shop", ""},
 		{"shop", "cmd/shop/main.go cmd/shop/refund.go", ""},

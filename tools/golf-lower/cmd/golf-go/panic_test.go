@@ -24,6 +24,12 @@ var panics = []string{
 	`a := []int{}; i := 0; a[i]++`,
 	`x := 0; _ = 1 / x`,
 	`var y int8; _ = y / y`,
+	`var a *[3]int; _ = a[1]`,
+	`var a *[3]int; a[1]++`,
+	`var a *[3]int; _ = a[:]`,
+	`var a *[3]int; _ = *a`,
+	`var a *[3]int; *a = [3]int{}`,
+	`var a *[3]int; for _, v := range a { fmt.Println(v) }`,
 	`c := make(chan int); close(c); close(c)`,
 	`var w sync.WaitGroup; w.Done()`,
 	`var m sync.Mutex; m.Unlock()`,
@@ -155,7 +161,7 @@ func TestAPanicHasTheLineOfTheUser(t *testing.T) {
 				t.Fatal(err)
 			}
 			out, errs, status := said(t, file)
-			want := regexp.MustCompile(`(?m)^(panic|fatal error): .*\(goroutine \d+, line ` + lines[i] + ` in `)
+			want := regexp.MustCompile(`(?m)^(panic|fatal error): .*\(goroutine \d+, p\.go:` + lines[i] + `:\d+ in `)
 			if !want.MatchString(errs) || status != 2 {
 				t.Errorf("status %d, want line %s\n%s%s", status, lines[i], out, errs)
 			}

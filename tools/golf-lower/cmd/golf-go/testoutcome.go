@@ -4,7 +4,6 @@ import (
 	"bytes"
 	"fmt"
 	"io"
-	"strconv"
 	"strings"
 
 	"golflower/lower"
@@ -88,7 +87,7 @@ func (j *judge) all(out, errs string) {
 	j.printed, word, j.log = verdict.Split(text.String(), j.test.Name)
 	j.exit = -1
 	j.rep = &reporter{low: j.low, decoder: d, tests: true, out: io.Discard}
-	j.rep.caller = j.rep.callers(j.ctx, words{golf: j.line, turns: true, chosen: true})
+	j.rep.caller = j.rep.callers(j.ctx, j.line)
 	for _, l := range strings.Split(errs, "\n") {
 		j.errLine(l)
 	}
@@ -102,7 +101,7 @@ func (j *judge) errLine(l string) {
 	switch {
 	case l == "", strings.HasPrefix(l, "collection "), strings.HasPrefix(l, "golf: "):
 	case strings.HasPrefix(l, "goroutine "):
-		if g, ok := reported(j.low, l); ok {
+		if g, _, ok := reported(j.low, l); ok {
 			j.left = verdict.Merge(j.left, []verdict.Goroutine{g})
 		}
 	case strings.HasPrefix(l, "refused: "):
@@ -157,53 +156,8 @@ func (j *judge) waiting() {
 		j.reasons = append(j.reasons, fmt.Sprintf("who waits where is told of runs with at most %d turns", traced.MostTurns))
 	}
 	for _, w := range waits {
-		if !j.rep.ofUser(w.Line) && !j.rep.ofUser(w.Started) {
-			continue
+		if j.rep.ofUser(w.Line) || j.rep.ofUser(w.Started) {
+			j.asleep = append(j.asleep, waiter(j.low, w))
 		}
-		g := verdict.Goroutine{Number: w.Goroutine, Wait: w.Kind, At: placeOf(j.low, w.Line)}
-		g.Started = startOf(j.low, w.Started)
-		if w.Holder > 0 {
-			g.Holder, g.Locked = w.Holder, pointerTo(placeOf(j.low, w.Locked))
-		}
-		j.asleep = append(j.asleep, g)
 	}
-}
-
-func pointerTo(p verdict.Place) *verdict.Place { return &p }
-
-// reported reads the line of a goroutine that is reported.
-func reported(low *lower.Output, line string) (verdict.Goroutine, bool) {
-	head, rest, _ := strings.Cut(strings.TrimPrefix(line, "goroutine "), ": ")
-	number, err := strconv.Atoi(head)
-	rest, started, _ := strings.Cut(rest, ", started at line ")
-	wait, at, ok := strings.Cut(rest, " at line ")
-	n, _ := strconv.Atoi(at)
-	if err != nil || !ok || n == 0 {
-		return verdict.Goroutine{}, false
-	}
-	g := verdict.Goroutine{Number: number, Wait: wait, At: placeOf(low, n)}
-	start, _ := strconv.Atoi(started)
-	g.Started = startOf(low, start)
-	return g, true
-}
-
-// startOf is the place where a goroutine was started, nil for goroutine 1, and for that of a test.
-func startOf(low *lower.Output, line int) *verdict.Place {
-	p := placeOf(low, line)
-	if line == 0 || p.Line == 0 && strings.HasPrefix(p.Function, "testing_") {
-		return nil
-	}
-	return &p
-}
-
-// placeOf is the place of a line of the lowered file.
-func placeOf(low *lower.Output, line int) verdict.Place {
-	if line < 1 || line > len(low.Lines) {
-		return verdict.Place{Function: fmt.Sprintf("line %d of the lowered file", line)}
-	}
-	p := low.Lines[line-1]
-	if p.Line == 0 {
-		return verdict.Place{Function: (&reporter{low: low}).generated(line)}
-	}
-	return verdict.Place{File: p.File, Line: p.Line, Column: p.Column, Function: p.Func}
 }

@@ -72,7 +72,7 @@ func (r *testRun) explore(low *lower.Output, line ...string) *answer {
 	a.lines = strings.Split(out, "\n")
 	a.first = a.lines[0]
 	for _, l := range strings.Split(out+errs, "\n") {
-		if g, ok := reported(low, l); ok && strings.HasPrefix(l, "goroutine ") {
+		if g, _, ok := reported(low, l); ok && strings.HasPrefix(l, "goroutine ") {
 			a.leaks = verdict.Merge(a.leaks, []verdict.Goroutine{g})
 		}
 	}

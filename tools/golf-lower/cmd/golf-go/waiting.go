@@ -41,7 +41,8 @@ func (r *reporter) waiting(ctx context.Context, w words) []string {
 	var told []string
 	for _, one := range waits {
 		if r.ofUser(one.Line) || r.ofUser(one.Started) {
-			told = append(told, r.wait(one))
+			g := waiter(r.low, one)
+			told = append(told, g.Line())
 		}
 	}
 	return told
@@ -56,10 +57,13 @@ func (r *reporter) again(w words) []string {
 }
 
 // callers finds the user's line where the code was called that panics in generated code: for a goroutine the line of the
-// lowered file, 0 if it is not known.
-func (r *reporter) callers(ctx context.Context, w words) func(goroutine int) int {
+// lowered file, 0 if it is not known. The words repeat the run.
+func (r *reporter) callers(ctx context.Context, words []string) func(goroutine int) int {
 	return func(goroutine int) int {
-		return traced.Caller(tracer(ctx), r.low.Text, r.again(w), goroutine, r.ofUser)
+		if words == nil {
+			return 0
+		}
+		return traced.Caller(tracer(ctx), r.low.Text, words, goroutine, r.ofUser)
 	}
 }
 
@@ -68,18 +72,11 @@ func (r *reporter) ofUser(n int) bool {
 	return n >= 1 && n <= len(r.low.Lines) && r.low.Lines[n-1] != lower.Place{} && r.low.Lines[n-1].Line > 0
 }
 
-// wait is the line of a blocked goroutine.
-func (r *reporter) wait(one *traced.Wait) string {
-	text := fmt.Sprintf("goroutine %d: %s at %s", one.Goroutine, one.Kind, r.place(one.Line))
-	if one.Started > 0 {
-		text += ", started at " + r.place(one.Started)
+// goroutine is the line of golf on a blocked goroutine, with the user's places and with what it waits on.
+func (r *reporter) goroutine(l string) string {
+	g, rest, ok := reported(r.low, l)
+	if !ok {
+		return r.places(l)
 	}
-	switch one.Holder {
-	case 0:
-	case one.Goroutine:
-		text += ", locked by itself at " + r.place(one.Locked)
-	default:
-		text += fmt.Sprintf(", locked by goroutine %d at %s", one.Holder, r.place(one.Locked))
-	}
-	return text
+	return g.Line() + rest
 }

@@ -28,7 +28,7 @@ var (
 	stateRE = regexp.MustCompile(`(?m)^goroutine \d+ \[(.+)\]:$`)
 	frameRE = regexp.MustCompile(`/testdata/asleep/\w+\.go:(\d+)`)
 	// what golf-go tells of one
-	waitRE = regexp.MustCompile(`^goroutine \d+: (.+?) at (line \d+) in \S+?(, started at line \d+)?(?: in \S+?)?(, locked by .+)?$`)
+	waitRE = regexp.MustCompile(`^goroutine \d+: ([^,]+?) at \w+\.go:(\d+):\d+ in \S+?(?:, started at \w+\.go:(\d+):\d+ in \S+?)?(?:, on [^,]+)?(, locked by .+)?$`)
 )
 
 // waitsByGo are the goroutines that Go tells of where all are asleep.
@@ -65,9 +65,13 @@ func waitsByGolf(t *testing.T, line string) (waits, holders []string) {
 	}
 	for _, l := range strings.Split(errs.String(), "\n") {
 		if m := waitRE.FindStringSubmatch(l); m != nil {
-			waits = append(waits, m[1]+" at "+m[2]+m[3])
+			wait := m[1] + " at line " + m[2]
+			if m[3] != "" {
+				wait += ", started at line " + m[3]
+			}
+			waits = append(waits, wait)
 			if m[4] != "" {
-				holders = append(holders, m[2]+m[4])
+				holders = append(holders, "line "+m[2]+m[4])
 			}
 		}
 	}
@@ -94,13 +98,13 @@ func TestWhoWaitsIsWhatGoTells(t *testing.T) {
 
 // holders are the goroutines that can hold the locks: no other one has locked them, or the others have unlocked them.
 var holders = map[string][]string{
-	"early_return.go": {"line 26, locked by goroutine 3 at line 10 in count"},
-	"handed_over.go":  {"line 26, locked by goroutine 2 at line 11 in keep"},
-	"lock_cycle.go": {"line 15, locked by goroutine 3 at line 12 in transfer",
-		"line 15, locked by goroutine 2 at line 12 in transfer"},
-	"locked_twice.go": {"line 12, locked by itself at line 18 in (*store).double"},
-	"reader.go":       {"line 17, locked by goroutine 2 at line 9 in read"},
-	"recovers.go":     {"line 15, locked by itself at line 21 in work"},
+	"early_return.go": {"line 26, locked by goroutine 3 at early_return.go:10:3 in count"},
+	"handed_over.go":  {"line 26, locked by goroutine 2 at handed_over.go:11:2 in keep"},
+	"lock_cycle.go": {"line 15, locked by goroutine 3 at lock_cycle.go:12:2 in transfer",
+		"line 15, locked by goroutine 2 at lock_cycle.go:12:2 in transfer"},
+	"locked_twice.go": {"line 12, locked by itself at locked_twice.go:18:2 in (*store).double"},
+	"reader.go":       {"line 17, locked by goroutine 2 at reader.go:9:2 in read"},
+	"recovers.go":     {"line 15, locked by itself at recovers.go:21:2 in work"},
 	"two_readers.go":  nil, // two goroutines hold it
 }
 

@@ -123,7 +123,7 @@ func TestALimitSaysWhatToDo(t *testing.T) {
 		clean + " --turns 3":                                "golf-go: more turns are given by --turns N, up to 10000000\n",
 		"../../testdata/reports/loop.go":                    "golf-go: a run has at most 10000000 turns: it needs fewer rounds, or smaller data\n",
 		"../../testdata/reports/loop.go --threads 2":        "golf-go: a run by threads has at most 100000 turns: without --threads there are more\n",
-		"explore " + clean + " --states 50":                 "golf-go: more states are kept by --states N, up to 1000000; ",
+		"explore " + clean + " --states 20":                 "golf-go: more states are kept by --states N, up to 1000000; ",
 		"search " + clean + " --preemptions 0":              "golf-go: nothing is claimed: more schedules are tried by --preemptions K, ",
 		"search ../../testdata/reports/loop.go --seconds 1": "golf-go: more seconds are given by --seconds S, ",
 		"explore ../../testdata/reports/late.go":            "golf-go: golf-go search may find a leak with fewer turns, and so may fewer rounds\n",
@@ -163,7 +163,7 @@ func TestProgramsAreFoundBesideTheExecutable(t *testing.T) {
 		status      int
 		errs        string
 	}{
-		{link, "../../testdata/reports/explicit.go", nil, 1, "goroutine 3: chan send at line 9 in send"},
+		{link, "../../testdata/reports/explicit.go", nil, 1, "goroutine 3: chan send at explicit.go:9:2 in send"},
 		{link, "explore ../../testdata/reports/clean.go", nil, 0, "at most 100000 states"},
 		{link, "../../testdata/asleep/locked_twice.go", nil, 2, "locked by itself"},
 		{link, "../../testdata/reports/clean.go", []string{"GOLF=/nowhere/golf"}, 6, "/nowhere/golf"},

@@ -43,6 +43,9 @@ var optionsOf = map[string]struct {
 		"--seconds":     {least: 1, most: 86400},
 	}},
 	"check": {"golf-go check", nil},
+	"validate": {"golf-go validate", map[string]option{
+		"--turns": runOptions["--turns"],
+	}},
 }
 
 // mostChoices are how many numbers a schedule of choices may have, of a page and of other runs.

@@ -107,19 +107,11 @@ func (e *example) examine() judge.Verdict {
 	if err := os.WriteFile(file, e.text, 0o666); err != nil {
 		return judge.Verdict{Kind: judge.Unbuilt, Text: err.Error()}
 	}
-	cmd := exec.Command(judge.GolfGo, file)
-	var out, errs bytes.Buffer
-	cmd.Stdout, cmd.Stderr = &out, &errs
-	cmd.Run() // how it ends is told in errs
-	for _, l := range strings.Split(errs.String(), "\n") {
-		switch {
-		case strings.HasPrefix(l, "refused: "), strings.HasPrefix(l, "golf-go: not supported: "):
-			return judge.Verdict{Kind: judge.Refused, Text: l}
-		case strings.HasPrefix(l, "stopped after "):
-			return judge.Verdict{Kind: judge.Stopped, Text: l}
-		}
+	out, errs, v := judge.Said(file)
+	if v != nil {
+		return *v
 	}
-	got, want := strings.TrimSpace(out.String()), strings.TrimSpace(e.output)
+	got, want := strings.TrimSpace(out), strings.TrimSpace(e.output)
 	if e.unordered {
 		got, want = sorted(got), sorted(want)
 	}
@@ -127,7 +119,7 @@ func (e *example) examine() judge.Verdict {
 		return judge.Verdict{Kind: judge.Same} // the comment is about a zone of time, or about the name of the test's package
 	}
 	if got != want {
-		return judge.Verdict{Kind: judge.Different, Text: fmt.Sprintf("%.200q, by golf-go %.200q %.200q", want, got, errs.String())}
+		return judge.Verdict{Kind: judge.Different, Text: fmt.Sprintf("%.200q, by golf-go %.200q %.200q", want, got, errs)}
 	}
 	return judge.Verdict{Kind: judge.Same}
 }

@@ -3,6 +3,7 @@ package judge
 import (
 	"flag"
 	"fmt"
+	"os"
 	"regexp"
 	"runtime"
 	"slices"
@@ -38,8 +39,13 @@ func (c *Choice) Takes(name string) bool {
 	return regexp.MustCompile(*c.only).MatchString(name) && (*c.part < 0 || c.number%10 == *c.part)
 }
 
-// Judge judges each name, some at the same time. With -list it writes a line for each, and says so.
+// Judge judges each name, some at the same time. With -list it writes a line for each, and says so. It ends the program with
+// a message if golf-go cannot be started.
 func (c *Choice) Judge(names []string, examine func(i int) Verdict) (verdicts []Verdict, listed bool) {
+	if err := Ready(); err != nil {
+		fmt.Fprintln(os.Stderr, err)
+		os.Exit(6)
+	}
 	verdicts = make([]Verdict, len(names))
 	var writing sync.Mutex
 	var wg sync.WaitGroup

@@ -10,6 +10,8 @@ import (
 	"os/exec"
 	"strings"
 	"time"
+
+	"golflower/shown"
 )
 
 // Kind says how golf-go took a program.
@@ -31,14 +33,16 @@ type Verdict struct {
 }
 
 // Shown is what a run shows.
-type Shown struct {
-	Out  string // standard output
-	Errs string // standard error, without what tells of the end
-	End  string // the first line of a panic or a fatal error, or the status
-}
+type Shown = shown.Shown
+
+// byGolfGo names the way in the text of a difference.
+const byGolfGo = "by golf-go"
 
 // limit is the time that a run may take.
 const limit = 60 * time.Second
+
+// errNoEnd tells of a run that takes longer.
+var errNoEnd = fmt.Errorf("no end in %v", limit)
 
 // Run runs a program of Go.
 func Run(cmd *exec.Cmd) (Shown, error) {
@@ -46,23 +50,7 @@ func Run(cmd *exec.Cmd) (Shown, error) {
 	if err != nil {
 		return Shown{}, err
 	}
-	s := Shown{Out: out}
-	var before []string
-	for _, l := range strings.Split(errs, "\n") {
-		if strings.HasPrefix(l, "panic: ") || strings.HasPrefix(l, "fatal error: ") {
-			s.End, _, _ = strings.Cut(l, " [recovered")
-			break
-		}
-		if strings.HasPrefix(l, "exit status ") || strings.HasPrefix(l, "goroutine ") {
-			continue
-		}
-		before = append(before, l)
-	}
-	s.Errs = strings.TrimSpace(strings.Join(before, "\n"))
-	if s.End == "" {
-		s.End = fmt.Sprint("status ", status)
-	}
-	return s, nil
+	return shown.ByGo(out, errs, status), nil
 }
 
 // start runs a command within the limit.
@@ -75,7 +63,7 @@ func start(cmd *exec.Cmd) (out, errs string, status int, err error) {
 	limited.Stdout, limited.Stderr = &o, &e
 	err = limited.Run()
 	if ctx.Err() != nil {
-		return "", "", 0, fmt.Errorf("no end in %v", limit)
+		return "", "", 0, errNoEnd
 	}
 	var ee *exec.ExitError
 	if errors.As(err, &ee) {
@@ -90,6 +78,31 @@ func start(cmd *exec.Cmd) (out, errs string, status int, err error) {
 // GolfGo is the program golf-go.
 var GolfGo = os.Getenv("GOLF_GO")
 
+// Ready says why golf-go cannot be started, or returns nil.
+func Ready() error {
+	if GolfGo == "" {
+		return errors.New("GOLF_GO names no program: it is the path of golf-go, which `go build ./cmd/golf-go` makes")
+	}
+	if _, err := exec.LookPath(GolfGo); err != nil {
+		return fmt.Errorf("GOLF_GO names no program that can be started: %w", err)
+	}
+	return nil
+}
+
+// quit ends the program, since golf-go cannot be started: no verdict would be one about the program that is judged.
+var quit = func(err error) {
+	fmt.Fprintln(os.Stderr, "golf-go cannot be started:", err)
+	os.Exit(6)
+}
+
+// stopped is the verdict of a run of golf-go that gave an error.
+func stopped(err error) *Verdict {
+	if !errors.Is(err, errNoEnd) {
+		quit(err)
+	}
+	return &Verdict{Stopped, err.Error()}
+}
+
 // Wanted runs golf-go on some words, and says whether the output is the one that is wanted, with status 0.
 func Wanted(want string, words ...string) Verdict {
 	got, v := golf(exec.Command(GolfGo, words...))
@@ -103,7 +116,7 @@ func Wanted(want string, words ...string) Verdict {
 		}
 	}
 	if out != want {
-		return Verdict{Different, difference(Shown{Out: want}, Shown{Out: out, End: got.End})}
+		return Verdict{Different, shown.Difference(Shown{Out: want, End: got.End}, Shown{Out: out, End: got.End}, byGolfGo)}
 	}
 	if got.End != "status 0" {
 		return Verdict{Different, got.End}
@@ -120,37 +133,47 @@ func ByGolf(want Shown, dir string, words ...string) Verdict {
 	case v != nil:
 		return *v
 	case got != want:
-		return Verdict{Different, difference(want, got)}
+		return Verdict{Different, shown.Difference(want, got, byGolfGo)}
 	}
 	return Verdict{Kind: Same}
 }
 
 // golf runs golf-go. A verdict says why there is nothing to compare.
 func golf(cmd *exec.Cmd) (Shown, *Verdict) {
-	out, errs, status, err := start(cmd)
-	if err != nil {
-		return Shown{}, &Verdict{Stopped, err.Error()}
+	out, errs, status, v := said(cmd)
+	if v != nil {
+		return Shown{}, v
 	}
-	got := Shown{Out: out}
-	var before []string
+	return shown.ByGolfGo(out, errs, status), nil
+}
+
+// Said runs golf-go on some words, and returns what it writes to its two outputs. A verdict says why there is nothing.
+func Said(words ...string) (out, errs string, v *Verdict) {
+	out, errs, _, v = said(exec.Command(GolfGo, words...))
+	return out, errs, v
+}
+
+// cannot is the status of golf-go if it cannot start golf, or cannot read the program.
+const cannot = 6
+
+// said runs golf-go. A verdict says that the program was refused, or has not ended.
+func said(cmd *exec.Cmd) (out, errs string, status int, v *Verdict) {
+	out, errs, status, err := start(cmd)
+	if err == nil && status == cannot && strings.HasPrefix(errs, "golf-go: ") && !strings.Contains(errs, "golf-go: os.Exit(") {
+		err = errors.New(strings.TrimSpace(errs))
+	}
+	if err != nil {
+		return "", "", 0, stopped(err)
+	}
 	for _, l := range strings.Split(errs, "\n") {
 		switch {
 		case strings.HasPrefix(l, "refused: "), strings.HasPrefix(l, "golf-go: not supported: "):
-			return Shown{}, &Verdict{Refused, l}
+			return "", "", 0, &Verdict{Refused, l}
 		case strings.HasPrefix(l, "stopped after "):
-			return Shown{}, &Verdict{Stopped, l}
-		case strings.HasPrefix(l, "panic: "), strings.HasPrefix(l, "fatal error: "):
-			got.End, _, _ = strings.Cut(l, " (goroutine ")
-		case ofGolfGo(l):
-		default:
-			before = append(before, l)
+			return "", "", 0, &Verdict{Stopped, l}
 		}
 	}
-	got.Errs = strings.TrimSpace(strings.Join(before, "\n"))
-	if got.End == "" {
-		got.End = ended(status, errs)
-	}
-	return got, nil
+	return out, errs, status, nil
 }
 
 // together is what a program writes to both outputs, in the order in which it does.
@@ -158,50 +181,20 @@ func together(cmd *exec.Cmd) (string, *Verdict) {
 	ctx, cancel := context.WithTimeout(context.Background(), limit)
 	defer cancel()
 	out, err := exec.CommandContext(ctx, cmd.Path, cmd.Args[1:]...).CombinedOutput()
-	if ctx.Err() != nil {
-		return "", &Verdict{Stopped, err.Error()}
+	var ee *exec.ExitError
+	switch {
+	case ctx.Err() != nil:
+		return "", stopped(errNoEnd)
+	case err != nil && !errors.As(err, &ee):
+		return "", stopped(err)
 	}
 	var own []string
 	for _, l := range strings.Split(string(out), "\n") {
-		if !ofGolfGo(l) {
+		if !shown.OfGolfGo(l) {
 			own = append(own, l)
 		}
 	}
 	return strings.TrimSpace(strings.Join(own, "\n")), nil
-}
-
-// ofGolfGo: golf-go says the line, and not the program.
-func ofGolfGo(l string) bool {
-	return strings.HasPrefix(l, "collection ") || strings.HasPrefix(l, "goroutine ") || strings.HasPrefix(l, "golf-go: ")
-}
-
-// ended is the status as that of the program itself: a report is none.
-func ended(status int, errs string) string {
-	if status == 1 && !strings.Contains(errs, "golf-go: os.Exit(1)") {
-		status = 0
-	}
-	return fmt.Sprint("status ", status)
-}
-
-// difference names the first line that differs.
-func difference(want, got Shown) string {
-	for _, pair := range [][2]string{{want.Out, got.Out}, {want.Errs, got.Errs}, {want.End, got.End}} {
-		a, b := strings.Split(pair[0], "\n"), strings.Split(pair[1], "\n")
-		for i := range max(len(a), len(b)) {
-			x, y := at(a, i), at(b, i)
-			if x != y {
-				return fmt.Sprintf("line %d: `%.70s`, by golf-go `%.90s`", i+1, x, y)
-			}
-		}
-	}
-	return ""
-}
-
-func at(list []string, i int) string {
-	if i < len(list) {
-		return list[i]
-	}
-	return ""
 }
 
 // Reason is a refusal without its place and its details.

@@ -40,6 +40,10 @@ var modules = [][2]string{
 
 func main() {
 	flag.Parse()
+	if _, err := exec.LookPath(os.Getenv("GOLF")); err != nil {
+		fmt.Fprintln(os.Stderr, "GOLF names no program that can be started:", err)
+		os.Exit(6)
+	}
 	if !*list {
 		fmt.Print("| package | Debian's version | tests | pass | refused | too many turns | fail |\n|---|---|---|---|---|---|---|\n")
 	}

@@ -58,3 +58,9 @@ returns-in-Some-clause-ok c =
       ),
       done-standing g c.args.acting.after line s st act h rest refl refl is,
     )
+
+pub returns-clause-ok : goal.returns-clause-ok
+returns-clause-ok c =
+    let ch = empty-channel c.args.zero (find c.args.object.0 c.args.state.now.objects) c.requires.empty in
+    let e = rw c.one-waits.ensures at c.in_ok-block_at.ensures.ok in
+    grind (arith, common_steps, e, ch.1, ch.2)

@@ -65,3 +65,6 @@ returns-in_err-buffer-clause-err c =
     (ap (λ (x : Object). record s { objects = put o x s.objects }) c.in_err-buffer.ensures.err
     ∙ ap (λ es. record s { objects = es })
     (put-same o 1 c.object_mut.result.now s.objects c.object_mut.ensures.rises c.object_mut.ensures.value))
+
+pub returns-clause-ok : goal.returns-clause-ok
+returns-clause-ok c = let e = rw c.one-waits.ensures at c.in_ok-block_at.ensures.ok in grind (arith, common_steps, e)

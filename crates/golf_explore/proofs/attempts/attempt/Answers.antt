@@ -3,7 +3,7 @@ use Rattle.std.proofs.lemmas.Option.{slice_get-get_or}
 use Rattle.golf_model.specs.State.{State, ending, start as start_of}
 use Rattle.golf_model.specs.Futures.{Leads}
 use Rattle.golf_explore_laws.specs.After.{after}
-use Rattle.golf_explore.proofs.Turns.{next-after, no-ending, no-finaliser}
+use Rattle.golf_explore.proofs.TurnLists.{next-after, no-ending, no-finaliser}
 use Rattle.golf_explore.proofs.Seekings.{goes-more}
 use Rattle.golf_explore.proofs.attempts.attempt.Goals as goal
 

@@ -2,7 +2,7 @@ use Rattle.std.proofs.Common.{◌≡◌, ℕ, ◌∷◌, ◌++◌, List, [], Non
 use Rattle.golf_model.specs.State.{State, ending}
 use Rattle.golf_model.specs.Futures.{Leads}
 use Rattle.golf_explore.specs.FrameLocalTurns.{HasSettled}
-use Rattle.golf_explore.proofs.Turns.{no-ending}
+use Rattle.golf_explore.proofs.TurnLists.{no-ending}
 use Rattle.golf_explore.proofs.Settled.{taken-one, taken-more, leads-after}
 use Rattle.golf_explore.proofs.frame_local_turns.take_and_settle.Goals as goal
 

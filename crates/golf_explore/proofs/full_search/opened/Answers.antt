@@ -10,5 +10,5 @@ returns c =
     let code = c.args.code.now in
     let new : List Visit = c.push.new.self.list in
     let pushed = subst (λ (vs : List Visit). HasPushed vs new c.in_ok-state.state None) c.in_ok-visits.ensures
-    c.in_ok-push.ensures in
+    c.in_ok-push.ensures.ok in
     visits-opened code new c.in_ok-state.state c.in_ok-state.ensures pushed (opening-well code)

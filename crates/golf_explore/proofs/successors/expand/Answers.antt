@@ -5,7 +5,7 @@ use Rattle.golf_explore.specs.declared.visits.Visit.{Visit}
 use Rattle.golf_explore_laws.specs.After.{after_all}
 use Rattle.golf_explore.specs.VisitLists.{IsPathTo, IsPathFor, HasChoices, HasExpanded}
 use Rattle.golf_explore.specs.Results.{Unless}
-use Rattle.golf_explore.proofs.Turns.{no-ending}
+use Rattle.golf_explore.proofs.TurnLists.{no-ending}
 use Rattle.golf_explore.proofs.Leading.{indexed, visited-end, path-for, choices-for, visited-all}
 use Rattle.golf_explore.proofs.successors.expand.Goals as goal
 

@@ -1,12 +1,13 @@
 use Rattle.std.proofs.Common.{◌≡◌, None, [], ◌++◌, sym, ap, ◌∙◌}
 use Rattle.golf_model.specs.State.{ending, not_empty, State}
-use Rattle.golf_explore.proofs.Turns.{no-ending, no-finaliser}
+use Rattle.golf_explore.proofs.TurnLists.{no-ending, no-finaliser}
 use Rattle.golf_explore.proofs.Seekings.{trail-shows}
 use Rattle.golf_explore.proofs.successors.judge.Goals as goal
 
 pub returns-then-has_finaliser : goal.returns-then-has_finaliser
 returns-then-has_finaliser c = (
   c.args.path.now ++ c.args.numbers.now,
+  c.requires.trail.goes_on,
   ap (λ (s : State). not_empty s.finalisers) (sym c.requires.trail.led) ∙ sym c.has_finaliser.ensures
       ∙ c.if-has_finaliser.true,
 )

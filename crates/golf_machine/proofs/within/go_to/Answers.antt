@@ -3,8 +3,9 @@ use Rattle.golf_machine.proofs.within.go_to.Goals as goal
 
 pub returns : goal.returns
 returns c = rw (
+  c.truncate.ensures.slots,
   c.truncate.ensures.items,
   c.saturating_sub-keep.ensures,
-  c.len.ensures,
-  reverse-take c.args.taken c.args.frame.now.operands.items,
+  c.operand_count.ensures,
+  reverse-take c.args.taken c.args.frame.now.values.operands,
 )

@@ -528,7 +528,7 @@ func Number(t *Text, base int, upper, plus, space, sharp bool, prec int) *Text {
 
 // Unicode is U+0041, and with sharp the character too.
 func Unicode(x int, sharp bool) *Text {
-	t := Join(Const("U+", 2), Pad(Base(x, 16, true), 4, false, true))
+	t := Join(Const("U+", 2), Pad(WideBase(x, 16, true), 4, false, true))
 	if sharp {
 		t = Concat(t, Const(" '", 2), OfRune(x), Const("'", 1))
 	}

@@ -32,9 +32,11 @@ func nilPanic() any { return &PanicNilError{} }
 
 type PanicNilError struct{ _ int }
 
-func (*PanicNilError) Error() string {
-	return "panic called with nil argument (use GODEBUG=panicnil=1 to disable)"
-}
+func (*PanicNilError) Error() string { return panicNil() }
+
+// panicNil is the text of the Go that is installed; it is lowered where it is called.
+func panicNil() string
+
 func (*PanicNilError) RuntimeError() {}
 
 type fault struct{ text string }

@@ -12,6 +12,7 @@ type event struct {
 	wake   chan struct{} // closed
 	times  chan Time     // gets the time, if there is room
 	f      func()        // started
+	call   int           // the number of the call of AfterFunc that has given it
 	period int64         // of a ticker
 	moment *moment       // in which it is queued
 	prev   *event        // of the same moment
@@ -118,8 +119,9 @@ func start(e *event, d Duration) {
 }
 
 // These are lowered where they are called.
-func loose() bool // the loose clock is asked for
-func quiet()      // waits until all other goroutines wait
+func loose() bool               // the loose clock is asked for
+func quiet()                    // waits until all other goroutines wait
+func launch(call int, f func()) // starts f, at the line of the call
 
 // clock lets time pass.
 func clock() {
@@ -193,7 +195,7 @@ func fire(e *event) {
 		}
 	}
 	if e.f != nil {
-		go run(e.f)
+		launch(e.call, e.f)
 	}
 	if e.period > 0 {
 		e.at = now + e.period

@@ -40,10 +40,11 @@ func Sleep(d Duration) {
 
 // Timer has no channel if it starts a function.
 type Timer struct {
-	C <-chan Time
-	c chan Time
-	f func()
-	e *event
+	C    <-chan Time
+	c    chan Time
+	f    func()
+	call int
+	e    *event
 }
 
 func NewTimer(d Duration) *Timer {
@@ -53,8 +54,11 @@ func NewTimer(d Duration) *Timer {
 	return t
 }
 
-func AfterFunc(d Duration, f func()) *Timer {
-	t := &Timer{f: f, e: &event{f: f}}
+func AfterFunc(d Duration, f func()) *Timer { return afterFunc(d, f, 0) }
+
+// afterFunc is AfterFunc at the call of this number in the user's files, 0 for a call elsewhere.
+func afterFunc(d Duration, f func(), call int) *Timer {
+	t := &Timer{f: f, call: call, e: &event{f: f, call: call}}
 	start(t.e, d)
 	return t
 }
@@ -78,7 +82,7 @@ func (t *Timer) Stop() bool {
 
 func (t *Timer) Reset(d Duration) bool {
 	was := t.Stop()
-	t.e = &event{times: t.c, f: t.f}
+	t.e = &event{times: t.c, f: t.f, call: t.call}
 	start(t.e, d)
 	return was
 }

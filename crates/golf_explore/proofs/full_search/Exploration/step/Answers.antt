@@ -1,4 +1,4 @@
-use Rattle.std.proofs.Common.{◌≡◌, ◌≤◌, ◌<◌, List, length, sym, subst, ◌∙◌, arith}
+use Rattle.std.proofs.Common.{◌≡◌, List, length, sym, subst, ◌∙◌, arith}
 use Rattle.golf_explore.specs.declared.visits.Edge.{Edge}
 use Rattle.golf_explore.specs.declared.visits.Visit.{Visit}
 use Rattle.golf_explore.specs.Ranks.{HaveRanks}

@@ -15,7 +15,7 @@ use Rattle.golf_state.specs.Enqueued.{AreEnqueued}
 use Rattle.golf_state.specs.Looked.{on_goroutine, advanced}
 use Rattle.golf_state_goroutines.specs.Goroutines.{Goroutines}
 use Rattle.golf_state_goroutines.specs.Places.{plain_entries}
-use Rattle.golf_state.specs.Roominess.{HasRoom, IsReadyIn}
+use Rattle.golf_state_goroutines.specs.Roominess.{HasRoom, IsReadyIn}
 use Rattle.golf_state.proofs.EnqueuedLaws.{enqueued-blocked, enqueued-joined}
 use Rattle.golf_state.proofs.PlaceLaws.{put-same, none-there, lent-found, lent-ready, lent-set, lent-kept, runs-same}
 use Rattle.golf_state.proofs.PlaceLaws.{runs-blocked}

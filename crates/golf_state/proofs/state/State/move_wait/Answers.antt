@@ -9,7 +9,7 @@ use Rattle.golf_model.specs.Changes.{moved, move_wait}
 use Rattle.golf_state.specs.Inside.{plain_state}
 use Rattle.golf_state.specs.Looked.{on_goroutine, is_blocked}
 use Rattle.golf_state_goroutines.specs.Places.{plain_entries}
-use Rattle.golf_state.specs.Roominess.{IsReadyIn}
+use Rattle.golf_state_goroutines.specs.Roominess.{IsReadyIn}
 use Rattle.golf_state.specs.Left.{leaves_in}
 use Rattle.golf_state.specs.Enqueued.{AreEnqueued}
 use Rattle.golf_state_queues.proofs.Partings.{below-without}

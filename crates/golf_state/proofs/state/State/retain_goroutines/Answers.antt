@@ -8,7 +8,7 @@ use Rattle.golf_model.specs.Views.{GoroutineView}
 use Rattle.golf_model.specs.State.{State}
 use Rattle.golf_state.specs.Inside.{plain_state}
 use Rattle.golf_state_goroutines.specs.Places.{plain_entry, plain_entries}
-use Rattle.golf_state.specs.Ready.{AllReady}
+use Rattle.golf_state_goroutines.specs.Ready.{AllReady}
 use Rattle.golf_state.specs.Enqueued.{AreEnqueued}
 use Rattle.golf_data.specs.declared.goroutine.Goroutine.{Goroutine}
 use Rattle.golf_theory.proofs.Ranks.{Rises-kept, AllBelow-kept}

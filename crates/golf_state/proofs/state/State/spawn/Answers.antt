@@ -10,7 +10,8 @@ use Rattle.golf_state_goroutines.specs.Goroutines.{Goroutines}
 use Rattle.golf_state_goroutines.specs.Places.{plain_entries, running_of}
 use Rattle.golf_state.specs.Enqueued.{AreEnqueued}
 use Rattle.golf_state.proofs.EnqueuedLaws.{enqueued-spawned}
-use Rattle.golf_state.proofs.PlaceLaws.{push-at, there-add, runs-spawned, number-of, under-next}
+use Rattle.golf_state_goroutines.proofs.PlaceLaws.{under-next}
+use Rattle.golf_state.proofs.PlaceLaws.{push-at, there-add, runs-spawned, number-of}
 use Rattle.golf_state.proofs.Readiness.{ready-push, running-ready}
 use Rattle.golf_state.proofs.state.State.spawn.Goals as goal
 

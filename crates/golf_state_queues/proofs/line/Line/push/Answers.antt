@@ -18,12 +18,12 @@ invariant_of-self-2 c =
     record {
       within = omega (
         arith,
-        ap (λ (hs : List TicketHolder). length hs) c.in_ok-push.ensures.items,
+        ap (λ (hs : List TicketHolder). length hs) c.in_ok-push.ensures.ok,
         length-append xs (h ∷ []),
         c.self.invariant.within,
       );
       rises = subst (λ (hs : List TicketHolder). Rises 0 (spots hs))
-          (sym (ap (λ (hs : List TicketHolder). drop f hs) c.in_ok-push.ensures.items ∙ new))
+          (sym (ap (λ (hs : List TicketHolder). drop f hs) c.in_ok-push.ensures.ok ∙ new))
           (subst (Rises 0) (sym (spots-push (drop f xs) h))
           (Rises-add 0 h.ticket h.goroutine.0 (spots (drop f xs)) (omega arith) below c.self.invariant.rises));
     }

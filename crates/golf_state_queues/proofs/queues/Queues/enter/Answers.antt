@@ -14,18 +14,18 @@ pub join-requires : goal.join-requires
 join-requires c =
     let qs = c.self.inside.queues.items in
     let k = key c.args.object.0 c.args.side in
-    let q = queue-there qs c.as_slice.result.now c.as_slice-2.result.now k c.key_of-key.result c.rank_of-at.result
+    let q = queue-there qs c.as_slice.result.now c.as_slice-2.result.now k c.key_of-key.result c.place_of-at.result
     c.stands_at.result c.as_slice.ensures.value c.as_slice-2.ensures.value c.key_of-key.ensures
-    c.rank_of-at.ensures.place c.stands_at.ensures c.self.invariant c.if-stands_at.true in
-    rises-there qs k c.rank_of-at.result c.index_mut.result.now q c.index_mut.ensures.value c.self.invariant
+    c.place_of-at.ensures.place c.stands_at.ensures c.self.invariant c.if-stands_at.true in
+    rises-there qs k c.place_of-at.result c.index_mut.result.now q c.index_mut.ensures.value c.self.invariant
 
 -- ---- there is a queue of the key
 
 there : (c : goal.After-self-1) → QueueAt c.self.inside.queues.items
-    (key c.args.object.0 c.args.side) c.rank_of-at.result
+    (key c.args.object.0 c.args.side) c.place_of-at.result
 there c = queue-there c.self.inside.queues.items c.as_slice.result.now c.as_slice-2.result.now
-    (key c.args.object.0 c.args.side) c.key_of-key.result c.rank_of-at.result c.stands_at.result
-    c.as_slice.ensures.value c.as_slice-2.ensures.value c.key_of-key.ensures c.rank_of-at.ensures.place
+    (key c.args.object.0 c.args.side) c.key_of-key.result c.place_of-at.result c.stands_at.result
+    c.as_slice.ensures.value c.as_slice-2.ensures.value c.key_of-key.ensures c.place_of-at.ensures.place
     c.stands_at.ensures c.self.invariant c.if-stands_at.true
 
 abbrev with-holders : (c : goal.After-self-1) → Queue
@@ -37,18 +37,18 @@ with-holders c = record {
 
 -- its queue with the goroutine
 has-joined : (c : goal.After-self-1) → Rewritten c.self.inside.queues.items
-    (slice_set c.self.inside.queues.items c.rank_of-at.result (with-holders c)) (key c.args.object.0 c.args.side)
+    (slice_set c.self.inside.queues.items c.place_of-at.result (with-holders c)) (key c.args.object.0 c.args.side)
     (held c.join.new.holders)
 has-joined c =
     let p = c.index_mut.result.now in
-    rewritten c.self.inside.queues.items (key c.args.object.0 c.args.side) c.rank_of-at.result p (with-holders c)
+    rewritten c.self.inside.queues.items (key c.args.object.0 c.args.side) c.place_of-at.result p (with-holders c)
     (there c) c.index_mut.ensures.value refl refl c.self.invariant c.join.ensures.rises
 
 -- the queue as it was
 was : (c : goal.After-self-1) → held c.index_mut.result.now.holders ≡ wait_queue_at (key c.args.object.0 c.args.side)
     (wait_queues_of c.self.inside.queues.items)
 was c = holders-was c.self.inside.queues.items
-    (key c.args.object.0 c.args.side) c.rank_of-at.result c.index_mut.result.now (there c) c.index_mut.ensures.value
+    (key c.args.object.0 c.args.side) c.place_of-at.result c.index_mut.result.now (there c) c.index_mut.ensures.value
 
 pub invariant_of-self : goal.invariant_of-self
 invariant_of-self c = (has-joined c).order
@@ -97,8 +97,8 @@ returns-then-stands_at-clause-below c =
 absent : (c : goal.In_ok-insert) → find (key c.args.object.0 c.args.side) (wait_queues_of c.self.inside.queues.items)
     ≡ None
 absent c = queue-absent c.self.inside.queues.items c.as_slice.result.now c.as_slice-2.result.now
-    (key c.args.object.0 c.args.side) c.key_of-key.result c.rank_of-at.result c.stands_at.result
-    c.as_slice.ensures.value c.as_slice-2.ensures.value c.key_of-key.ensures c.rank_of-at.ensures.place
+    (key c.args.object.0 c.args.side) c.key_of-key.result c.place_of-at.result c.stands_at.result
+    c.as_slice.ensures.value c.as_slice-2.ensures.value c.key_of-key.ensures c.place_of-at.ensures.place
     c.stands_at.ensures c.self.invariant c.if-stands_at.false
 
 -- a queue of the goroutine
@@ -107,11 +107,11 @@ is-new : (c : goal.In_ok-insert) → Rewritten c.self.inside.queues.items c.inse
 is-new c =
     let qs = c.self.inside.queues.items in
     let k = key c.args.object.0 c.args.side in
-    let place = place-is qs c.as_slice.result.now k c.key_of-key.result c.rank_of-at.result c.as_slice.ensures.value
-    c.key_of-key.ensures c.rank_of-at.ensures.place in
+    let place = place-is qs c.as_slice.result.now k c.key_of-key.result c.place_of-at.result c.as_slice.ensures.value
+    c.key_of-key.ensures c.place_of-at.ensures.place in
     let r : Queue = record { object = c.args.object; side = c.args.side; holders = c.join-2.new.holders } in
-    let is : c.insert.new.self.items ≡ insert_item qs c.rank_of-at.result r = search rules in
-    inserted qs c.insert.new.self.items k c.rank_of-at.result r
+    let is : c.insert.new.self.items ≡ insert_item qs c.place_of-at.result r = search rules in
+    inserted qs c.insert.new.self.items k c.place_of-at.result r
     (absent c) place is refl c.self.invariant c.join-2.ensures.rises
 
 nobody-was : (c : goal.In_ok-insert) → wait_queue_at (key c.args.object.0 c.args.side)
@@ -147,7 +147,7 @@ returns-clause-only c =
     (adds-changed c.args.ticket c.args.goroutine.0 (key c.args.object.0 c.args.side) es
     (wait_queues_of c.self.inside.queues.items) (wait_queues_of c.insert.new.self.items) (is-new c).changed
     (subst (λ (fs : List (ℕ × ℕ)). AddsOnlyIn c.args.ticket c.args.goroutine.0 fs es)
-    (ap held c.in_ok-holders.ensures ∙ sym (nobody-was c)) c.join-2.ensures.only))
+    (ap held c.new-holders.ensures ∙ sym (nobody-was c)) c.join-2.ensures.only))
 
 pub returns-clause-below : goal.returns-clause-below
 returns-clause-below c =

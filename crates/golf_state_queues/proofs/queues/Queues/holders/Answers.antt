@@ -12,20 +12,20 @@ pub index-requires : goal.index-requires
 index-requires c =
     let qs = c.self.inside.queues.items in
     let k = key c.args.object.0 c.args.side in
-    let q = queue-there qs c.as_slice.result.now c.as_slice-2.result.now k c.key_of-key.result c.rank_of-at.result
+    let q = queue-there qs c.as_slice.result.now c.as_slice-2.result.now k c.key_of-key.result c.place_of-at.result
     c.stands_at.result c.as_slice.ensures.value c.as_slice-2.ensures.value c.key_of-key.ensures
-    c.rank_of-at.ensures.place c.stands_at.ensures c.self.invariant c.if-stands_at.true in
-    omega (arith, slice_get_within qs c.rank_of-at.result q.queue q.here, c.self.inside.queues.ok.0)
+    c.place_of-at.ensures.place c.stands_at.ensures c.self.invariant c.if-stands_at.true in
+    omega (arith, slice_get_within qs c.place_of-at.result q.queue q.here, c.self.inside.queues.ok.0)
 
 pub returns-then-stands_at-clause-holders : goal.returns-then-stands_at-clause-holders
 returns-then-stands_at-clause-holders c =
     let qs = c.self.inside.queues.items in
     let k = key c.args.object.0 c.args.side in
-    let q = queue-there qs c.as_slice.result.now c.as_slice-2.result.now k c.key_of-key.result c.rank_of-at.result
+    let q = queue-there qs c.as_slice.result.now c.as_slice-2.result.now k c.key_of-key.result c.place_of-at.result
     c.stands_at.result c.as_slice.ensures.value c.as_slice-2.ensures.value c.key_of-key.ensures
-    c.rank_of-at.ensures.place c.stands_at.ensures c.self.invariant c.if-stands_at.true in
+    c.place_of-at.ensures.place c.stands_at.ensures c.self.invariant c.if-stands_at.true in
     let same : c.index.result.now ≡ q.queue = c.index.ensures
-    ∙ get_or_from_slice_get qs c.rank_of-at.result q.queue c.index.result.now q.here in
+    ∙ get_or_from_slice_get qs c.place_of-at.result q.queue c.index.result.now q.here in
     rw (← c.self.view_is)
     (ap (λ (hs : List TicketHolder). held hs) c.as_slice-then-stands_at.ensures.value
     ∙ ap (λ (r : Queue). held r.holders) same ∙ ap wait_queue_in (sym q.found))
@@ -34,9 +34,9 @@ pub returns-else-stands_at-clause-holders : goal.returns-else-stands_at-clause-h
 returns-else-stands_at-clause-holders c =
     let qs = c.self.inside.queues.items in
     let k = key c.args.object.0 c.args.side in
-    let none = queue-absent qs c.as_slice.result.now c.as_slice-2.result.now k c.key_of-key.result c.rank_of-at.result
+    let none = queue-absent qs c.as_slice.result.now c.as_slice-2.result.now k c.key_of-key.result c.place_of-at.result
     c.stands_at.result c.as_slice.ensures.value c.as_slice-2.ensures.value c.key_of-key.ensures
-    c.rank_of-at.ensures.place c.stands_at.ensures c.self.invariant c.if-stands_at.false in
+    c.place_of-at.ensures.place c.stands_at.ensures c.self.invariant c.if-stands_at.false in
     rw (← c.self.view_is) (sym (ap wait_queue_in none))
 
 pub returns-then-stands_at-clause-rises : goal.returns-then-stands_at-clause-rises

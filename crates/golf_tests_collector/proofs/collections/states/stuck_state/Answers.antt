@@ -1,9 +1,8 @@
-use Rattle.std.proofs.Common.{◌≡◌, List, [], ◌∷◌, ◌++◌, sym, ap, ◌∙◌, subst}
-use Rattle.golf_data.specs.declared.goroutine.Wait.{Wait}
+use Rattle.std.proofs.Common.{◌≡◌, sym, ap, subst}
 use Rattle.golf_model.specs.Futures.{Numbered}
 use Rattle.golf_model.specs.Views.{frame_views}
 use Rattle.golf_model.specs.Presence.{IsWhole}
-use Rattle.golf_tests_collector.proofs.StuckStates.{stuck, stuck-is, stuck-numbered, stuck-whole, receive_from}
+use Rattle.golf_tests_collector.proofs.StuckStates.{stuck, stuck-is, stuck-numbered, stuck-whole}
 use Rattle.golf_tests_collector.proofs.collections.states.stuck_state.Goals as goal
 
 made : (c : goal.In_ok-block) → c.block.new.self ≡ stuck
@@ -13,8 +12,7 @@ made c =
       no_first = ap frame_views c.new-first.ensures;
       no_second = ap frame_views c.new-second.ensures;
       no_buffer = c.new-buffer.ensures;
-      one_wait = c.in_ok-push.ensures.ok ∙ ap
-          (λ (ws : List Wait). ws ++ receive_from c.in_ok-channel.channel.0 ∷ []) c.new-waits.ensures;
+      one_wait = c.one.ensures;
       opened = c.in_ok-state.ensures;
       channel = c.in_ok-channel.ensures.ok;
       object = c.in_ok-channel.ensures.number;

@@ -1,0 +1,6 @@
+package main
+
+func main() {
+	a, b := &[2]int{}, &[2]int{}
+	println(a == b)
+}
