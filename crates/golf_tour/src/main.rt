@@ -2,7 +2,8 @@
 //! collection.
 //!
 //! It reads the file from standard input and runs it in rotation, by the calls that `golf` makes. `checks/tour.py` puts
-//! what it prints into `docs/TOUR.md`. No clause says what it prints.
+//! what it prints into `docs/TOUR.md`. Of the tree it tells the forms of `examples/leak.go`, and each other one as
+//! `Other`. No clause says what it prints.
 #![tactic(auto)]
 
 mod collection;

@@ -7,6 +7,3 @@ decreases-tell_expr l = 8 * size-Expr l.e.now
 
 abbrev pub decreases-tell_exprs : goal.decreases-tell_exprs
 decreases-tell_exprs l = 8 * goal.size-tell_exprs l + 1
-
-abbrev pub decreases-tell_elements : goal.decreases-tell_elements
-decreases-tell_elements l = 8 * goal.size-tell_elements l + 1
