@@ -16,7 +16,10 @@ fn counts_on(alloc: Global) -> Result<bool, Memory> {
     let second = heap.make(Object::Mutex(true))?;
     let numbers = first == ObjectId(1) && second == ObjectId(2) && heap.last() == 2;
     let left = !heap.holds(first) && heap.count() == 1;
-    Ok(there && numbers && left && heap.rank(second) == 0)
+    if heap.count() == 0 {
+        return Ok(false);
+    }
+    Ok(there && numbers && left && heap.rank(second) == 0 && heap.at(0) == second)
 }
 
 #[test]

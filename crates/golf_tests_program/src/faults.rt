@@ -1,7 +1,7 @@
 //! Tests of streams that fail, and of words that are no command line.
 
 use crate::calls::{Ends, Row, expect_ends, expect_failing, expect_usage};
-use crate::runs::basic::{EMPTY_MAIN, LEAK};
+use crate::runs::basic::{EMPTY_MAIN, LEAK, LITERALS};
 use crate::runs::worked::{POOL, POOL_ERRORS, POOL_OUT, POOL_RECOVERED};
 use golf_run_texts::{READ_FAULT, Status};
 use std::process::Abort;
@@ -92,8 +92,47 @@ fn with_recovery_each_call_of_a_sink_that_fails_cuts_its_text(rt: HostRuntime) -
     fails_to_report(&rt, "run --recover", POOL_RECOVERED)
 }
 
+// A read that fails in mid-stream.
+const FAILED_READ: [(Ends, Row); 1] = [(
+    Ends {
+        most: 4,
+        source: 2,
+        out: 0,
+        err: 0,
+    },
+    Row {
+        shows: "the second read of an empty main fails",
+        line: "run",
+        file: EMPTY_MAIN,
+        status: Status::ReadFault,
+        out: "",
+        err: "read fault\n",
+    },
+)];
+
+#[test]
+fn a_read_that_fails_is_told_alone(rt: HostRuntime) -> Result<(), Fail> {
+    expect_failing(&rt, &FAILED_READ)
+}
+
 // The texts that are left after a failed write.
-const FAILED_WRITES: [(Ends, Row); 6] = [
+const FAILED_WRITES: [(Ends, Row); 7] = [
+    (
+        Ends {
+            most: 4,
+            source: 0,
+            out: 2,
+            err: 0,
+        },
+        Row {
+            shows: "the second write of printed literals fails",
+            line: "run",
+            file: LITERALS,
+            status: Status::WriteFault,
+            out: "1 tr",
+            err: "",
+        },
+    ),
     (
         Ends {
             most: 4,

@@ -2,7 +2,7 @@
 
 use crate::calls::{Outcome, Row, expect_rows, run_with};
 use crate::rounds::RoundGate;
-use crate::runs::basic::TWO_ROUNDS;
+use crate::runs::reasons::TWO_ROUNDS;
 use crate::runs::worked::{CYCLE, CYCLE_ERRORS, FINALISED_HELD};
 use golf_base::Gate;
 use golf_run_texts::Status;

@@ -6,7 +6,7 @@ use golf_run_texts::Status;
 use std::test::Fail;
 
 /// A global channel wakes goroutine 2, which holds the channel that wakes goroutine 3.
-const TWO_ROUNDS: &str = "\
+pub const TWO_ROUNDS: &str = "\
     package main\n\
     import \"runtime\"\n\
     var c1 = make(chan int)\n\
