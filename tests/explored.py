@@ -8,8 +8,9 @@
 
 `compare` looks at the status, whether a run leaks, whether a run panics or falls asleep, and whether each run ends. The
 model looks at each turn of each state for these. The number of states is that of the model if frame-local turns follow
-each turn; with `--any-states` it may differ. The choices of a leak are replayed by the model, and with `--golf` by that
-program too. `search` must find a leak exactly when the model does, with as few preemptions, or keep as many states.
+each turn and alike states count as one; with `--any-states` it may differ. The choices of a leak are replayed by the
+model, and with `--golf` by that program too. `search` must find a leak exactly when the model does, with as few
+preemptions, or keep as many states.
 
 `check` runs the model and `golf run --every 1` on five schedules of each program. It compares output, reports,
 collections, endings and statuses turn by turn. For each line that a report can have in the model, it runs a shortest

@@ -220,17 +220,20 @@ def always_ends(explored):
 
 
 class Settled:
-    """The states that a search keeps if frame-local turns follow each turn, at most MOST_LOCAL_TURNS on end."""
+    """The states that a search keeps if frame-local turns follow each turn, at most MOST_LOCAL_TURNS on end.
+
+    Alike states count as one: they differ in the numbers of goroutines and in tickets alone."""
 
     def __init__(self, explored):
-        self.explored = explored
+        self.explored, self.entries, self.looks = explored, Numbered(), {}
         queue = explored.queue[:1]
-        seen = set(queue)
+        seen = {self.key(queue[0])}
         for state in queue:
             for after in explored.successors(state):
                 after = self.settle(after)
-                if after not in seen:
-                    seen.add(after)
+                key = self.key(after)
+                if key not in seen:
+                    seen.add(key)
                     queue.append(after)
         self.states = len(queue)
 
@@ -240,6 +243,24 @@ class Settled:
             return state
         goroutines = tuple([explored.after_frame_locals(number) for number in state[2]])
         return state[:2] + (goroutines,) + state[3:]
+
+    def look(self, name):
+        """Returns the number of an entry without number and ticket, the ticket, and the objects on which it waits."""
+        if name not in self.looks:
+            number, frames, mode, started = self.explored.goroutines.things[name]
+            entry = self.entries.number((number == 1, frames, mode and mode[:3], started))
+            waits = [wait[0] for wait in mode[2]] if mode else []
+            self.looks[name] = (entry, mode[3] if mode else 0, waits)
+        return self.looks[name]
+
+    def key(self, state):
+        """Returns what alike states share."""
+        how = self.explored.ending(state)
+        looks = [self.look(name) for name in state[2]]
+        waiters = sorted((number, ticket, entry) for entry, ticket, waits in looks for number in waits)
+        ending = how and how[:2] + how[3:]
+        entries = tuple(sorted(entry for entry, ticket, waits in looks))
+        return state[:2] + (entries, tuple((number, entry) for number, ticket, entry in waiters), ending)
 
 
 # ---- a search by preemptions

@@ -7,10 +7,10 @@ use Rattle.golf_theory.specs.Membership.{In}
 use Rattle.golf_theory.proofs.Lists.{In-cases, In-slice_get}
 use Rattle.golf_data.specs.declared.code.Code.{Code}
 use Rattle.golf_model.specs.State.{State, ending, start}
-use Rattle.golf_explore_laws.specs.After.{after_all}
-use Rattle.golf_explore_laws.specs.Closed.{after_turn, IsTurn, IsPlain, SettlesBelow}
-use Rattle.golf_explore_laws.specs.Laws.{AlwaysEnds}
-use Rattle.golf_explore_laws.proofs.MainLaws.{ranked_lists_always_end}
+use Rattle.golf_explore_laws.specs.Closed.{after_turn, IsTurn, IsPlain}
+use Rattle.golf_explore_laws.specs.Laws.{AlwaysEnds, IsLocalOrAlike}
+use Rattle.golf_explore_laws.specs.StandIns.{last_from, ReachesBelow}
+use Rattle.golf_explore_laws.proofs.MainLaws.{alike_ranked_lists_end}
 use Rattle.golf_explore.specs.declared.visits.Edge.{Edge}
 use Rattle.golf_explore.specs.declared.visits.Visit.{Visit}
 use Rattle.golf_explore.specs.Ranks.{SettlesBy, LeadsLower, AreLower, Fall}
@@ -18,6 +18,7 @@ use Rattle.golf_explore.specs.VisitLists.{states, AreVisits, AreDone}
 use Rattle.golf_explore.proofs.Growing.{states-length, get-within}
 use Rattle.golf_explore.proofs.Leading.{below-or-last}
 use Rattle.golf_explore.proofs.Parents.{some-same}
+use Rattle.golf_explore.proofs.Standing.{reaches}
 use Rattle.golf_explore.proofs.Seekings.{take-next}
 
 -- ---- places
@@ -106,27 +107,28 @@ module _ (code : Code) (vs : List Visit) (edges : List (List Edge)) (are : AreVi
 
   -- by an edge that falls
   settles-below : (s : State) (rank : ℕ) (es : List Edge) → AreLower ranks rank es → SettlesBy code (states vs) es s
-      → (lower : ℕ) × (lower < rank) × SettlesBelow code ranked s lower
+      → (lower : ℕ) × (lower < rank) × ReachesBelow (IsLocalOrAlike code) ranked s lower
   settles-below s rank es lower by =
       let e = by.0 in
-      let at = by.2 in
+      let at = reaches code (states vs) e s by.2 in
       let low = lower e by.1 in
-      let turns = at.1 in
+      let few = at.few in
       let sum = low.2 in (
-        length at.0 + low.0,
-        omega (arith, turns, sum),
+        length at.ts + low.0,
+        omega (arith, few, sum),
         (
-          at.0,
+          at.ts,
           low.0,
           omega arith,
-          at.2,
-          pairs-put (states vs) ranks e.to (after_all code s at.0) low.0 at.3 low.1,
+          at.are,
+          pairs-put (states vs) ranks e.to (last_from s at.ts) low.0 at.stands low.1,
         ),
       )
 
   turn-falls : (s : State) (rank : ℕ) → In (s, rank) ranked → ending s ≡ None → (place choice : ℕ)
       → IsTurn code s place choice
-      → (lower : ℕ) × (lower < rank) × SettlesBelow code ranked (after_turn code s place choice) lower
+      → (lower : ℕ) × (lower < rank)
+      × ReachesBelow (IsLocalOrAlike code) ranked (after_turn code s place choice) lower
   turn-falls s rank i goes place choice t =
       let p = pairs-get (states vs) ranks s rank i in
       let es = edges-at p.0 s p.1 in
@@ -144,9 +146,11 @@ module _ (code : Code) (vs : List Visit) (edges : List (List Edge)) (are : AreVi
   always-ends =
       let o = In-get (states vs) (start code) are.opening in
       let es = edges-at o.0 (start code) o.2 in
-      let f = falls o.0 es.0 es.1 in
-      ranked_lists_always_end code ranked f.0 (record {
-        opening = ([], f.0, omega arith, tt, pairs-put (states vs) ranks o.0 (start code) f.0 o.2 f.1);
-        plain = plain;
-        falls = turn-falls;
-      })
+      let f = falls o.0 es.0 es.1 in (
+        f.0,
+        alike_ranked_lists_end code ranked f.0 (record {
+          opening = ([], f.0, omega arith, tt, pairs-put (states vs) ranks o.0 (start code) f.0 o.2 f.1);
+          plain = plain;
+          falls = turn-falls;
+        }),
+      )

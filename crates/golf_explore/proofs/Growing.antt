@@ -13,6 +13,7 @@ use Rattle.golf_explore_laws.proofs.Visiting.{silent-dead}
 use Rattle.golf_explore.specs.declared.visits.Came.{Came}
 use Rattle.golf_explore.specs.declared.visits.Edge.{Edge}
 use Rattle.golf_explore.specs.declared.visits.Visit.{Visit}
+use Rattle.golf_explore.specs.AlikeStates.{SameOrAlike}
 use Rattle.golf_explore.specs.Ranks.{SettlesAt, SettlesBy}
 use Rattle.golf_explore.specs.VisitLists.{states, LeadsTo, IsNext, IsFrom, IsWell, AreVisits, VisitsGrow, HasPushed}
 use Rattle.golf_explore.specs.VisitLists.{EdgesGrow}
@@ -87,7 +88,7 @@ module _ (old new : List Visit) (g : VisitsGrow old new) where
   grown-get i s h = ap (λ (xs : List State). slice_get xs i) grown ∙ get-left (states old) (states g.0) i s h
 
   grown-at : (code : Code) (e : Edge) (s : State) → SettlesAt code (states old) e s → SettlesAt code (states new) e s
-  grown-at code e s h = (h.0, h.1, h.2, grown-get e.to (after_all code s h.0) h.3)
+  grown-at code e s h = (h.0, h.1, h.2, h.3, grown-get e.to h.1 h.4, h.5)
 
   -- so do the edges
   pub grown-by : (code : Code) (before now : List Edge) → EdgesGrow before now → (s : State)
@@ -187,9 +188,17 @@ module _ (code : Code) (t : State) (number : ℕ) (s : State) (numbers : List �
 
   -- the edge to it
   module _ (old new : List Visit) (grows : VisitsGrow old new) (are : AreVisits code new) (e : Edge)
-      (stands : slice_get (states new) e.to ≡ Some (silent s)) (turns : e.turns ≡ length numbers) where
+      (v : State) (stands : slice_get (states new) e.to ≡ Some v) (same : SameOrAlike (silent s) v)
+      (turns : e.turns ≡ length numbers) where
     settles : SettlesAt code (states new) e u
-    settles = (taken.more, ap length (sym taken.are) ∙ sym turns, taken.local, stands ∙ ap Some quiet)
+    settles = (
+      taken.more,
+      v,
+      ap length (sym taken.are) ∙ sym turns,
+      taken.local,
+      stands,
+      subst (λ (w : State). SameOrAlike w v) quiet same,
+    )
 
     pub added-by : (before now : List Edge) → now ≡ before ++ e ∷ [] → HasAdded code old new before now u
     added-by before now adds = record { grows = grows; visits = are; edge = e; adds = adds; has = settles }

@@ -2,8 +2,8 @@
 -- For: `Exploration` and `opened`, src/full_search.rt; `has_panic` and `has_sleep`, src/endings.rt; `TellsSearch`,
 -- specs/Results.antt
 -- By: the laws of closed lists, and induction over the list of visits
-use Rattle.std.proofs.Common.{◌≡◌, ℕ, zero, suc, ◌<◌, List, [], ◌∷◌, ◌++◌, length, Bool, true, false, Option, Some}
-use Rattle.std.proofs.Common.{None, Result, Ok, Err, IfOk, slice_get, inl, inr, refl, sym, ap, ◌∙◌, subst, arith}
+use Rattle.std.proofs.Common.{◌≡◌, ℕ, ◌<◌, ◌==◌, List, [], ◌∷◌, length, Bool, true, false, Option, Some}
+use Rattle.std.proofs.Common.{None, Result, Ok, Err, IfOk, slice_get, inl, inr, refl, sym, ap, ◌∙◌, arith}
 use Rattle.std.proofs.lemmas.Bool.{or_parts}
 use Rattle.golf_theory.specs.Membership.{In}
 use Rattle.golf_theory.proofs.Lists.{In-slice_get}
@@ -12,19 +12,19 @@ use Rattle.golf_data.specs.declared.code.Code.{Code}
 use Rattle.golf_data.specs.declared.goroutine.Ending.{Ending}
 use Rattle.golf_model.specs.State.{State, ending, start}
 use Rattle.golf_model.specs.LiveSet.{live_list}
-use Rattle.golf_explore_laws.specs.After.{silent, after_all}
-use Rattle.golf_explore_laws.specs.Closed.{after_turn, IsTurn, SettlesIn, IsClosed, NoneDead, NoneEnds}
-use Rattle.golf_explore_laws.specs.Laws.{is_panic, is_asleep}
-use Rattle.golf_explore_laws.proofs.MainLaws.{closed_lists_never_leak, closed_lists_never_report}
-use Rattle.golf_explore_laws.proofs.MainLaws.{closed_lists_report_nobody, closed_lists_never_end}
+use Rattle.golf_explore_laws.specs.After.{silent}
+use Rattle.golf_explore_laws.specs.Closed.{after_turn, IsTurn, NoneDead, NoneEnds}
+use Rattle.golf_explore_laws.specs.Laws.{is_panic, is_asleep, IsLocalOrAlike}
+use Rattle.golf_explore_laws.specs.StandIns.{kind_of, AsksKind, last_from, ReachesIn, IsClosedUpTo}
+use Rattle.golf_explore_laws.proofs.MainLaws.{alike_lists_never_leak, alike_lists_never_report}
+use Rattle.golf_explore_laws.proofs.MainLaws.{alike_lists_report_nobody, alike_lists_never_end}
 use Rattle.golf_explore.specs.declared.full_search.Exploration.{Exploration}
 use Rattle.golf_explore.specs.declared.full_search.Explored.{Explored}
 use Rattle.golf_explore.specs.declared.full_search.Visited.{Visited}
-use Rattle.golf_explore.specs.declared.visits.Came.{Came}
 use Rattle.golf_explore.specs.declared.visits.Edge.{Edge}
 use Rattle.golf_explore.specs.declared.visits.Visit.{Visit}
 use Rattle.golf_explore.specs.Ranks.{HaveRanks}
-use Rattle.golf_explore.specs.VisitLists.{states, IsFrom, IsWell, AreVisits, LeadsTo, AreDone, ends_by}
+use Rattle.golf_explore.specs.VisitLists.{states, IsWell, AreVisits, AreDone, ends_by}
 use Rattle.golf_explore.specs.VisitLists.{has_ended_by, HasVisited}
 use Rattle.golf_explore.specs.Results.{run_of, some_ended, CanEnd, Decides, EndsIf, TellsSearch, CountsVisits}
 use Rattle.golf_explore.specs.Results.{Unless}
@@ -32,44 +32,36 @@ use Rattle.golf_explore.specs.Results.{HasSearchedOn}
 use Rattle.golf_explore.proofs.Growing.{states-length, get-states, grown-length}
 use Rattle.golf_explore.proofs.Leading.{done-more, count-more}
 use Rattle.golf_explore.proofs.Falling.{In-get, get-there, always-ends}
-use Rattle.golf_explore.proofs.TurnLists.{leads-append, run-goes}
+use Rattle.golf_explore.proofs.Led.{led-to}
+use Rattle.golf_explore.proofs.Standing.{reaches}
+use Rattle.golf_explore.proofs.TurnLists.{run-goes}
 
--- ---- the turns that lead to a visit
+-- ---- which endings depend on the kind alone
+
+is-panic : (e : Ending) → is_panic e ≡ (kind_of (Some e) == 2)
+is-panic Ending.Returned = refl
+is-panic (Ending.Panicked kind goroutine line) = refl
+is-panic Ending.Asleep = refl
+
+is-asleep : (e : Ending) → is_asleep e ≡ (kind_of (Some e) == 3)
+is-asleep Ending.Returned = refl
+is-asleep (Ending.Panicked kind goroutine line) = refl
+is-asleep Ending.Asleep = refl
+
+panic-asks : AsksKind is_panic
+panic-asks e f h = is-panic e ∙ ap (λ k. k == 2) h ∙ sym (is-panic f)
+
+asleep-asks : AsksKind is_asleep
+asleep-asks e f h = is-asleep e ∙ ap (λ k. k == 3) h ∙ sym (is-asleep f)
+
+-- ---- endings
 
 module _ (code : Code) (vs : List Visit) (are : AreVisits code vs) where
-  -- a visited state is that of a visit
-  visit-at : (ws : List Visit) (at : ℕ) (t : State) → slice_get (states ws) at ≡ Some t
-      → (v : Visit) × (slice_get ws at ≡ Some v) × (silent v.state ≡ t)
-  visit-at [] at t h = cc
-  visit-at (w ∷ ws) zero t h = let same : silent w.state ≡ t = cc in (w, refl, same)
-  visit-at (w ∷ ws) (suc at) t h = visit-at ws at t h
-
-  -- turns lead to this state
-  abbrev IsLed : State → Type 0
-  IsLed t = (ns : List ℕ) × LeadsTo code (start code) ns t
-
-  -- they lead to a visit if they lead to all that stand before it
-  path-by : (at : ℕ) (t : State) → ((k : ℕ) (s : State) → k < at → slice_get (states vs) k ≡ Some s → IsLed s)
-      → (came : Option Came) → IsFrom code vs at t came → IsLed t
-  path-by at t before None from = ([], (sym from, tt))
-  path-by at t before (Some came) from =
-      let p = before came.parent from.parent from.earlier from.stands in
-      (p.0 ++ came.numbers, leads-append code (start code) from.parent t p.0 came.numbers p.1 from.leads)
-
-  path-to : (n at : ℕ) (t : State) → at < n → slice_get (states vs) at ≡ Some t → IsLed t
-  path-to zero at t l h = absurd (omega (arith, l))
-  path-to (suc n) at t l h =
-      let v = visit-at vs at t h in
-      path-by at t (λ k s below g. path-to n k s (omega (arith, below, l)) g) v.0.came
-      (subst (λ s. IsFrom code vs at s v.0.came) v.2 (are.from at v.0 v.1))
-
-  -- ---- endings
-
   -- a run has the ending of a visit
   visit-ends : (is_one : Ending → Bool) (v : Visit) → In v vs → has_ended_by is_one v.state ≡ true → CanEnd is_one code
   visit-ends is_one v i e =
       let at = In-get vs v i in
-      let p = path-to (suc at.0) at.0 (silent v.state) (omega arith) (get-states vs at.0 v at.2) in
+      let p = led-to code vs are at.0 (silent v.state) (get-states vs at.0 v at.2) in
       let ran : silent (run_of code p.0) ≡ silent v.state = run-goes code p.0 (start code) p.1.1 ∙ p.1.0 in
       (p.0, ap (has_ended_by is_one) ran ∙ e)
 
@@ -81,24 +73,28 @@ module _ (code : Code) (vs : List Visit) (are : AreVisits code vs) where
   none-ends is_one (w ∷ ws) f s e (inr i) h =
       none-ends is_one ws (or_parts (has_ended_by is_one w.state) (some_ended is_one ws) f).1 s e i h
 
-  pub decides : (is_one : Ending → Bool) → IsClosed code (states vs) → (flag : Bool) → flag ≡ some_ended is_one vs
+  pub decides : (is_one : Ending → Bool) → AsksKind is_one → IsClosedUpTo code (IsLocalOrAlike code) (states vs)
+      → (flag : Bool) → flag ≡ some_ended is_one vs
       → Decides is_one code flag
-  decides is_one closed true is =
+  decides is_one asks closed true is =
       let r = from_any_of (λ (v : Visit). has_ended_by is_one v.state) vs (sym is) in visit-ends is_one r.0 r.1 r.2
-  decides is_one closed false is = closed_lists_never_end code (states vs) is_one closed (none-ends is_one vs (sym is))
+  decides is_one asks closed false is =
+      alike_lists_never_end code (states vs) is_one closed asks (none-ends is_one vs (sym is))
 
 module _ (code : Code) (vs : List Visit) (edges : List (List Edge)) (are : AreVisits code vs)
     (done : AreDone code (states vs) edges) (all : length edges ≡ length vs) where
   -- the state after a turn of a visit settles in the list by an edge
   settles : (at : ℕ) (s : State) → at < length edges → slice_get (states vs) at ≡ Some s → ending s ≡ None
-      → (place choice : ℕ) → IsTurn code s place choice → SettlesIn code (states vs) (after_turn code s place choice)
+      → (place choice : ℕ) → IsTurn code s place choice
+      → ReachesIn (IsLocalOrAlike code) (states vs) (after_turn code s place choice)
   settles at s within got goes place choice t =
       let es = get-there edges at within in
       let d = done at s es.0 es.1 got goes place choice t in
-      let to = d.2 in
-      (to.0, to.2, In-slice_get (states vs) d.0.to (after_all code (after_turn code s place choice) to.0) to.3)
+      let u = after_turn code s place choice in
+      let r = reaches code (states vs) d.0 u d.2 in
+      (r.ts, r.are, In-slice_get (states vs) d.0.to (last_from u r.ts) r.stands)
 
-  closed : IsClosed code (states vs)
+  closed : IsClosedUpTo code (IsLocalOrAlike code) (states vs)
   closed = record {
     opening = ([], tt, are.opening);
     plain = λ s i goes. (are.well s i goes).0;
@@ -119,12 +115,12 @@ module _ (code : Code) (vs : List Visit) (edges : List (List Edge)) (are : AreVi
   pub all-visited : (count : ℕ) (ends : Bool) (told : Visited) → count ≡ length vs → (ends ≡ true → HaveRanks edges)
       → CountsVisits vs count ends told → TellsSearch code (Explored.AllVisited told)
   all-visited count ends told counted ranks h = (
-    closed_lists_never_leak code (states vs) closed alive,
-    closed_lists_never_report code (states vs) closed alive,
-    closed_lists_report_nobody code (states vs) closed alive,
+    alike_lists_never_leak code (states vs) closed alive,
+    alike_lists_never_report code (states vs) closed alive,
+    alike_lists_report_nobody code (states vs) closed alive,
     (states vs, closed, states-length vs ∙ sym counted ∙ sym h.states),
-    decides code vs are is_panic closed told.panics h.panics,
-    decides code vs are is_asleep closed told.sleeps h.sleeps,
+    decides code vs are is_panic panic-asks closed told.panics h.panics,
+    decides code vs are is_asleep asleep-asks closed told.sleeps h.sleeps,
     ends-if told.ends (λ yes. ranks (sym h.ends ∙ yes)),
   )
 

@@ -1,3 +1,4 @@
+pub mod AlikeStates
 pub mod Ranks
 pub mod VisitLists
 pub mod FrameLocalTurns

@@ -7,9 +7,9 @@ use Rattle.golf_model.specs.State.{State, not_empty, ending, start}
 use Rattle.golf_model.specs.LiveSet.{dead}
 use Rattle.golf_model.specs.Runs.{Event, run}
 use Rattle.golf_explore_laws.specs.After.{after_all}
-use Rattle.golf_explore_laws.specs.Closed.{IsClosed}
 use Rattle.golf_explore_laws.specs.Laws.{is_panic, is_asleep, NeverEnds, NeverLeaks, NeverReports, ReportsNobody}
-use Rattle.golf_explore_laws.specs.Laws.{AlwaysEnds}
+use Rattle.golf_explore_laws.specs.Laws.{AlwaysEnds, IsLocalOrAlike}
+use Rattle.golf_explore_laws.specs.StandIns.{IsClosedUpTo}
 use Rattle.golf_explore.specs.declared.full_search.Exploration.{Exploration}
 use Rattle.golf_explore.specs.declared.full_search.Explored.{Explored}
 use Rattle.golf_explore.specs.declared.full_search.Visited.{Visited}
@@ -20,9 +20,10 @@ use Rattle.golf_explore.specs.VisitLists.{has_ended_by, states, TurnsHappen, Are
 abbrev pub run_of : Code → List ℕ → State
 run_of code numbers = run code (start code) (map Event.Turn numbers)
 
--- there is a closed list of `count` states
+-- there is a list of `count` states that is closed up to frame-local turns and alike states
 abbrev pub HasClosed : Code → ℕ → Type 0
-HasClosed code count = (visited : List State) × IsClosed code visited × (length visited ≡ count)
+HasClosed code count = (visited : List State) × IsClosedUpTo code (IsLocalOrAlike code) visited
+    × (length visited ≡ count)
 
 -- a run has one of these endings
 abbrev pub CanEnd : (Ending → Bool) → Code → Type 0

@@ -8,8 +8,8 @@ ghost use Rattle.golf_data.specs.Places.{HasPlaces};
 ghost use Rattle.golf_explore.specs.Results.{HasSearchedOn, CountsVisits, IsExploring, Unless};
 ghost use Rattle.golf_explore.specs.VisitLists.{AreVisits};
 
+use crate::alike_hashes::alike_hash_of;
 use crate::endings::{has_panic, has_sleep};
-use crate::hashes::hash_of;
 use crate::successors::expand;
 use crate::visit_ranks::have_ranks;
 use crate::visits::{Edge, Visit, Visits};
@@ -34,8 +34,8 @@ pub struct Visited {
 /// The result of a search.
 #[derive(Drop)]
 pub enum Explored {
-    /// Each state that a schedule reaches was visited, or frame-local turns lead from it to a visited state. None has a
-    /// dead goroutine.
+    /// Each state that a schedule reaches was visited, or frame-local turns lead from it to a visited state or an alike
+    /// one. None has a dead goroutine.
     AllVisited(Visited),
     /// The turns of these numbers reach a state with a dead goroutine.
     Leak(List<u64>),
@@ -50,7 +50,7 @@ fn opened(alloc: Global, code: &Code) -> Result<Visits, Memory>
     ensures { IfOk result (λ visits. AreVisits code.now visits.list) }
 {
     let state = start(alloc, code)?;
-    let hash = hash_of(alloc, &state)?;
+    let hash = alike_hash_of(alloc, &state)?;
     let mut visits = Visits::new(alloc)?;
     visits.push(state, None, hash)?;
     Ok(visits)
@@ -70,7 +70,7 @@ fn told(visits: &[Visit], count: u32, ends: bool) -> Visited
 
 /// A search over all schedules that is under way.
 ///
-/// It visits states breadth first, each one once. After each turn frame-local turns are taken at once, and only the
+/// It visits states breadth first, of alike ones one. After each turn frame-local turns are taken at once, and only the
 /// state after them is visited. It ends at the first leak, whose schedule it makes shorter, as `Search` does.
 ///
 /// Each turn is taken from a copy of the state of its visit. So a turn costs as much as the state is large, however

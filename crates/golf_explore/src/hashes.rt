@@ -9,11 +9,11 @@ use golf_state::State;
 use std::alloc::Global;
 
 // A hash of a hash and one more word.
-fn mix(hash: u64, word: u64) -> u64 {
+pub(crate) fn mix(hash: u64, word: u64) -> u64 {
     (hash ^ word).wrapping_mul(6_364_136_223_846_793_005)
 }
 
-fn mix_value(hash: u64, value: Value) -> u64 {
+pub(crate) fn mix_value(hash: u64, value: Value) -> u64 {
     match value {
         Value::Int(n) => mix(mix(hash, 1), n.unsigned_abs()),
         Value::Bool(false) => mix(hash, 2),
@@ -34,7 +34,7 @@ fn mix_part(hash: u64, values: &[Value]) -> u64 {
     mixed
 }
 
-fn mix_values(hash: u64, values: &[Value]) -> u64 {
+pub(crate) fn mix_values(hash: u64, values: &[Value]) -> u64 {
     mix_part(mix(hash, values.len() as u64), values)
 }
 
@@ -48,7 +48,7 @@ fn mix_frame(hash: u64, frame: &Frame) -> u64 {
     )
 }
 
-fn mix_frames(hash: u64, frames: &[Frame]) -> u64 {
+pub(crate) fn mix_frames(hash: u64, frames: &[Frame]) -> u64 {
     let mut mixed = mix(hash, frames.len() as u64);
     for frame in frames {
         mixed = mix_frame(mixed, frame);
@@ -81,7 +81,7 @@ fn mix_object(hash: u64, object: &Object) -> u64 {
     }
 }
 
-fn mix_heap(hash: u64, heap: &Heap) -> u64 {
+pub(crate) fn mix_heap(hash: u64, heap: &Heap) -> u64 {
     let mut mixed = mix(hash, heap.last() as u64);
     for rank in 0..heap.count() {
         let id = heap.at(rank);

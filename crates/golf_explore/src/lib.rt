@@ -7,12 +7,15 @@
 //!
 //! A search visits a state once. A visit keeps its state, and the turns that led to it from an earlier visit.
 //! `Exploration` takes each turn of a visit from a copy of its state. `Search` makes the state anew by the turns of its
-//! path. States are compared exactly. Hashes only find the states to compare.
+//! path. Hashes only find the states to compare.
 //!
 //! `Exploration` does not visit each state that turns reach. After a turn it takes frame-local turns at once, and visits
-//! only the state after them. What it says holds for each state.
+//! only the state after them. Of alike states, which differ in the numbers of goroutines and in tickets alone, it visits
+//! one. What it says holds for each state. `Search` compares states exactly.
 #![tactic(auto)]
 
+mod alike_hashes;
+mod alike_states;
 mod attempts;
 mod choices;
 mod dead_goroutines;
@@ -20,6 +23,7 @@ mod endings;
 mod frame_local_turns;
 mod full_search;
 mod hashes;
+mod pairings;
 mod paths;
 mod preemption_search;
 mod searched_visits;

@@ -13,11 +13,11 @@ ghost use Rattle.golf_explore.specs.VisitLists.{HasAddedTurns};
 ghost use Rattle.golf_explore.specs.VisitLists.{HasExpanded, HasVisited, HasChoices, IsPathFor};
 ghost use Rattle.golf_explore.specs.Results.{Unless};
 
+use crate::alike_hashes::alike_hash_of;
 use crate::choices::choices;
 use crate::dead_goroutines::has_dead;
 use crate::frame_local_turns::take_and_settle;
 use crate::full_search::Explored;
-use crate::hashes::hash_of;
 use crate::paths::{joined, path_to};
 use crate::shorter_schedules::shortened;
 use crate::sought::Sought;
@@ -68,7 +68,8 @@ struct Origin<'a> {
     most: u32,
 }
 
-// Visits the state after a turn of a visit and frame-local turns, unless it was visited already. Adds the edge to it.
+// Visits the state after a turn of a visit and frame-local turns, unless it or an alike one was visited already. Adds
+// the edge to the visit.
 fn add(
     alloc: Global,
     code: &Code,
@@ -84,9 +85,9 @@ fn add(
 {
     let mut state = visits.copy_of(alloc, origin.at)?;
     let numbers = take_and_settle(alloc, code, &mut state, number)?;
-    let hash = hash_of(alloc, &state)?;
+    let hash = alike_hash_of(alloc, &state)?;
     let turns = numbers.len() as u64;
-    if let Some(to) = visits.find(alloc, &state, hash)? {
+    if let Some(to) = visits.find_alike(alloc, &state, hash)? {
         edges.push(Edge { to, turns })?;
         return Ok(None);
     }

@@ -72,14 +72,14 @@ impl<'a> Walk<'a> {
 
     // The lowest rank from which each edge of a visit falls.
     fn rank_above(&self, at: u32) -> u64 {
-        let mut rank = 1u64;
         let Some(edges) = self.edges.get(at as usize) else {
-            return rank;
+            return 1;
         };
+        let mut rank = 0u64;
         for edge in edges.as_slice() {
             rank = rank.max(self.rank_of(edge.to).saturating_add(edge.turns));
         }
-        rank
+        rank.saturating_add(1)
     }
 
     // Takes one more edge, or leaves the visit where the walk is. Returns whether the edge closes no cycle.
@@ -131,7 +131,7 @@ fn rank_at(ranks: &[u64], at: usize) -> Option<u64>
     ranks.get(at).copied()
 }
 
-// Whether an edge leads to a visit whose rank is as many turns below this one.
+// Whether an edge leads to a visit whose rank is more than as many turns below this one.
 fn is_lower(edge: Edge, rank: u64, ranks: &[u64]) -> bool
     ensures { result ≡ true → LeadsLower ranks.now rank edge }
 {
@@ -139,7 +139,7 @@ fn is_lower(edge: Edge, rank: u64, ranks: &[u64]) -> bool
         return false;
     };
     match low.checked_add(edge.turns) {
-        Some(sum) => sum <= rank,
+        Some(sum) => sum < rank,
         None => false,
     }
 }

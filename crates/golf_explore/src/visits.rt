@@ -4,8 +4,10 @@
 
 ghost use Rattle.std.specs.Prelude.{◌≡◌, [], ◌<◌, ◌^◌, Some, length, slice_get, IfOk, IfSome, OnOk, OnErr};
 ghost use Rattle.golf_explore_laws.specs.After.{silent};
+ghost use Rattle.golf_explore.specs.AlikeStates.{HasOneAt};
 ghost use Rattle.golf_explore.specs.VisitLists.{states, HasPushed};
 
+use crate::alike_states::count_as_one;
 use golf_base::{List, Memory};
 use golf_state::State;
 use std::alloc::Global;
@@ -34,7 +36,7 @@ pub(crate) struct Visit {
     pub(crate) state: State,
     /// The turns that led to it, or `None` for the opening state.
     pub(crate) came: Option<Came>,
-    /// The hash of the state.
+    /// The hash of the state, by which it is found.
     pub(crate) hash: u64,
     /// The place of the visit before it in its row. For the first one of the row it is past the end.
     pub(crate) before: u32,
@@ -91,6 +93,29 @@ impl Visits {
                 return Ok(None);
             };
             if visit.hash == hash && visit.state.is(state, alloc)? {
+                return Ok(Some(at));
+            }
+            at = visit.before;
+        }
+        Ok(None)
+    }
+
+    /// Returns the place of a visit whose state counts as one with this state, or `None`. The hash is that of alike
+    /// states. Output is not compared.
+    pub(crate) fn find_alike(
+        &self,
+        alloc: Global,
+        state: &State,
+        hash: u64,
+    ) -> Result<Option<u32>, Memory>
+        ensures { IfOk result (λ found. IfSome found (HasOneAt (states self.now.list) (silent state.now))) }
+    {
+        let mut at = self.last_of(row_of(hash));
+        for _ in 0..self.list.len() {
+            let Some(visit) = self.list.as_slice().get(at as usize) else {
+                return Ok(None);
+            };
+            if visit.hash == hash && count_as_one(alloc, state, &visit.state)? {
                 return Ok(Some(at));
             }
             at = visit.before;

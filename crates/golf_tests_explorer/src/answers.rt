@@ -12,6 +12,10 @@ use std::test::Fail;
 pub const TWO_SENDERS: &str =
     "package main\n\nimport \"fmt\"\n\nfunc send(c chan int, n int) {\n\tc <- n\n}\n\nfunc main() {\n\tc := make(chan int)\n\tgo send(c, 1)\n\tgo send(c, 2)\n\tfmt.Println(<-c + <-c)\n}\n";
 
+// Two senders that differ in their numbers alone, and one receiver.
+const ALIKE_SENDERS: &str =
+    "package main\n\nimport \"fmt\"\n\nfunc send(c chan int) {\n\tc <- 1\n}\n\nfunc main() {\n\tc := make(chan int)\n\tfor i := 0; i < 2; i++ {\n\t\tgo send(c)\n\t}\n\tfmt.Println(<-c + <-c)\n}\n";
+
 // A receiver on a channel that no other goroutine has.
 pub const LEAK: &str =
     "package main\n\nfunc wait(c chan int) {\n\t<-c\n}\n\nfunc main() {\n\tc := make(chan int)\n\tgo wait(c)\n\tfor i := 0; i < 2; i++ {\n\t}\n}\n";
@@ -31,7 +35,7 @@ const ENDLESS: &str =
 const FINALISER: &str =
     "package main\n\nimport \"runtime\"\n\ntype node struct {\n\tn int\n}\n\nfunc drop(x *node) {\n}\n\nfunc main() {\n\tx := &node{n: 1}\n\truntime.SetFinalizer(x, drop)\n}\n";
 
-const ANSWERS: [Row; 7] = [
+const ANSWERS: [Row; 8] = [
     Row {
         shows: "all schedules of three goroutines are looked at",
         line: "all",
@@ -39,6 +43,15 @@ const ANSWERS: [Row; 7] = [
         failing: NONE,
         status: Status::Clean,
         out: "every schedule: 31 states, no leak\nnever panics\nnever all asleep\nalways ends\n",
+        err: NOTE,
+    },
+    Row {
+        shows: "of states that differ in numbers of goroutines alone one counts",
+        line: "all",
+        file: ALIKE_SENDERS,
+        failing: NONE,
+        status: Status::Clean,
+        out: "every schedule: 21 states, no leak\nnever panics\nnever all asleep\nalways ends\n",
         err: NOTE,
     },
     Row {

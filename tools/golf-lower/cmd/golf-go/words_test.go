@@ -123,7 +123,7 @@ func TestALimitSaysWhatToDo(t *testing.T) {
 		clean + " --turns 3":                                "golf-go: more turns are given by --turns N, up to 10000000\n",
 		"../../testdata/reports/loop.go":                    "golf-go: a run has at most 10000000 turns: it needs fewer rounds, or smaller data\n",
 		"../../testdata/reports/loop.go --threads 2":        "golf-go: a run by threads has at most 100000 turns: without --threads there are more\n",
-		"explore " + clean + " --states 20":                 "golf-go: more states are kept by --states N, up to 1000000; ",
+		"explore " + clean + " --states 10":                 "golf-go: more states are kept by --states N, up to 1000000; ",
 		"search " + clean + " --preemptions 0":              "golf-go: nothing is claimed: more schedules are tried by --preemptions K, ",
 		"search ../../testdata/reports/loop.go --seconds 1": "golf-go: more seconds are given by --seconds S, ",
 		"explore ../../testdata/reports/late.go":            "golf-go: golf-go search may find a leak with fewer turns, and so may fewer rounds\n",

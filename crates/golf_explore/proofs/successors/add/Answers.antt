@@ -1,4 +1,4 @@
-use Rattle.std.proofs.Common.{◌≡◌, ℕ, ◌++◌, List, Option, Some, IfSome, slice_get, subst, sym, ap, ◌∙◌, arith}
+use Rattle.std.proofs.Common.{◌≡◌, ℕ, ◌++◌, List, Option, Some, IfSome, slice_get, inl, refl, subst, sym, ap, ◌∙◌, arith}
 use Rattle.std.proofs.lemmas.List.{length-map}
 use Rattle.std.proofs.lemmas.Option.{slice_get_within}
 use Rattle.golf_data.specs.declared.code.Code.{Code}
@@ -9,11 +9,14 @@ use Rattle.golf_explore_laws.specs.After.{silent, after_all}
 use Rattle.golf_explore.specs.declared.visits.Came.{Came}
 use Rattle.golf_explore.specs.declared.visits.Edge.{Edge}
 use Rattle.golf_explore.specs.declared.visits.Visit.{Visit}
+use Rattle.golf_explore.specs.AlikeStates.{HasOneAt}
 use Rattle.golf_explore.specs.VisitLists.{states, IsPathFor, IsTrail, IsWell, HasPushed}
 use Rattle.golf_explore.specs.FrameLocalTurns.{HasTakenAndSettled}
 use Rattle.golf_explore.specs.Results.{Unless}
 use Rattle.golf_explore.proofs.Growing.{grows-same, pushed-grows, pushed-at, added-by, added-visits}
+use Rattle.golf_explore.proofs.Led.{visit-leads}
 use Rattle.golf_explore.proofs.Settled.{trail-of}
+use Rattle.golf_explore.proofs.Standing.{same-or-alike}
 use Rattle.golf_explore.proofs.TurnLists.{leads-all}
 use Rattle.golf_explore.proofs.successors.add.Goals as goal
 
@@ -66,10 +69,12 @@ returns-in-Some c =
     c.requires.path c.in_ok-state.ensures)
     c.in_ok-numbers.ensures in
     let e : Edge = record { to = c.in-Some.to; turns = c.len-turns.result } in
-    let stands : slice_get (states vs) c.in-Some.to ≡ Some (silent t) =
-    subst (λ o. IfSome o (λ at. slice_get (states vs) at ≡ Some (silent t))) c.in-Some.is c.in_ok-to.ensures in
-    added-by code s c.args.number t numbers taken vs vs (grows-same vs) c.requires.visits e stands c.len-turns.ensures
-    c.args.edges.now c.push.new.self c.in_ok-push.ensures.ok
+    let found : HasOneAt (states vs) (silent t) c.in-Some.to =
+    subst (λ o. IfSome o (HasOneAt (states vs) (silent t))) c.in-Some.is c.in_ok-to.ensures in
+    let same = same-or-alike code (silent t) found.0 (Leads.Emptied t c.in_ok-numbers.ensures.leads)
+    (visit-leads code vs c.requires.visits c.in-Some.to found.0 found.1) found.2 in
+    added-by code s c.args.number t numbers taken vs vs (grows-same vs) c.requires.visits e found.0 found.1 same
+    c.len-turns.ensures c.args.edges.now c.push.new.self c.in_ok-push.ensures.ok
 
 pub returns : goal.returns
 returns c =
@@ -90,5 +95,5 @@ returns c =
     c.requires.path.stands well pushed in
     let stands : slice_get (states new) c.len-place.result ≡ Some (silent t) =
     ap (slice_get (states new)) c.len-place.ensures ∙ pushed-at code vs new t came pushed in
-    added-by code s c.args.number t numbers taken vs new (pushed-grows vs new t came pushed) visits e stands
-    c.len-turns.ensures c.args.edges.now c.push-3.new.self c.in_ok-push-3.ensures.ok
+    added-by code s c.args.number t numbers taken vs new (pushed-grows vs new t came pushed) visits e (silent t)
+    stands (inl refl) c.len-turns.ensures c.args.edges.now c.push-3.new.self c.in_ok-push-3.ensures.ok
