@@ -2,12 +2,13 @@
 
     last        the number of turns
     ended       whether the run ended; asleep: because all goroutines were asleep
-    fault       [goroutine, row] of a panic or fatal error, or null
-    who, row    for each turn its goroutine, and the row of its instruction
-    generated   [function, row] of each place in generated code: row -1 of `row` is the first of them.
-                The row is the one at which the goroutine was before, or 0.
-    goroutines  [number, function, row of its start or 0, begin, end, dead, reported, removed, waits] of each
-                a wait is [begin, end, row, kind, changes]; changes are moment, chain, moment, chain ..
+    fault       [goroutine, spot] of a panic or fatal error, or null
+    who, spot   for each turn its goroutine, and the spot of its instruction
+    spots       [row, column] of each spot: spot 1 is the first of them. The column is 0 if a line has no columns.
+    generated   [function, spot] of each spot in generated code: spot -1 is the first of them.
+                Its spot is the one at which the goroutine was before, or 0.
+    goroutines  [number, function, spot of its start or 0, begin, end, dead, reported, removed, waits] of each
+                a wait is [begin, end, spot, kind, changes]; changes are moment, chain, moment, chain ..
     kinds       the kinds of waits
     chains      the chains: objects are positive, goroutines negative
     collections [number, turn] of each
@@ -33,13 +34,13 @@ def data_of(run):
     """Returns what the script of the page reads of a run."""
     story, trace, places = run.story, run.trace, run.places
     fault = None if run.exits else trace.fault
-    kinds, chains, generated = Numbered(), Numbered(), Numbered()
-    rows = rows_of(trace, places, generated)
+    kinds, chains, spots = Numbered(), Numbered(), Spots(places)
+    turns = spots.of_turns(trace.turns)
     data = {
         "last": story.last, "ended": trace.stopped is None, "asleep": trace.asleep,
-        "fault": [int(fault[3]), places.row(int(fault[4])) or rows[-1]] if fault else None,
+        "fault": [int(fault[3]), spots.of(int(fault[4])) or turns[-1]] if fault else None,
         "who": [turn.goroutine for turn in trace.turns],
-        "row": rows,
+        "spot": turns,
         "collections": [[number, each.turn] for number, each in enumerate(trace.collections, 1)
                         if each.dead or number <= MOST_COLLECTIONS],
         "divided": [number for number, each in enumerate(trace.collections, 1) if each.reclaimed and each.kept],
@@ -49,10 +50,10 @@ def data_of(run):
     }
     shown = shown_goroutines(story)
     data["left_out"] = len(story.goroutines) - len(shown)
-    data["goroutines"] = [entry_of(each, places, rows, kinds, chains) for each in shown]
+    data["goroutines"] = [entry_of(each, spots, turns, kinds, chains) for each in shown]
     data["kinds"] = list(kinds.numbers)
     data["chains"] = [list(chain) for chain in chains.numbers]
-    data["generated"] = list(generated.numbers)
+    data["spots"], data["generated"] = list(spots.numbers.numbers), list(spots.generated.numbers)
     return fitted(data)
 
 
@@ -80,28 +81,41 @@ def shown_goroutines(story):
     return sorted(first, key=lambda goroutine: goroutine.number)
 
 
-def rows_of(trace, places, generated):
-    """Returns the row of each turn."""
-    rows, before = [], {}
-    for turn in trace.turns:
-        row = places.row(turn.line)
-        if row:
-            before[turn.goroutine] = row
-        rows.append(row or -1 - generated.of((places.function(turn.line), before.get(turn.goroutine, 0))))
-    return rows
+class Spots:
+    """The spots of a run: the places of its lines as numbers."""
+
+    def __init__(self, places):
+        self.places = places
+        self.numbers, self.generated = Numbered(), Numbered()
+
+    def of(self, line):
+        """Returns the spot of a line, 0 if it is in generated code."""
+        row = self.places.row(line)
+        return self.numbers.of((row, self.places.column(line))) + 1 if row else 0
+
+    def of_turns(self, turns):
+        """Returns the spot of each turn."""
+        spots, before = [], {}
+        for turn in turns:
+            spot = self.of(turn.line)
+            if spot:
+                before[turn.goroutine] = spot
+            function = "" if spot else self.places.function(turn.line)
+            spots.append(spot or -1 - self.generated.of((function, before.get(turn.goroutine, 0))))
+        return spots
 
 
-def entry_of(goroutine, places, rows, kinds, chains):
+def entry_of(goroutine, spots, turns, kinds, chains):
     waits = []
     for wait in goroutine.waits:
         changes = [number for moment, chain in wait.chains for number in (moment, chains.of(chain))]
-        waits.append([wait.begin, known(wait.end), rows[wait.begin - 1], kinds.of(wait.kind), changes])
+        waits.append([wait.begin, known(wait.end), turns[wait.begin - 1], kinds.of(wait.kind), changes])
     reported, removed = (known(None if place is None else place + 1)
                          for place in (goroutine.reported, goroutine.removed))
     started = 0
     if goroutine.started is not None:
-        started = rows[goroutine.begin - 1] if goroutine.begin else places.row(goroutine.started)
-    return [goroutine.number, name_of(goroutine, places), started, goroutine.begin, known(goroutine.end),
+        started = turns[goroutine.begin - 1] if goroutine.begin else spots.of(goroutine.started)
+    return [goroutine.number, name_of(goroutine, spots.places), started, goroutine.begin, known(goroutine.end),
             known(goroutine.dead), reported, removed, waits]
 
 

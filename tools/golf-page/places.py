@@ -11,6 +11,7 @@ can wait on, as wait LINE KIND THING. Tabs are between the parts.
 import os
 import re
 
+from calls import Calls
 from source import Source
 
 # A lowered program prints a line in parts, as tools/golf-lower/output.go says. The mark is an operand of Println
@@ -18,7 +19,7 @@ from source import Source
 MARK = "‿".encode()
 KIND = re.compile(MARK + b"(err|panic|exit|site) ")
 LINE = re.compile(r"\b(at )?line (\d+)\b")
-WAIT = re.compile(r"(goroutine \d+: (.+?)) at line (\d+)(?:, started at line (\d+))?(?=$|, )")
+WAIT = re.compile(r"(goroutine (\d+): (.+?)) at line (\d+)(?:, started at line (\d+))?(?=$|, )")
 FAULT_END = re.compile(r"\(goroutine (\d+), line (\d+)\)$")
 EXIT = re.compile(r"fatal error: sync: unlock of unlocked mutex \(goroutine \d+, line (\d+)\)$")
 
@@ -35,6 +36,9 @@ class Plain:
     def row(self, line):
         return line
 
+    def column(self, line):
+        return 0
+
     def function(self, line):
         return self.source.function_of(line)
 
@@ -45,16 +49,23 @@ class Plain:
         """Returns the words for a line of the run, behind a word such as started."""
         return f"at line {line}"
 
+    def follow(self, turns):
+        """Takes the turns of the run, before its waits are told."""
+
+    def wait_at(self, goroutine, line, moment):
+        """Returns the words for where a goroutine waits at a moment."""
+        return self.at(line)
+
     def things(self, kind, line):
         """Returns the words for what a goroutine waits on."""
         return ""
 
-    def told_text(self, text):
-        """Returns a line of standard error with the places of the page's files."""
+    def told_text(self, text, moment=0):
+        """Returns a line of standard error, of this moment, with the places of the page's files."""
         return text
 
-    def told_tail(self, tail, printed, turns):
-        """Returns a panic or fatal error with the places of the page's files. The turns are those of the run."""
+    def told_tail(self, tail, printed):
+        """Returns a panic or fatal error with the places of the page's files."""
         return tail
 
     def printed(self, pieces):
@@ -83,6 +94,26 @@ class Lowered:
                 self.sites[int(rest[0])] = rest[1]
             else:
                 self.waits.setdefault(int(rest[0]), []).append(rest[1:])
+        self.follow([])
+
+    def follow(self, turns):
+        self.turns, self.known_calls = turns, None
+
+    @property
+    def calls(self):
+        """The calls of generated code in the run."""
+        if self.known_calls is None:
+            self.known_calls = Calls(self, self.turns)
+        return self.known_calls
+
+    def is_own(self, line):
+        return bool(self.place(line)[1])
+
+    def around(self, line):
+        return self.lowered.function_of(line)
+
+    def text(self, line):
+        return self.lines[line - 1]
 
     def place(self, line):
         """Returns (file, line, column, function), with line 0 if the line is generated."""
@@ -91,6 +122,9 @@ class Lowered:
     def row(self, line):
         file, original, _, _ = self.place(line)
         return self.first_rows[file] + original if original else 0
+
+    def column(self, line):
+        return self.place(line)[2]
 
     def function(self, line):
         return self.place(line)[-1] or self.lowered.function_of(line)
@@ -108,6 +142,11 @@ class Lowered:
     def at(self, line):
         return ("at " if self.place(line)[1] else "") + self.told(line)
 
+    def wait_at(self, goroutine, line, moment):
+        """Returns the words for where a goroutine waits at a moment, in generated code also the place of its call."""
+        call = None if self.is_own(line) else self.calls.of_wait(goroutine, moment)
+        return self.at(line) + (f", called {self.at(call)}" if call else "")
+
     def things(self, kind, line):
         found = [text for start, text in self.waits.get(line, []) if kind.startswith(start)]
         return f", on {found[0]}" if found else ""
@@ -115,51 +154,36 @@ class Lowered:
     def told_lines(self, text):
         return LINE.sub(lambda match: self.at(int(match[2])) if match[1] else self.told(int(match[2])), text)
 
-    def told_wait(self, match):
-        """Returns the words for a goroutine that waits."""
-        head, kind, line, started = match.groups()
+    def told_wait(self, match, moment):
+        """Returns the words for a goroutine that waits at a moment."""
+        head, goroutine, kind, line, started = match.groups()
         start = f", started {self.at(int(started))}" if started else ""
-        return f"{head} {self.at(int(line))}{start}{self.things(kind, int(line))}"
+        return f"{head} {self.wait_at(int(goroutine), int(line), moment)}{start}{self.things(kind, int(line))}"
 
-    def told_text(self, text):
+    def told_text(self, text, moment=0):
         if text.startswith("goroutine "):
-            return WAIT.sub(self.told_wait, text, count=1)
+            return WAIT.sub(lambda match: self.told_wait(match, moment), text, count=1)
         if text.startswith("refused: "):
             return "refused: golf does not accept the lowered file: " + self.told_lines(text.removeprefix("refused: "))
         return FAULT_END.sub(lambda match: self.told_lines(match[0]), text)
 
-    def told_tail(self, tail, printed, turns):
+    def told_tail(self, tail, printed):
         exits = EXIT.match(tail)
         if exits and printed.exit is not None:
             at = f" {self.at(int(exits[1]))}" if self.place(int(exits[1]))[1] else ""
             return f"golf-go: os.Exit({printed.exit}){at}"
         if tail.startswith(f"panic: {MARK.decode()}"):
             tail = f"panic: {printed.panic.decode('utf-8', 'replace')}{tail.removeprefix('panic: ' + MARK.decode())}"
-        return FAULT_END.sub(lambda match: self.told_fault(match, printed, turns), tail)
+        return FAULT_END.sub(lambda match: self.told_fault(match, printed), tail)
 
-    def told_fault(self, match, printed, turns):
+    def told_fault(self, match, printed):
         """Returns the end of a panic. The place is the one that the file itself has told, else that of the panic, and
         else that of the call of generated code."""
         goroutine, line = int(match[1]), int(match[2])
         told = self.sites.get(printed.site)
         if told is None:
-            told = self.told(line if self.place(line)[1] else self.caller(goroutine, turns) or line)
+            told = self.told(line if self.is_own(line) else self.calls.last(goroutine) or line)
         return f"(goroutine {goroutine}, {told})"
-
-    def caller(self, goroutine, turns):
-        """Returns the line of the user's code that has called the generated code in which a goroutine is at the end, or
-        None. A call of generated code is open until its caller goes on."""
-        before, calls = None, []
-        for line in (turn.line for turn in turns if turn.goroutine == goroutine):
-            if before and self.place(before)[1] and not self.place(line)[1]:
-                calls += [before] if f"{self.lowered.function_of(line)}(" in self.lines[before - 1] else []
-            elif before and not self.place(before)[1] and self.place(line)[1]:
-                function = self.lowered.function_of(line)
-                same = [self.lowered.function_of(call) == function for call in calls]
-                at = same.index(True) if True in same else len(calls)
-                del calls[at:]
-            before = line
-        return calls[-1] if calls else None
 
     def printed(self, pieces):
         """Decodes what the lowered program printed."""

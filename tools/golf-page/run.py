@@ -25,8 +25,9 @@ class Run:
         self.options = options_of(self.words)
         self.trace = self.by_threads() if "--threads" in self.options else self.by_words(self.words)
         self.story = Story(self.trace)
+        places.follow(self.trace.turns)
         self.printed = places.printed(self.trace.pieces)
-        self.tail = places.told_tail(self.trace.tail, self.printed, self.trace.turns)
+        self.tail = places.told_tail(self.trace.tail, self.printed)
         self.exits = self.printed.exit is not None and bool(self.trace.tail)
         self.status = self.printed.exit if self.exits else self.trace.status
         self.how = ""

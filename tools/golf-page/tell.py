@@ -65,7 +65,8 @@ def of_reports(reported, run):
         goroutine = reported[0]
         wait = goroutine.waits[-1]
         places = run.places
-        sentence = (f"Goroutine {goroutine.number} waits for ever {places.at(wait.line)} ({wait.kind}), "
+        at = places.wait_at(goroutine.number, wait.line, wait.begin)
+        sentence = (f"Goroutine {goroutine.number} waits for ever {at} ({wait.kind}), "
                     f"started {places.at(goroutine.started)}{places.things(wait.kind, wait.line)}.")
     else:
         sentence = of_places(reported, run.places)
@@ -73,13 +74,13 @@ def of_reports(reported, run):
 
 
 def of_places(reported, places):
-    """Returns the sentence that counts the waits of several goroutines by line and kind."""
+    """Returns the sentence that counts the waits of several goroutines by place and kind."""
     counts = {}
     for goroutine in reported:
-        key = (goroutine.waits[-1].line, goroutine.waits[-1].kind)
+        wait = goroutine.waits[-1]
+        key = (places.wait_at(goroutine.number, wait.line, wait.begin), wait.kind)
         counts[key] = counts.get(key, 0) + 1
-    parts = [f"{count:,} wait{'s' if count == 1 else ''} {places.at(line)} ({kind})"
-             for (line, kind), count in counts.items()]
+    parts = [f"{count:,} wait{'s' if count == 1 else ''} {at} ({kind})" for (at, kind), count in counts.items()]
     more = f", and others at {counted(len(parts) - 3, 'more place')}" if len(parts) > 3 else ""
     return ", ".join(parts[:3]) + more + "."
 
@@ -155,7 +156,7 @@ def report_rows(run):
 def report_lines(run):
     """Returns (turn, text, class, goroutine) of each line of standard error, in order. What a lowered file printed to
     it comes at its turn."""
-    lines = [(turn, run.places.told_text(line), *kind_of(line)) for turn, line in run.trace.lines]
+    lines = [(turn, run.places.told_text(line, turn), *kind_of(line)) for turn, line in run.trace.lines]
     printed = [(turn, line, "printed", None) for turn, line in output_lines(run.printed.errors)]
     lines = sorted(printed + lines, key=lambda line: line[0] or 0) if printed else lines
     lines += [(run.story.last, line, "end", None) for line in run.tail.split("\n") if run.tail]
@@ -172,7 +173,8 @@ def asleep_lines(run):
             started = f", started {at(goroutine.started)}" if goroutine.started and number != MAIN else ""
             kind = run.kinds.get(number) or wait.kind or "blocked"
             more = run.places.things(kind, wait.line) + held(run.holders.get(number), number, at)
-            line = f"goroutine {number}: {kind} {at(wait.line)}{started}{more}"
+            where = run.places.wait_at(number, wait.line, wait.begin)
+            line = f"goroutine {number}: {kind} {where}{started}{more}"
             lines.append((run.story.last, line, "asleep", number))
     return lines
 

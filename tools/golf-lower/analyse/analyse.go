@@ -40,6 +40,7 @@ type Var struct {
 	Captured bool     // a function literal inside refers to it
 	Assigned bool     // it is assigned to after its declaration
 	Addr     bool     // its address is taken
+	Pointed  bool     // its address is taken, or that of a part of it, also if it is a struct or an array
 	Used     bool     // it is read or assigned to somewhere
 }
 
@@ -138,10 +139,14 @@ func (a *analyser) walk(n ast.Node) {
 			a.assign(n.X)
 		case *ast.UnaryExpr:
 			if n.Op == token.AND {
+				a.pointed(n.X)
 				a.address(n.X)
 			}
 		case *ast.SliceExpr:
 			a.grows(a.typ(n.X))
+			if _, isArray := kind.Under(a.typ(n.X)).(*types.Array); isArray {
+				a.pointed(n.X)
+			}
 		case *ast.StarExpr:
 			if y := BitsOf(a.l.Info, n); y != nil {
 				a.walk(y)
@@ -296,6 +301,24 @@ func (a *analyser) assign(e ast.Expr) {
 	}
 }
 
+// pointed notes that a pointer may reach the variable that e is, or is a part of.
+func (a *analyser) pointed(e ast.Expr) {
+	switch e := ast.Unparen(e).(type) {
+	case *ast.Ident:
+		if v, ok := a.l.Info.Uses[e].(*types.Var); ok && !v.IsField() {
+			a.info(v).Pointed = true
+		}
+	case *ast.SelectorExpr:
+		if !kind.IsPtr(a.typ(e.X)) {
+			a.pointed(e.X)
+		}
+	case *ast.IndexExpr:
+		if _, isArray := kind.Under(a.typ(e.X)).(*types.Array); isArray {
+			a.pointed(e.X)
+		}
+	}
+}
+
 // address notes that the address of e is taken.
 func (a *analyser) address(e ast.Expr) {
 	e = ast.Unparen(e)
@@ -379,6 +402,9 @@ func (a *analyser) selector(n *ast.SelectorExpr) {
 	recv := fn.Signature().Recv()
 	if recv == nil || !kind.IsPtr(recv.Type()) || kind.IsIface(s.Recv()) {
 		return
+	}
+	if !kind.IsPtr(a.typ(n.X)) {
+		a.pointed(n.X)
 	}
 	t := kind.Deref(recv.Type())
 	if kind.IsRef(t) {

@@ -32,12 +32,15 @@ func TestVariables(t *testing.T) {
 		{"one that is counted", "x := 1; x++", "x assigned used"},
 		{"one that a literal reads", "x := 1; func() { _ = x }()", "x captured used"},
 		{"one that a literal changes", "x := 1; func() { x = 2 }(); _ = x", "x captured assigned used"},
-		{"one whose address is taken", "x := 1; _ = &x", "x addr used"},
+		{"one whose address is taken", "x := 1; _ = &x", "x addr pointed used"},
 		{"the counter of a loop", "for x := 0; x < 3; x++ { func() { _ = x }() }", "x captured used"},
 		{"a counter that the body changes", "for x := 0; x < 3; x++ { x += 2 }", "x assigned used"},
 		{"one that a range assigns to", "var x int; for x = range 3 {}; _ = x", "x assigned used"},
-		{"a receiver of a method with a pointer", "var x num; x.set()", "x addr used"},
-		{"a struct, which has storage of its own", "var x pair; _ = &x", "x used"},
+		{"a receiver of a method with a pointer", "var x num; x.set()", "x addr pointed used"},
+		{"a struct, which has storage of its own", "var x pair; _ = &x", "x pointed used"},
+		{"a struct of which a field is pointed to", "var x pair; _ = &x.a", "x pointed used"},
+		{"an array that is sliced", "var x [2]int; _ = x[:]", "x pointed used"},
+		{"a pointer whose field is pointed to", "x := &pair{}; _ = &x.a", "x used"},
 		{"nobody reads it", "var x int", ""},
 	} {
 		t.Run(c.name, func(t *testing.T) {
@@ -65,7 +68,7 @@ func told(v *Var) (s string) {
 	for _, p := range []struct {
 		is   bool
 		word string
-	}{{v.Captured, "captured"}, {v.Assigned, "assigned"}, {v.Addr, "addr"}, {v.Used, "used"}} {
+	}{{v.Captured, "captured"}, {v.Assigned, "assigned"}, {v.Addr, "addr"}, {v.Pointed, "pointed"}, {v.Used, "used"}} {
 		if p.is {
 			s += " " + p.word
 		}

@@ -4,7 +4,6 @@ import (
 	"go/ast"
 	"go/token"
 	"go/types"
-	"slices"
 )
 
 // The order of evaluation. The specification of Go orders calls and receives, and leaves open when a variable beside them is
@@ -34,7 +33,7 @@ func (f *fctx) earlyIn(left, right []ast.Expr) {
 	for _, e := range right {
 		o.visit(e)
 	}
-	if o.matters || len(right) > 1 && slices.ContainsFunc(right, f.divides) {
+	if o.matters || f.mayBeLate(left, right) {
 		for _, l := range left {
 			f.hoistOperands(l)
 		}
@@ -300,9 +299,9 @@ func (f *fctx) hoist(e ast.Expr) {
 	}
 }
 
-// hoistValue evaluates an expression, if a call may change what it reads.
+// hoistValue evaluates an expression, if a call may change what it reads, or if it may panic.
 func (f *fctx) hoistValue(e ast.Expr) {
-	if _, done := f.hoisted[e]; done || !f.hasCall(e) && !f.reads(e) {
+	if _, done := f.hoisted[e]; done || !f.hasCall(e) && !f.reads(e) && !mayFail(e) {
 		return
 	}
 	x := f.rval(e, f.typeOf(e))
@@ -415,6 +414,23 @@ func (f *fctx) comesFirst(e ast.Expr) bool {
 		return !p.Info.Types[e.Fun].IsType()
 	}
 	return false
+}
+
+// mayFail: the expression has an operation that may panic, apart from those that read memory.
+func mayFail(e ast.Expr) bool {
+	found := false
+	ast.Inspect(e, func(n ast.Node) bool {
+		switch n := n.(type) {
+		case *ast.FuncLit:
+			return false
+		case *ast.SliceExpr, *ast.TypeAssertExpr:
+			found = true
+		case *ast.BinaryExpr:
+			found = found || n.Op == token.QUO || n.Op == token.REM || n.Op == token.SHL || n.Op == token.SHR
+		}
+		return !found
+	})
+	return found
 }
 
 // reads: the expression reads something that a call may change.

@@ -428,31 +428,67 @@ func (f *fctx) assignParts(s *ast.AssignStmt) {
 	}
 }
 
-// assignAll is a, b = x, y: first the operands on the left, then all values, then the stores.
+// assignAll is a, b = x, y: first what an earlier store may change, of the operands on the left and then of the values. Then
+// each store comes with what is left of its operands and its value.
 func (f *fctx) assignAll(s *ast.AssignStmt) {
-	var stores []func(string)
-	for _, l := range s.Lhs {
-		if v := f.newVar(s, l); v != nil {
-			stores = append(stores, func(x string) { f.declare(v, x) })
-		} else {
-			f.hard = true
-			stores = append(stores, f.place(l))
-			f.hard = false
+	n := len(s.Lhs)
+	places, vals := make([]*storing, n), make([]string, n)
+	before := &stores{f: f, names: map[types.Object]bool{}}
+	if !f.mayBeLate(s.Lhs, s.Rhs) {
+		for i := range s.Lhs {
+			places[i] = f.storing(s, i)
 		}
 	}
-	vals := make([]string, len(s.Rhs))
-	for i, r := range s.Rhs {
-		if !f.late(r, s.Lhs[:i]) {
+	for i, l := range s.Lhs {
+		if places[i] == nil && (before.change(l) || !f.panicsBefore(l)) {
+			places[i] = f.storing(s, i)
+		}
+		if before.change(s.Rhs[i]) || !f.panics(s.Rhs[i]) {
 			vals[i] = f.assigned(s, i)
 		}
+		before.add(l)
 	}
-	for i, store := range stores {
-		if vals[i] == "" {
-			f.makeEntry(s.Lhs[i])
-			vals[i] = f.assigned(s, i)
+	for i := range s.Lhs {
+		f.storeLate(s, i, places[i], vals[i])
+	}
+}
+
+// storing is the place of a store. make is nil unless it is an entry of a map.
+type storing struct {
+	make  func()
+	store func(string)
+}
+
+// storing evaluates the operands of a left side of a, b = x, y.
+func (f *fctx) storing(s *ast.AssignStmt, i int) *storing {
+	if v := f.newVar(s, s.Lhs[i]); v != nil {
+		return &storing{store: func(x string) { f.declare(v, x) }}
+	}
+	f.hard = true
+	defer func() { f.hard = false }()
+	if ix, m := f.isMapIndex(s.Lhs[i]); m != nil {
+		make, store := f.entry(ix, m)
+		return &storing{make, store}
+	}
+	return &storing{store: f.place(s.Lhs[i])}
+}
+
+// storeLate stores a value, and evaluates what has not been evaluated yet: the operands of an entry of a map come before the
+// value, others behind it.
+func (f *fctx) storeLate(s *ast.AssignStmt, i int, to *storing, x string) {
+	if _, m := f.isMapIndex(s.Lhs[i]); to == nil && m != nil {
+		to = f.storing(s, i)
+	}
+	if x == "" {
+		if to != nil && to.make != nil {
+			to.make()
 		}
-		store(vals[i])
+		x = f.assigned(s, i)
 	}
+	if to == nil {
+		to = f.storing(s, i)
+	}
+	to.store(x)
 }
 
 // assigned is a value of a, b = x, y.
@@ -528,18 +564,9 @@ func (f *fctx) place(l ast.Expr) func(string) {
 		return func(x string) { f.discard(x) }
 	}
 	t := f.typeOf(l)
-	if ix, ok := l.(*ast.IndexExpr); ok {
-		if m, ok := under(f.typeOf(ix.X)).(*types.Map); ok {
-			xs := f.ordered(func() string { return f.expr(ix.X) }, func() string { return f.rval(ix.Index, m.Key()) })
-			for i := range xs {
-				xs[i] = f.pin(xs[i])
-			}
-			return func(x string) {
-				f.runtimeError(xs[0]+" == nil", "assignment to entry in nil map")
-				xs[1] = f.hashable(m, xs[1], "")
-				f.emit("%s(%s, %s, %s)", p.mapFunc(m, "put"), xs[0], xs[1], x)
-			}
-		}
+	if ix, m := f.isMapIndex(l); m != nil {
+		_, store := f.entry(ix, m)
+		return store
 	}
 	lv := f.lvalue(l)
 	if isRef(t) {

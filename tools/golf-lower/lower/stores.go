@@ -1,76 +1,223 @@
 package lower
 
 import (
+	"fmt"
 	"go/ast"
 	"go/token"
 	"go/types"
+	"slices"
 )
 
-// Late values. The specification of Go has all values of a, b = x, y before the first store. Go's compiler evaluates one that
-// reads no memory, and nothing that is stored before it, at its own store. A division by zero in it comes behind the stores.
+// Late values. The specification of Go has all values of a, b = x, y before the first store. Go's compiler evaluates only those
+// first that an earlier store may change. Each other one is evaluated at its store. What may panic in it comes behind the stores
+// before, and behind the entry that its own store makes in a map.
 
-// late: a value of an assignment is evaluated at its store, and may panic there.
-func (f *fctx) late(value ast.Expr, before []ast.Expr) bool {
-	if len(before) == 0 || !f.divides(value) {
-		return false
-	}
-	stored := map[types.Object]bool{}
-	for _, l := range before {
-		if id, ok := ast.Unparen(l).(*ast.Ident); ok {
-			stored[f.p.Info.ObjectOf(id)] = true
-		}
-	}
-	return f.readsNothing(value, stored)
+// stores are what the stores of an assignment have changed so far.
+type stores struct {
+	f      *fctx
+	names  map[types.Object]bool // variables that only this function has
+	memory bool                  // other variables, elements, and what pointers point to
+	all    bool                  // a result of a function that defers
 }
 
-// divides: the expression has a division whose divisor is no constant.
-func (f *fctx) divides(e ast.Expr) bool {
+// add adds a store.
+func (s *stores) add(l ast.Expr) {
+	id, ok := s.base(l).(*ast.Ident)
+	switch {
+	case !ok:
+		s.memory = true
+	case id.Name == "_":
+	case s.f.defers && s.f.isResult(id):
+		s.all = true
+	case s.inMemory(id):
+		s.memory = true
+	default:
+		s.names[s.f.p.Info.ObjectOf(id)] = true
+	}
+}
+
+// inMemory: others than this function may store to a variable.
+func (s *stores) inMemory(id *ast.Ident) bool {
+	v, ok := s.f.p.Info.ObjectOf(id).(*types.Var)
+	if !ok {
+		return false
+	}
+	i := s.f.p.Vars[v]
+	return v.Pkg() != nil && v.Parent() == v.Pkg().Scope() || s.f.caps[v] || i != nil && (i.Pointed || i.Captured && (i.Assigned || isRef(s.f.p.vtype(v))))
+}
+
+// isResult: the variable is a named result.
+func (f *fctx) isResult(id *ast.Ident) bool {
+	v, ok := f.p.Info.ObjectOf(id).(*types.Var)
+	return ok && slices.Contains(f.named, v)
+}
+
+// base is the variable that a left side is a part of, or the expression that finds its memory.
+func (s *stores) base(l ast.Expr) ast.Expr {
+	switch l := ast.Unparen(l).(type) {
+	case *ast.IndexExpr:
+		if isArray(s.f.typeOf(l.X)) {
+			return s.base(l.X)
+		}
+		return l
+	case *ast.SelectorExpr:
+		if s.f.p.Info.Selections[l] == nil {
+			return l.Sel // a variable of a package
+		}
+		if !s.f.derefs(l) {
+			return s.base(l.X)
+		}
+		return l
+	default:
+		return l
+	}
+}
+
+// change: an expression may have another value behind the stores.
+func (s *stores) change(e ast.Expr) bool {
+	return s.all || s.f.hasPart(e, func(e ast.Expr) bool {
+		if s.f.p.Info.Types[e].Value != nil {
+			return false
+		}
+		switch e := e.(type) {
+		case *ast.Ident:
+			return s.names[s.f.p.Info.ObjectOf(e)] || s.memory && s.inMemory(e)
+		case *ast.IndexExpr, *ast.StarExpr, *ast.CompositeLit:
+			return s.memory
+		case *ast.SelectorExpr:
+			return s.memory && s.f.derefs(e)
+		case *ast.BinaryExpr:
+			return s.memory && (isComparison(e.Op) || s.f.p.isText(s.f.typeOf(e)))
+		case *ast.CallExpr: // a conversion
+			return s.memory && (s.f.p.isText(s.f.typeOf(e)) || s.f.p.isText(s.f.typeOf(e.Args[0])))
+		case *ast.UnaryExpr:
+			return s.memory && (e.Op == token.AND || e.Op == token.NOT)
+		}
+		return false
+	})
+}
+
+// isComparison: the operator compares. Go's compiler takes it for one that reads memory.
+func isComparison(op token.Token) bool {
+	switch op {
+	case token.EQL, token.NEQ, token.LSS, token.LEQ, token.GTR, token.GEQ:
+		return true
+	}
+	return false
+}
+
+// derefs: the selector reads a field behind a pointer.
+func (f *fctx) derefs(e *ast.SelectorExpr) bool {
+	s := f.p.Info.Selections[e]
+	return s != nil && (s.Indirect() || isPtr(f.typeOf(e.X)))
+}
+
+// hasPart: an expression has a part that the test holds for, apart from what has been evaluated before its statement, and from
+// what Go's compiler evaluates in its turn.
+func (f *fctx) hasPart(e ast.Expr, test func(ast.Expr) bool) bool {
 	found := false
 	ast.Inspect(e, func(n ast.Node) bool {
-		switch n := n.(type) {
-		case *ast.FuncLit:
-			return false
-		case *ast.BinaryExpr:
-			found = found || (n.Op == token.QUO || n.Op == token.REM) && f.p.Info.Types[n.Y].Value == nil
+		e, ok := n.(ast.Expr)
+		if !ok || found {
+			return !found
 		}
+		if _, done := f.hoisted[e]; done || f.comesFirst(e) || f.convertedFirst(e) {
+			return false
+		}
+		if _, isFunc := e.(*ast.FuncLit); isFunc || f.p.Info.Types[e].IsType() {
+			return false
+		}
+		found = test(e)
 		return !found
 	})
 	return found
 }
 
-// makeEntry gives a map an entry for the key of a left side, if it has none: Go makes it before it evaluates a late value.
-func (f *fctx) makeEntry(l ast.Expr) {
-	ix, ok := ast.Unparen(l).(*ast.IndexExpr)
-	if !ok {
-		return
-	}
-	if _, isMap := under(f.typeOf(ix.X)).(*types.Map); !isMap {
-		return
-	}
-	if f.hasCall(ix) {
-		f.p.refuse("a division behind another store, for a key that a call gives")
-	}
-	f.place(l)(f.rval(ix, f.typeOf(ix)))
+// panics: an expression may panic in a part that Go's compiler leaves in its place.
+func (f *fctx) panics(e ast.Expr) bool {
+	return f.hasPart(e, func(e ast.Expr) bool {
+		switch e := e.(type) {
+		case *ast.IndexExpr:
+			return !f.p.isInstance(e) && f.panicsIndex(e)
+		case *ast.StarExpr, *ast.TypeAssertExpr:
+			return true
+		case *ast.SelectorExpr:
+			return f.derefs(e)
+		case *ast.BinaryExpr:
+			switch e.Op {
+			case token.QUO, token.REM, token.SHL, token.SHR:
+				return f.p.Info.Types[e.Y].Value == nil
+			}
+		}
+		return false
+	})
 }
 
-// readsNothing: the expression computes with constants, with what has been evaluated before its statement, and with variables
-// that only this function has, without those that are stored.
-func (f *fctx) readsNothing(e ast.Expr, stored map[types.Object]bool) bool {
-	if _, done := f.hoisted[e]; done || f.p.Info.Types[e].Value != nil {
-		return true
+// panicsIndex: the index may be a wrong one.
+func (f *fctx) panicsIndex(e *ast.IndexExpr) bool {
+	switch under(f.typeOf(e.X)).(type) {
+	case *types.Map:
+		return false
+	case *types.Array:
+		return f.p.Info.Types[e.Index].Value == nil
 	}
-	switch e := e.(type) {
-	case *ast.ParenExpr:
-		return f.readsNothing(e.X, stored)
-	case *ast.Ident:
-		o := f.p.Info.ObjectOf(e)
-		return !f.changeable(e) && !stored[o] && !f.caps[o]
-	case *ast.UnaryExpr:
-		return e.Op != token.AND && e.Op != token.ARROW && f.readsNothing(e.X, stored)
-	case *ast.BinaryExpr:
-		return f.readsNothing(e.X, stored) && f.readsNothing(e.Y, stored)
-	case *ast.CallExpr:
-		return f.p.Info.Types[e.Fun].IsType() && f.readsNothing(e.Args[0], stored)
+	return true
+}
+
+// panicsBefore: an operand of a left side may panic, apart from the store itself.
+func (f *fctx) panicsBefore(l ast.Expr) bool {
+	switch l := ast.Unparen(l).(type) {
+	case *ast.IndexExpr:
+		if isArray(f.typeOf(l.X)) {
+			return f.panicsBefore(l.X) || f.panics(l.Index)
+		}
+		return f.panics(l.X) || f.panics(l.Index)
+	case *ast.SelectorExpr:
+		if f.derefs(l) {
+			return f.panics(l.X)
+		}
+		return f.panicsBefore(l.X)
+	case *ast.StarExpr:
+		return f.panics(l.X)
 	}
 	return false
+}
+
+// mayBeLate: a store of a, b = x, y has an operand or a value that may panic late.
+func (f *fctx) mayBeLate(left, right []ast.Expr) bool {
+	return len(right) > 1 && (slices.ContainsFunc(left, f.panicsBefore) || slices.ContainsFunc(right, f.panics))
+}
+
+// isMapIndex is a left side that is an entry of a map, else nil.
+func (f *fctx) isMapIndex(l ast.Expr) (*ast.IndexExpr, *types.Map) {
+	if ix, ok := ast.Unparen(l).(*ast.IndexExpr); ok {
+		if m, ok := under(f.typeOf(ix.X)).(*types.Map); ok {
+			return ix, m
+		}
+	}
+	return nil, nil
+}
+
+// entry evaluates the operands of an entry of a map. make makes the entry, if there is none: Go does so before it evaluates a
+// late value.
+func (f *fctx) entry(ix *ast.IndexExpr, m *types.Map) (make func(), store func(string)) {
+	p := f.p
+	xs := f.ordered(func() string { return f.expr(ix.X) }, func() string { return f.rval(ix.Index, m.Key()) })
+	for i := range xs {
+		xs[i] = f.pin(xs[i])
+	}
+	put := func(x string) { f.emit("%s(%s, %s, %s)", p.mapFunc(m, "put"), xs[0], xs[1], x) }
+	check := func() {
+		f.runtimeError(xs[0]+" == nil", "assignment to entry in nil map")
+		xs[1] = f.hashable(m, xs[1], "")
+	}
+	make = func() {
+		check()
+		check = func() {}
+		put(fmt.Sprintf("%s(%s, %s)", p.mapFunc(m, "get"), xs[0], xs[1]))
+	}
+	return make, func(x string) {
+		check()
+		put(x)
+	}
 }

@@ -73,10 +73,22 @@ def lowered_page_of(path, lines, *sources):
 
 
 def data_of(path, *line):
-    """Returns what the script of the page reads, from its text."""
+    """Returns what the script of the page reads, from its text, with rows in place of spots."""
     text = page_of(path, *line).html()
     found = re.search(r'<script type="application/json" id="data">(.*?)</script>', text, re.S)
-    return json.loads(found[1])
+    return in_rows(json.loads(found[1]))
+
+
+def in_rows(shown):
+    """Returns the data with rows in place of spots."""
+    def row(spot):
+        return shown["spots"][spot - 1][0] if spot > 0 else spot
+    shown["row"] = [row(spot) for spot in shown["spot"]]
+    for goroutine in shown["goroutines"]:
+        goroutine[2] = row(goroutine[2])
+        for wait in goroutine[-1]:
+            wait[2] = row(wait[2])
+    return shown
 
 
 def ran(program_, *line, path):
@@ -307,7 +319,7 @@ class Words(unittest.TestCase):
         made = page_of(LOCK_AT_RETURN, ran(EXPLORE, "search", path=LOCK_AT_RETURN)[0].split("\n")[0])
         self.assertEqual(tell.headline(made.run)[1],
                          "Goroutine 1 waits for ever at line 10 (sync.Mutex.Lock), started at line 18.")
-        self.assertEqual(data.data_of(made.run)["goroutines"][0][2], 18)
+        self.assertEqual(in_rows(data.data_of(made.run))["goroutines"][0][2], 18)
 
     def test_a_run_that_falls_asleep_is_shown_by_its_line(self):
         made = page_of(LOCK_AT_RETURN, ran(EXPLORE, "search", "--for", "asleep", path=LOCK_AT_RETURN)[0].split("\n")[0])
@@ -709,24 +721,44 @@ class LoweredFiles(unittest.TestCase):
     def test_ends(self):
         found, printed = self.places("a.go"), places.Printed([])
         printed.panic = b"lost"
-        self.assertEqual(found.told_tail("panic: ‿ (goroutine 1, line 4)", printed, []),
+        self.assertEqual(found.told_tail("panic: ‿ (goroutine 1, line 4)", printed),
                          "panic: lost (goroutine 1, a.go:4:2 in work)")
         unlocked = "fatal error: sync: unlock of unlocked mutex (goroutine 1, line 4)"
-        self.assertEqual(found.told_tail(unlocked, printed, []), unlocked.replace("line 4", "a.go:4:2 in work"))
+        self.assertEqual(found.told_tail(unlocked, printed), unlocked.replace("line 4", "a.go:4:2 in work"))
         printed.site = 1
-        self.assertEqual(found.told_tail("panic: ‿ (goroutine 1, line 8)", printed, []),
+        self.assertEqual(found.told_tail("panic: ‿ (goroutine 1, line 8)", printed),
                          "panic: lost (goroutine 1, a.go:5:9 in work)")
         printed.exit = 2
-        self.assertEqual(found.told_tail(unlocked, printed, []), "golf-go: os.Exit(2) at a.go:4:2 in work")
+        self.assertEqual(found.told_tail(unlocked, printed), "golf-go: os.Exit(2) at a.go:4:2 in work")
 
     def test_a_panic_in_generated_code_has_the_place_of_its_call(self):
         found = self.places("a.go")
         found.lines[4] = "\ttick()"
         turns = [traced.Turn(1, line, None, False, False, ()) for line in (4, 5, 8)]
-        self.assertEqual(found.told_tail("panic: lost (goroutine 1, line 8)", places.Printed([]), turns),
+        found.follow(turns)
+        self.assertEqual(found.told_tail("panic: lost (goroutine 1, line 8)", places.Printed([])),
                          "panic: lost (goroutine 1, a.go:5:2 in work)")
-        self.assertEqual(found.told_tail("panic: lost (goroutine 1, line 8)", places.Printed([]), turns[:1]),
+        found.follow(turns[:1])
+        self.assertEqual(found.told_tail("panic: lost (goroutine 1, line 8)", places.Printed([])),
                          "panic: lost (goroutine 1, in the clock)")
+
+    def test_a_wait_in_generated_code_has_the_place_of_its_call(self):
+        found = self.places("a.go")
+        found.lines[4] = "\ttick()"
+        found.follow([traced.Turn(number, line, None, line == 8, False, ())
+                      for number, line in ((1, 4), (2, 8), (1, 5), (1, 8), (1, 5), (1, 4))])
+        wait = "chan receive at line 8, started at line 3"
+        told = "chan receive in the clock{}, started at a.go:3:1 in work"
+        for number, moment, call in ((1, 4, ", called at a.go:5:2 in work"), (1, 3, ""), (2, 6, "")):
+            self.assertEqual(found.told_text(f"goroutine {number}: {wait}", moment),
+                             f"goroutine {number}: {told.format(call)}")
+
+    def test_spots_have_columns(self):
+        spots = data.Spots(self.places("a.go"))
+        turns = [traced.Turn(1, line, None, False, False, ()) for line in (4, 8, 5, 4)]
+        self.assertEqual(spots.of_turns(turns), [1, -1, 2, 1])
+        self.assertEqual(list(spots.numbers.numbers), [(4, 2), (5, 2)])
+        self.assertEqual(list(spots.generated.numbers), [("the clock", 1)])
 
 
 if __name__ == "__main__":

@@ -46,8 +46,8 @@ function goroutineOf([number, name, started, begin, end, dead, reported, removed
     reported: reported < 0 ? Infinity : turnOfCollection.get(reported), reportedBy: reported,
     removed: removed < 0 ? Infinity : turnOfCollection.get(removed), removedBy: removed,
   };
-  goroutine.waits = waits.map(([begin, end, row, kind, changes]) => ({
-    begin, end: known(end, Infinity), row, changes, kind: kind < 0 ? undefined : data.kinds[kind],
+  goroutine.waits = waits.map(([begin, end, spot, kind, changes]) => ({
+    begin, end: known(end, Infinity), spot, changes, kind: kind < 0 ? undefined : data.kinds[kind],
   }));
   return goroutine;
 }
@@ -59,18 +59,22 @@ if (data) data.who.forEach((number, at) => byNumber.get(number)?.turns.push(at +
 
 // ---- places
 
-/** Returns the words for a row of the source. A row below 0 is in generated code. */
-function place(row) {
-  if (row < 0) {
-    const [name, before] = data.generated[-1 - row];
+/** Returns the words for a spot. A spot below 0 is in generated code. */
+function place(spot) {
+  if (spot < 0) {
+    const [name, before] = data.generated[-1 - spot];
     return before ? `${name} after ${place(before)}` : `${name} (generated)`;
   }
+  const [row, column] = data.spots[spot - 1];
   const [name, before] = data.files.findLast(([, before]) => before < row);
-  return `line ${row - before}` + (data.files.length > 1 ? ` of ${name}` : "");
+  return column ? `${name}:${row - before}:${column}` : `line ${row - before}`;
 }
 
-/** Returns the row that is marked for a place: in generated code that at which the goroutine was before. */
-const markedRow = row => row < 0 ? data.generated[-1 - row][1] : row;
+/** Returns the row that is marked for a spot: in generated code that at which the goroutine was before, 0 if there is none. */
+function markedRow(spot) {
+  const own = spot < 0 ? data.generated[-1 - spot][1] : spot;
+  return own ? data.spots[own - 1][0] : 0;
+}
 
 // ---- kinds of waits
 
@@ -124,16 +128,16 @@ function chainAt({ changes }, moment) {
   return { moment: before < 0 ? changes[0] : Math.max(lookBefore(moment), changes[at]), members: data.chains[changes[at + 1]] };
 }
 
-/** Returns the row at which a goroutine that can run is: that of its next turn. If it takes none, it is that of its last. */
-function rowOf(goroutine, moment) {
+/** Returns the spot at which a goroutine that can run is: that of its next turn. If it takes none, it is that of its last. */
+function spotOf(goroutine, moment) {
   const at = firstPlace(goroutine.turns.length, place => goroutine.turns[place] > moment);
   const turn = goroutine.turns[at] ?? goroutine.turns.at(-1);
-  return turn === undefined ? undefined : data.row[turn - 1];
+  return turn === undefined ? undefined : data.spot[turn - 1];
 }
 
 const runsAt = (goroutine, moment) => moment > 0 && data.who[moment - 1] === goroutine.number;
 
-/** Returns what a goroutine does at a moment: the name of the state, its words and its class; of a wait its kind and row. */
+/** Returns what a goroutine does at a moment: the name of the state, its words and its class; of a wait its kind and spot. */
 function stateOf(goroutine, moment) {
   if (moment < goroutine.begin) return { name: "absent", text: "not started", classes: "" };
   if (moment >= goroutine.removed) return { name: "gone", text: "taken back", classes: "" };
@@ -144,19 +148,19 @@ function stateOf(goroutine, moment) {
     return { name: "ended", text: `crashed at ${place(data.fault[1])}`, classes: "is-dead" };
   }
   if (moment >= goroutine.end) return { name: "ended", text: runs ? "runs, and ends" : "ended", classes };
-  if (runs) return { name: "runs", text: `runs ${place(data.row[moment - 1])}`, classes };
+  if (runs) return { name: "runs", text: `runs ${place(data.spot[moment - 1])}`, classes };
   if (goroutine.number === 0) return { name: "free", text: "no turn", classes };
-  const row = rowOf(goroutine, moment);
-  return { name: "free", text: row === undefined ? "can run" : `can run, ${place(row)}`, classes };
+  const spot = spotOf(goroutine, moment);
+  return { name: "free", text: spot === undefined ? "can run" : `can run, ${place(spot)}`, classes };
 }
 
 function waitState(goroutine, wait, moment) {
-  const shared = { kind: wait.kind ?? "blocked", row: wait.row, wait };
+  const shared = { kind: wait.kind ?? "blocked", spot: wait.spot, wait };
   if (moment >= goroutine.dead) {
-    return { name: "dead", text: `dead at ${place(wait.row)}`, classes: "is-dead", ...shared };
+    return { name: "dead", text: `dead at ${place(wait.spot)}`, classes: "is-dead", ...shared };
   }
   const chain = chainAt(wait, moment), classes = kindClass(wait.kind);
   const asleep = data.asleep && moment === last;
-  const text = asleep ? `asleep at ${place(wait.row)}` : `${shared.kind}, ${place(wait.row)}`;
+  const text = asleep ? `asleep at ${place(wait.spot)}` : `${shared.kind}, ${place(wait.spot)}`;
   return { name: asleep ? "asleep" : "blocked", text, classes, chain, ...shared };
 }

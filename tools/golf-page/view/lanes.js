@@ -29,8 +29,8 @@ function turnsInView(goroutine, grain) {
 function waitsInView(goroutine) {
   const first = firstPlace(goroutine.waits.length, at => goroutine.waits[at].end > view.from), found = [];
   for (let at = first; at < goroutine.waits.length && goroutine.waits[at].begin < view.to; at++) {
-    const { begin, end, kind, row } = goroutine.waits[at], until = Math.min(end, goroutine.dead, last + 1);
-    if (until > begin) found.push({ begin, end: until, kind, row });
+    const { begin, end, kind, spot } = goroutine.waits[at], until = Math.min(end, goroutine.dead, last + 1);
+    if (until > begin) found.push({ begin, end: until, kind, spot });
   }
   return found;
 }
@@ -91,7 +91,7 @@ function drawTags(track, goroutine) {
   if (!width || track.closest(".dense")) return;
   for (const wait of waitsInView(goroutine)) {
     const name = wait.kind ?? "blocked";
-    addTag(track, width, [wait.begin + 1, wait.end], [`${name} · ${place(wait.row)}`, name], "");
+    addTag(track, width, [wait.begin + 1, wait.end], [`${name} · ${place(wait.spot)}`, name], "");
   }
   const { soon, told } = deadTimes(goroutine);
   addTag(track, width, soon, ["dead, not yet reported"], "hatched");
@@ -221,10 +221,10 @@ function buildLanes() {
 
 /** Whether generated code has started a goroutine, and it has run no code of the user. */
 function isGenerated({ number, started, turns }) {
-  return number > 1 && started < 0 && turns.every(turn => data.row[turn - 1] < 0);
+  return number > 1 && started < 0 && turns.every(turn => data.spot[turn - 1] < 0);
 }
 
-/** Puts goroutines into lanes. Those that were started at one line are one lane, if they are some. */
+/** Puts goroutines into lanes. Those that were started at one place are one lane, if they are some. */
 function foldByStart(lanes, own) {
   const groups = new Map();
   for (const goroutine of own) {

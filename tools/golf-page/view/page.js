@@ -46,8 +46,8 @@ function showLane({ goroutine, list, lane, state }, states) {
     showFoldState(list, state, states);
     return;
   }
-  const { name, kind, row, text, classes } = states.get(goroutine.number);
-  if (name === "blocked") state.replaceChildren(element("span", "long", `${kind}, `), place(row));
+  const { name, kind, spot, text, classes } = states.get(goroutine.number);
+  if (name === "blocked") state.replaceChildren(element("span", "long", `${kind}, `), place(spot));
   else state.textContent = text;
   state.className = classes;
   lane.classList.toggle("selected", goroutine.number === selected);
@@ -88,7 +88,7 @@ function select(number) {
   selected = selected === number ? null : number;
   show(now, true);
   const goroutine = byNumber.get(selected);
-  if (goroutine) scrollToRow(stateOf(goroutine, now).row ?? goroutine.started);
+  if (goroutine) scrollToSpot(stateOf(goroutine, now).spot ?? goroutine.started);
 }
 
 // ---- what happens in a turn
@@ -116,7 +116,7 @@ function buildHappenings() {
 function whatHappened(moment) {
   if (moment === 0) return "";
   const runner = data.who[moment - 1], changes = new Map();
-  const parts = [`G${runner} runs ${place(data.row[moment - 1])}`];
+  const parts = [`G${runner} runs ${place(data.spot[moment - 1])}`];
   for (const [one, several, number] of happenings.get(moment) ?? []) {
     if (number === runner && one !== "is dead") parts[0] += ` and ${one}`;
     else changes.set(one, [...changes.get(one) ?? [], [several, number]]);

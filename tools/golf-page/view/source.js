@@ -18,7 +18,7 @@ function showSource(moment, states) {
   clearMarks();
   const waiting = new Map();
   for (const [goroutine, state] of states) {
-    const row = state.wait && markedRow(state.row);
+    const row = state.wait && markedRow(state.spot);
     if (row !== undefined) waiting.set(row, [...waiting.get(row) ?? [], [goroutine, state]]);
   }
   markRunning(moment);
@@ -39,7 +39,7 @@ function mark(row, classes) {
 }
 
 function markRunning(moment) {
-  const at = moment > 0 && mark(markedRow(data.row[moment - 1]), ["runs"]);
+  const at = moment > 0 && mark(markedRow(data.spot[moment - 1]), ["runs"]);
   if (at) at.append(element("span", "chip ghost is-run", `G${data.who[moment - 1]} runs`));
 }
 
@@ -96,8 +96,8 @@ function scrollToMarks() {
 
 const topsOf = elements => elements.map(each => each.offsetTop).sort((a, b) => a - b);
 
-function scrollToRow(row) {
-  const found = rowElements.get(markedRow(row)), list = $("source");
+function scrollToSpot(spot) {
+  const found = rowElements.get(markedRow(spot)), list = $("source");
   if (found && list.scrollHeight > list.clientHeight) list.scrollTop = found.offsetTop - list.clientHeight / 2;
 }
 

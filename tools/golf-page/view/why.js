@@ -16,7 +16,7 @@ function groupsOf(states) {
   const together = waiting.length > MOST_SINGLE;
   for (const [goroutine, state] of waiting) {
     const isDead = state.name === "dead", common = isDead ? `${goroutine.started} ${goroutine.reported <= now}` : alike(state);
-    put(isDead ? dead : live, together ? `${state.kind} ${state.row} ${common}` : goroutine.number, goroutine, state);
+    put(isDead ? dead : live, together ? `${state.kind} ${state.spot} ${common}` : goroutine.number, goroutine, state);
   }
   return { live: [...live.values()], dead: [...dead.values()] };
 }
@@ -43,7 +43,7 @@ const MOST_LIVE_GROUPS = 60, MOST_DEAD_GROUPS = 24;
 
 /** Returns the width of the boxes of these groups. */
 function boxWidth(groups) {
-  const lengths = groups.map(({ state }) => `${shortKind(state.kind)}, ${place(state.row)}`.length * 6.1 + 24);
+  const lengths = groups.map(({ state }) => `${shortKind(state.kind)}, ${place(state.spot)}`.length * 6.1 + 24);
   return Math.max(168, Math.min(250, Math.max(0, ...lengths)));
 }
 
@@ -239,7 +239,7 @@ class Graph {
   drawGroup(group, x, y, width) {
     const { state, members } = group, chosen = members.some(goroutine => goroutine.number === selected);
     const name = members.length < 4 && members[0].name ? `${namesOf(members)} ${members[0].name}` : namesOf(members);
-    const wait = shortened(`${shortKind(state.kind)}, ${place(state.row)}`, Math.floor((width - 18) / 5.7));
+    const wait = shortened(`${shortKind(state.kind)}, ${place(state.spot)}`, Math.floor((width - 18) / 5.7));
     const box = drawn("g", { class: `goroutine ${state.classes}${chosen ? " selected" : ""}` });
     box.append(drawn("title", {}, `${namesOf(members)}: ${state.text}`),
       drawn("rect", { x, y: y - GOROUTINE_HEIGHT / 2, width, height: GOROUTINE_HEIGHT, rx: 9 }),
@@ -321,7 +321,7 @@ function deadReason({ state, members }) {
   const deaths = members.map(each => each.dead), first = Math.min(...deaths), end = Math.max(...deaths);
   const wait = seen && `At turn ${count(seen.moment)}, when it was live, it waited on ${memberName(seen.object)}.`;
   const since = first === end ? `turn ${count(first)}` : `turns ${count(first)} to ${count(end)}`;
-  text.append(element("span", "what", `${state.kind} at ${place(state.row)}`),
+  text.append(element("span", "what", `${state.kind} at ${place(state.spot)}`),
     `: nothing live reaches what ${one ? "it waits" : "they wait"} on. ${one && wait ? `${wait} ` : ""}`
     + `Started at ${place(goroutine.started)}. Dead since ${since}`
     + `${data.looks === null ? "" : " at the latest"}; ${reportOf(goroutine, one)}.`);
@@ -336,7 +336,7 @@ function reportOf(goroutine, one) {
 
 function liveReason({ state, members }) {
   const [item, text] = reason(members, `live ${state.classes}`), goroutine = members[0];
-  text.append(element("span", "what", `${state.kind} at ${place(state.row)}`));
+  text.append(element("span", "what", `${state.kind} at ${place(state.spot)}`));
   if (state.name === "asleep") text.append(element("span", "", `since turn ${count(state.wait.begin)}`));
   if (members.length > 1) text.append(element("span", "", `G${goroutine.number} by`));
   if (state.chain) text.append(chainOf(state.chain.members, goroutine, state));
@@ -359,13 +359,13 @@ function chainOf(members, goroutine, state) {
 function removedReasons(moment) {
   const groups = new Map();
   for (const goroutine of goroutines.filter(each => each.removed <= moment)) {
-    const { kind, row } = goroutine.waits.at(-1), key = `${goroutine.removedBy} ${kind} ${row} ${goroutine.started}`;
+    const { kind, spot } = goroutine.waits.at(-1), key = `${goroutine.removedBy} ${kind} ${spot} ${goroutine.started}`;
     groups.set(key, [...groups.get(key) ?? [], goroutine]);
   }
   return [...groups.values()].slice(0, MOST_REASONS).map(members => {
-    const [item, text] = reason(members, ""), goroutine = members[0], { kind, row } = goroutine.waits.at(-1);
+    const [item, text] = reason(members, ""), goroutine = members[0], { kind, spot } = goroutine.waits.at(-1);
     text.textContent = `Taken back by collection ${count(goroutine.removedBy)} after turn ${count(goroutine.removed)}. `
-      + `Dead before in ${kind} at ${place(row)}, started at ${place(goroutine.started)}.`;
+      + `Dead before in ${kind} at ${place(spot)}, started at ${place(goroutine.started)}.`;
     return item;
   });
 }

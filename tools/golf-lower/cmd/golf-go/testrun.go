@@ -11,11 +11,14 @@ import (
 	"golflower/verdict"
 )
 
-// The schedules that are tried for each test beside rotation, and the turns that each of them has.
+// The schedules that are tried for each test beside rotation, and the turns that each of them has. A test with a clock is also
+// run by the loose clock, by seeds with holds and by seeds with goroutines that begin late.
 const (
 	plainSeeds = 3
 	holdSeeds  = 12
+	looseSeeds = 2
 	tryTurns   = "1000000"
+	lateTurns  = "3000000"
 )
 
 // testRun is one test that is run.
@@ -152,19 +155,34 @@ func (r *testRun) chosen(own words) {
 	r.over()
 }
 
-// seeds runs the test by some seeds, and then by more of them with goroutines that the schedule holds.
+// seeds runs the test by some seeds, and then by more of them with goroutines that the schedule holds. In a test with a clock
+// time passes in the last ones while goroutines run.
 func (r *testRun) seeds() {
-	for i := range plainSeeds + holdSeeds {
-		own, seed := r.words.own, i+1
-		if i >= plainSeeds {
-			own.hold, seed = true, i+1-plainSeeds
-		}
-		a := attempt{own, tryTurns, []string{"--every", every, "--schedule", "seed:" + strconv.Itoa(seed)}}
+	own := r.words.own
+	held, looseHeld, looseLate := own, own, own
+	held.hold = true
+	looseHeld.hold, looseHeld.loose = true, true
+	looseLate.late, looseLate.loose = true, true
+	list := append(seedsOf(own, tryTurns, plainSeeds), seedsOf(held, tryTurns, holdSeeds)...)
+	if !own.loose && r.output(own).Clock {
+		list = append(list, seedsOf(looseHeld, tryTurns, looseSeeds)...)
+		list = append(list, seedsOf(looseLate, lateTurns, looseSeeds)...)
+	}
+	for _, a := range list {
 		r.takeMore(r.once(a), a, r.command(a))
 		if r.over() {
 			return
 		}
 	}
+}
+
+// seedsOf are runs by the first seeds.
+func seedsOf(own words, turns string, seeds int) []attempt {
+	var list []attempt
+	for seed := range seeds {
+		list = append(list, attempt{own, turns, []string{"--every", every, "--schedule", "seed:" + strconv.Itoa(seed+1)}})
+	}
+	return list
 }
 
 // takeFirst keeps what the first run has shown.
@@ -180,7 +198,8 @@ func (r *testRun) takeFirst(o *outcome, a attempt) {
 }
 
 // takeMore keeps what another run has shown that the first one has not. A goroutine that is reported counts if the test does
-// not fail in this run; again is the command that shows it. That a test fails while its goroutines are held does not count if it has a clock: time passes meanwhile.
+// not fail in this run; again is the command that shows it. A failure of a test with a clock does not count while its goroutines
+// are held or time passes while they run.
 func (r *testRun) takeMore(o *outcome, a attempt, again string) {
 	if o == nil {
 		return
@@ -189,7 +208,7 @@ func (r *testRun) takeMore(o *outcome, a attempt, again string) {
 	switch {
 	case o.kind == verdict.Refused:
 		r.leaveOut(o)
-	case o.kind == verdict.Fail && !o.panicked && a.own.hold && o.clock:
+	case o.kind == verdict.Fail && o.clock && (a.own.loose || a.own.hold && !o.panicked):
 	case o.kind == verdict.Fail, o.kind == verdict.Deadlock:
 		r.keep(o, again)
 	default:

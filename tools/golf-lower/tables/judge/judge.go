@@ -8,6 +8,7 @@ import (
 	"fmt"
 	"os"
 	"os/exec"
+	"path/filepath"
 	"strings"
 	"time"
 
@@ -51,6 +52,17 @@ func Run(cmd *exec.Cmd) (Shown, error) {
 		return Shown{}, err
 	}
 	return shown.ByGo(out, errs, status), nil
+}
+
+// RunAlone builds a file by Go as a program of its own, and runs it.
+func RunAlone(dir, file string) (Shown, error) {
+	program := filepath.Join(dir, "alone")
+	build := exec.Command("go", "build", "-trimpath", "-o", program, file)
+	build.Dir = dir
+	if out, err := build.CombinedOutput(); err != nil {
+		return Shown{}, fmt.Errorf("go build: %w\n%s", err, out)
+	}
+	return Run(exec.Command(program))
 }
 
 // start runs a command within the limit.

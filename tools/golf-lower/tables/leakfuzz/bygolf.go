@@ -20,6 +20,9 @@ type way struct {
 	args    []string
 }
 
+// rareSeeds are the further seeds with holds, for leaks that few schedules show.
+const rareSeeds = 200
+
 // ways are tried one after the other: the cheap ones for each program, the others for leaks that these have not shown.
 func ways() (cheap, more []way) {
 	collect := lower.Options{Collect: true}
@@ -40,6 +43,12 @@ func ways() (cheap, more []way) {
 			run("--hold", lower.Options{Collect: true, Hold: true}, s),
 			run("--clock loose", lower.Options{Collect: true, Loose: true}, s),
 			run("--clock loose --pause", lower.Options{Collect: true, Loose: true, Pause: true}, s))
+	}
+	for seed := range rareSeeds {
+		s := fmt.Sprintf("seed:%d", seed+21)
+		more = append(more,
+			run("--hold", lower.Options{Collect: true, Hold: true}, s),
+			run("--clock loose --hold", lower.Options{Collect: true, Loose: true, Hold: true}, s))
 	}
 	search := []string{"search", "--states", "20000", "--preemptions", "2", "--seconds", "10"}
 	return cheap, append(more, way{"search", lower.Options{Collect: true, Loose: true}, "GOLF_EXPLORE", search})

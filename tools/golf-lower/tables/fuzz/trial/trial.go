@@ -145,7 +145,8 @@ func (b *Batch) Program(p *Program) *exec.Cmd {
 	return exec.Command(filepath.Join(b.dir, "all", "tried"), p.name)
 }
 
-// try runs a program by Go and by golf-go.
+// try runs a program by Go and by golf-go. One that differs is built alone, too: its output may show the name of its package
+// in a form that asMain does not know, as in hexadecimal digits.
 func (b *Batch) try(p *Program) {
 	want, err := judge.Run(b.Program(p))
 	if err != nil {
@@ -154,5 +155,13 @@ func (b *Batch) try(p *Program) {
 	}
 	asMain := strings.NewReplacer("tried/"+p.name+".", "main.", p.name+".", "main.").Replace // in full where a type has arguments
 	p.want = judge.Shown{Out: asMain(want.Out), Errs: asMain(want.Errs), End: asMain(want.End)}
-	p.Verdict = judge.ByGolf(p.want, filepath.Join(b.dir, "own", p.name), "p.go")
+	own := filepath.Join(b.dir, "own", p.name)
+	p.Verdict = judge.ByGolf(p.want, own, "p.go")
+	if p.Verdict.Kind != judge.Different {
+		return
+	}
+	if alone, err := judge.RunAlone(own, "p.go"); err == nil && alone != p.want {
+		p.want = alone
+		p.Verdict = judge.ByGolf(p.want, own, "p.go")
+	}
 }
