@@ -24,6 +24,7 @@ use Rattle.golf_model_futures.proofs.MainLaws as Law
 use Rattle.golf_meaning_runs.proofs.WholeFiles.{files-sound}
 use Rattle.golf_meaning_runs.proofs.Agreeing.{programs-agree}
 use Rattle.golf_meaning_runs.proofs.Runs.{runs-mean-sources}
+use Rattle.golf_meaning_runs.proofs.JoinedRuns.{runs-are-joined}
 use Rattle.golf_code_never_stuck.specs.Reached.{IsProgram}
 use Rattle.golf_code_never_stuck.proofs.Reaching.{reached-moves-on}
 use Rattle.golf_code_never_stuck.proofs.Plain.{plain-runs-go-on}
@@ -72,6 +73,7 @@ means-its-source bytes file a =
       agrees = programs-agree file program;
       lacks_no_rule = files-sound file a.typed.keeps a.typed.tree.reads.form.good;
       runs = runs-mean-sources file program;
+      joined = runs-are-joined file program;
     }
 
 sound-by : (options : Option RunOptions) (bytes : List ℕ) (file : File) → Accepts bytes file

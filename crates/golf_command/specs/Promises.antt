@@ -15,6 +15,7 @@ use Rattle.golf_code_of.specs.Files.{CodeOf}
 use Rattle.golf_meaning_runs.specs.FileLaws.{MeaningsSound}
 use Rattle.golf_meaning_runs.specs.Agreement.{SourcesAgree}
 use Rattle.golf_meaning_runs.specs.Laws.{RunMeansSource}
+use Rattle.golf_meaning_runs.specs.JoinedRuns.{RunIsJoined}
 use Rattle.golf_reader.specs.Refusals.{HasTypedTree, IsUnlexed, IsUnparsed, IsUntyped}
 use Rattle.golf_run_schedules.specs.declared.options.RunOptions.{RunOptions}
 use Rattle.golf_command_sample.specs.File.{file as generated_file}
@@ -91,10 +92,16 @@ pub record MovesAlways (code : Code) (options : RunOptions) : Type 0 where
 -- The same holds in each run of the plain machine, after each turn. With the answers that a call got, the operations of
 -- its source begin with those that the call has shown. If the call waits, they are exactly these, and the source waits
 -- at the last one. If the call has ended, they are exactly these, with the same end. Its code means the same.
+--
+-- The calls of a run are joined. Function and arguments of a call are those that the call which began it has shown, with
+-- its call instruction, its `go` or its `defer`. Each `go` has started a goroutine. The answer that a caller got of a
+-- call is what that call returned. The deferred calls of a call run after its end, the latest first, each before the
+-- next. A call that a panic reaches leaves after the last of them, and its caller gets no answer.
 pub record MeansItsSource (file : File) : Type 0 where
   pub agrees : SourcesAgree file
   pub lacks_no_rule : MeaningsSound file
   pub runs : (events : List Event) → RunMeansSource file events
+  pub joined : (events : List Event) → RunIsJoined file events
 
 -- the line with which a file is refused
 pub data RefusedBy (bytes : List ℕ) : List ℕ → Type 0 where

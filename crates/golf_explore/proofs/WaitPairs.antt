@@ -60,15 +60,6 @@ adds-at s g t h r q old new (Ok u) f k a = record {
       (a.has o (subst (λ (x : GoroutineView). In o (waited (waits_of x.mode))) (sym one) i)));
 }
 
--- no goroutine or no partner: nothing to add
-pub adds-none : (s : State) (g : ℕ) (t : State) (other : Option ℕ) (old new : List WaitPair) → new ≡ old
-    → ((h : ℕ) (r q : GoroutineView) → other ≡ Some h → find g s.goroutines ≡ Some r → find h t.goroutines ≡ Some q → ⊥)
-    → AddsWaitsAt s g t other old new
-adds-none s g t other old new is none = record {
-  grows = λ w i. subst (In w) (sym is) i;
-  has = λ h r q a f k o i. absurd (none h r q a f k);
-}
-
 -- the waits of one goroutine more
 pub has-more : (s : State) (gs : List ℕ) (t : State) (hs to : List ℕ) (at g : ℕ) (other : Option ℕ)
     (old new : List WaitPair) → slice_get gs at ≡ Some g → other ≡ partner hs to at → HasWaits s gs t hs to at old

@@ -9,7 +9,8 @@ use Rattle.golf_model_typing.specs.Types.{ValueType, Shape, Typing, with_shapes}
 use Rattle.golf_model_typing.specs.Shapes.{FunctionFits, HasShapes}
 use Rattle.golf_meaning_runs.specs.Life.{Life}
 use Rattle.golf_meaning_runs.proofs.Answering.{answers-are-typed}
-use Rattle.golf_meaning_runs.specs.Books.{Call, HasLife, IsAnswered}
+use Rattle.golf_meaning_runs.specs.Books.{HasLife, IsAnswered}
+use Rattle.golf_meaning_runs.specs.CallRecords.{Call}
 use Rattle.golf_meaning_runs.proofs.Others.{one-some}
 
 pub is-answered : (code : Code) (types : Typing) → HasShapes code types → (known : List (ℕ × ValueType)) (k : Call)

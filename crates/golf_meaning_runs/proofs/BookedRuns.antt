@@ -27,17 +27,23 @@ use Rattle.golf_model_futures.proofs.Leading.{numbered-start, numbered-turned, n
 use Rattle.golf_model_futures.proofs.Stopping.{run-kept}
 use Rattle.golf_model_typing.specs.Types.{ValueType, Typing, ValuesFit}
 use Rattle.golf_model_typing.specs.Shapes.{HasShapes}
-use Rattle.golf_meaning_runs.specs.Books.{RunTypes, Book, fresh, turned_book, booked_in, book_from, first_book}
+use Rattle.golf_meaning_runs.specs.Books.{RunTypes, Book, turned_book, booked_in, book_from, first_book}
+use Rattle.golf_meaning_runs.specs.CallRecords.{Origin, fresh}
+use Rattle.golf_meaning_runs.specs.Joins.{IsOutermostOf, OutermostIs}
+use Rattle.golf_meaning_runs.specs.Books.{frames_in, frames_at, calls_after}
+use Rattle.golf_meaning_runs.proofs.Outermost.{notes-start, after-turn, by-go}
+use Rattle.golf_model.specs.Finalisers.{begins_queued}
 use Rattle.golf_meaning_runs.specs.Books.{book_of, left_at_turn, left_in, left_from, left_of, IsAnswered}
 use Rattle.golf_meaning_runs.specs.Books.{CanBeCalledWith}
 use Rattle.golf_meaning_runs.specs.Books.{HasLife, HasParameters, FramesMatch, HasMasks, TypedIn, TypedAlong}
 use Rattle.golf_meaning_runs.specs.Books.{RunsAreBooked}
-use Rattle.golf_meaning_runs.proofs.Framing.{fresh-top}
 use Rattle.golf_meaning_runs.proofs.Others.{one-some, none-some}
 use Rattle.golf_meaning_runs.proofs.Rebooking.{matches-live}
-use Rattle.golf_meaning_runs.proofs.Turned.{own_calls, started_calls, HasLeft, Done}
+use Rattle.golf_meaning_runs.proofs.Turned.{own_calls, started_calls, Done}
+use Rattle.golf_meaning_runs.specs.Books.{CallHasLeft}
 use Rattle.golf_meaning_runs.proofs.Clearing.{after-clearing}
 use Rattle.golf_meaning_runs.proofs.Booking.{Booked, PassesOn, turn-done}
+use Rattle.golf_meaning_runs.proofs.Booking.{first-fits as begun-first}
 use Rattle.golf_meaning_runs.proofs.Answered.{is-answered}
 use Rattle.golf_meaning_runs.proofs.Counting.{call-takes, passes-on}
 
@@ -48,23 +54,38 @@ runs-so Mode.Running e = refl
 runs-so (Mode.Blocked kind line waits ticket) e = cc
 
 -- after a turn all calls are those that are written down
-from-done : (code : Code) (types : RunTypes) (s : State) (c g : ℕ) (b : Book) → Booked code types s b
-    → Done code types s g b (step code s c) → Booked code types (step code s c) (turned_book code s c (Some g) b)
-from-done code types s c g b booked d =
+from-done : (code : Code) (types : RunTypes) (s : State) (c g : ℕ) (b : Book) → (frames_at s g ≡ [] → g ≡ 0)
+    → Booked code types s b → Done code types s g b (step code s c) → Booked code types (step code s c) (turned_book code s c (Some g) b)
+from-done code types s c g b first booked d =
     let t = step code s c in record {
       lives = λ h. elim (h == g) as (λ z. Every (HasLife code types)
-          (cond z (own_calls code s g b t) (cond (h == s.next_goroutine) (started_calls code s g t h) (b h)))) [
+          (cond z (own_calls code s g b t) (cond (h == s.next_goroutine) (started_calls code s g b t h) (b h)))) [
             | true ↦ d.lives
             | false ↦ elim (h == s.next_goroutine) as (λ z. h == s.next_goroutine ≡ z
-                → Every (HasLife code types) (cond z (started_calls code s g t h) (b h))) [
-                  | true ↦ λ e. subst (λ j. Every (HasLife code types) (started_calls code s g t j))
+                → Every (HasLife code types) (cond z (started_calls code s g b t h) (b h))) [
+                  | true ↦ λ e. subst (λ j. Every (HasLife code types) (started_calls code s g b t j))
                       (sym (eqb-true h s.next_goroutine e)) d.begun
                   | false ↦ λ e. booked.lives h
                 ] refl
           ];
+      outer = λ h. elim (h == g) as (λ z. h == g ≡ z → OutermostIs (IsOutermostOf h)
+          (cond z (own_calls code s g b t) (cond (h == s.next_goroutine) (started_calls code s g b t h) (b h)))) [
+            | true ↦ λ e.
+                let same = eqb-true h g e in
+                let P = IsOutermostOf h in
+                notes-start P s.next_goroutine (started_calls code s g b t s.next_goroutine)
+                (calls_after code s.queue (frames_at s g) (frames_at t g) (b g))
+                (after-turn P code s.queue (frames_at s g) (frames_at t g) (b g) (λ none. same ∙ first none)
+                (subst (λ j. OutermostIs P (b j)) same (booked.outer h)))
+            | false ↦ λ e. elim (h == s.next_goroutine) as (λ z. OutermostIs (IsOutermostOf h)
+                (cond z (started_calls code s g b t h) (b h))) [
+                  | true ↦ by-go (IsOutermostOf h) code (frames_at s g) (b g) (frames_at t h) (λ f k. tt)
+                  | false ↦ booked.outer h
+                ]
+          ] refl;
       fits = λ none h q found. elim (h == g) as (λ z. h == g ≡ z
           → FramesMatch code types q.mode q.frames
-          (cond z (own_calls code s g b t) (cond (h == s.next_goroutine) (started_calls code s g t h) (b h)))) [
+          (cond z (own_calls code s g b t) (cond (h == s.next_goroutine) (started_calls code s g b t h) (b h)))) [
             | true ↦ λ e. d.fits none q (ap (λ j. find j t.goroutines) (sym (eqb-true h g e)) ∙ found)
             | false ↦ λ e. d.others none h q (λ same. eqb-false h g e same) found
           ] refl;
@@ -82,6 +103,20 @@ module _ (code : Code) (types : RunTypes) (masks : HasMasks code) (s : State) (c
     where
       false-true : false ≡ true → ⊥
       false-true i = cc
+
+  -- of goroutines without frames only goroutine 0 takes turns
+  first-by : (g : ℕ) (r : GoroutineView) (b0 : Bool) → g == 0 ≡ b0
+      → (cond b0 (begins_queued code r s.queue) [] ≡ [] → ⊥) → g ≡ 0
+  first-by g r true e fit = eqb-true g 0 e
+  first-by g r false e fit = absurd (fit refl)
+
+  is-first : (g : ℕ) → whose_turn s c ≡ Some g → frames_at s g ≡ [] → g ≡ 0
+  is-first g e none =
+      let r = turn-running s c g e in
+      let found = find-Entry s.goroutines g r.0 numbered.goroutines_rise r.1 in
+      let frames : r.0.frames ≡ [] = sym (ap frames_in found) ∙ none in
+      first-by g r.0 (g == 0) refl (λ z. fits-a-rule g e (ap (turn_of code g choice s) found
+      ∙ ap (λ fs. goroutine_changes code g r.0 choice s fs) frames ∙ z))
 
   of-goroutine : (g : ℕ) → whose_turn s c ≡ Some g → Done code types s g b (step code s c)
   of-goroutine g e =
@@ -102,16 +137,16 @@ module _ (code : Code) (types : RunTypes) (masks : HasMasks code) (s : State) (c
     where
       false-true : false ≡ true → ⊥
       false-true i = cc
-  turn-by (Some g) e = from-done code types s c g b booked (of-goroutine g e)
+  turn-by (Some g) e = from-done code types s c g b (is-first g e) booked (of-goroutine g e)
 
   turn-booked : Booked code types (step code s c) (turned_book code s c (whose_turn s c) b)
   turn-booked = turn-by (whose_turn s c) refl
 
-  left-by : (m : Option ℕ) → whose_turn s c ≡ m → Every (HasLeft code types) (left_at_turn code s c m b)
+  left-by : (m : Option ℕ) → whose_turn s c ≡ m → Every (CallHasLeft code types) (left_at_turn code s c m b)
   left-by None e = tt
   left-by (Some g) e = (of-goroutine g e).left
 
-  turn-left : Every (HasLeft code types) (left_at_turn code s c (whose_turn s c) b)
+  turn-left : Every (CallHasLeft code types) (left_at_turn code s c (whose_turn s c) b)
   turn-left = left-by (whose_turn s c) refl
 
 -- ---- an event
@@ -127,7 +162,7 @@ not-ended (Some x) e = cc
 -- a collection touches no goroutine
 collected-booked : (code : Code) (types : RunTypes) (collects : Bool) (s : State) (b : Book) → Booked code types s b
     → Booked code types (collected_if plain_collect code collects s) b
-collected-booked code types true s b h = record { lives = h.lives; fits = h.fits }
+collected-booked code types true s b h = record { lives = h.lives; fits = h.fits; outer = h.outer }
 collected-booked code types false s b h = h
 
 -- a state in which a rule fits each turn, and calls have their arguments
@@ -148,7 +183,7 @@ event-booked code types masks s b n h well false i Event.Collect = collected-boo
 
 event-left : (code : Code) (types : RunTypes) → HasMasks code → (s : State) (b : Book) → Numbered s
     → Booked code types s b → Well code types s → (ended : Bool) → has_ended s ≡ ended → (e : Event)
-    → Every (HasLeft code types) (left_in ended code s e b)
+    → Every (CallHasLeft code types) (left_in ended code s e b)
 event-left code types masks s b n h well true i e = tt
 event-left code types masks s b n h well false i (Event.Turn c) =
     let open_end = not-ended (ending s) i in
@@ -176,11 +211,11 @@ run-booked code types masks (e ∷ es) s b n h well =
     (numbered-run code (e ∷ []) s n) (event-booked code types masks s b n h well.0 (has_ended s) refl e) well.1
 
 run-left : (code : Code) (types : RunTypes) → HasMasks code → (es : List Event) (s : State) (b : Book) → Numbered s
-    → Booked code types s b → WellAlong code types s es → Every (HasLeft code types) (left_from code s es b)
+    → Booked code types s b → WellAlong code types s es → Every (CallHasLeft code types) (left_from code s es b)
 unfolding WellAlong
 run-left code types masks [] s b n h well = tt
 run-left code types masks (e ∷ es) s b n h well =
-    Every-append (HasLeft code types) (left_in (has_ended s) code s e b)
+    Every-append (CallHasLeft code types) (left_in (has_ended s) code s e b)
     (left_from code (happens code s e) es (booked_in (has_ended s) code s e b))
     (event-left code types masks s b n h well.0 (has_ended s) refl e)
     (run-left code types masks es (happens code s e) (booked_in (has_ended s) code s e b)
@@ -207,33 +242,39 @@ module _ (code : Code) (types : RunTypes) (masks : HasMasks code) (moves : Moves
       false-true i = cc
 
   module _ (fn : Function) (is : slice_get code.functions 0 ≡ Some fn) where
-    begun : FramesMatch code types Mode.Running (opened 0 [] true fn ∷ []) (fresh 0 [] ∷ [])
-    begun = (fresh-top code types masks 0 [] true fn is (takes fn is), tt)
+    begun : FramesMatch code types Mode.Running (opened 0 [] true fn ∷ []) (fresh Origin.Opening 0 [] ∷ [])
+    begun = begun-first code types masks Origin.Opening 0 [] fn refl tt tt (refl, refl) is (takes fn is)
 
     begun-fits : FramesMatch code types Mode.Running (first_one code (slice_get code.functions 0)).frames
-        (fresh 0 [] ∷ [])
-    begun-fits = subst (λ m. FramesMatch code types Mode.Running (first_one code m).frames (fresh 0 [] ∷ []))
+        (fresh Origin.Opening 0 [] ∷ [])
+    begun-fits = subst (λ m. FramesMatch code types Mode.Running (first_one code m).frames (fresh Origin.Opening 0 [] ∷ []))
         (sym is) begun
 
-    begun-lives : (first : Bool) → Every (HasLife code types) (cond first (fresh 0 [] ∷ []) [])
-    begun-lives true = matches-live code types Mode.Running (opened 0 [] true fn ∷ []) (fresh 0 [] ∷ []) begun
+    begun-lives : (first : Bool) → Every (HasLife code types) (cond first (fresh Origin.Opening 0 [] ∷ []) [])
+    begun-lives true = matches-live code types Mode.Running (opened 0 [] true fn ∷ []) (fresh Origin.Opening 0 [] ∷ []) begun
     begun-lives false = tt
 
     first-fits : (h : ℕ) (q : GoroutineView) (zeroth first : Bool) → h == 0 ≡ zeroth → h == 1 ≡ first
         → cond zeroth (Some (record { frames = []; mode = Mode.Running; started = 0 }))
         (cond first (Some (first_one code (slice_get code.functions 0))) None) ≡ Some q
-        → FramesMatch code types q.mode q.frames (cond first (fresh 0 [] ∷ []) [])
+        → FramesMatch code types q.mode q.frames (cond first (fresh Origin.Opening 0 [] ∷ []) [])
     first-fits h q true true i j e = absurd
         (let zero_is = eqb-true h 0 i in let one_is = eqb-true h 1 j in omega (arith, zero_is, one_is))
     first-fits h q true false i j e = subst (λ (z : GoroutineView). FramesMatch code types z.mode z.frames [])
         (one-some _ q e) tt
     first-fits h q false true i j e = subst
-        (λ (z : GoroutineView). FramesMatch code types z.mode z.frames (fresh 0 [] ∷ [])) (one-some _ q e) begun-fits
+        (λ (z : GoroutineView). FramesMatch code types z.mode z.frames (fresh Origin.Opening 0 [] ∷ [])) (one-some _ q e) begun-fits
     first-fits h q false false i j e = absurd (none-some q e)
+
+    first-outer : (h : ℕ) (first : Bool) → h == 1 ≡ first
+        → OutermostIs (IsOutermostOf h) (cond first (fresh Origin.Opening 0 [] ∷ []) [])
+    first-outer h true e = eqb-true h 1 e
+    first-outer h false e = tt
 
     first-booked : Booked code types (start code) first_book
     first-booked = record {
       lives = λ h. begun-lives (h == 1);
+      outer = λ h. first-outer h (h == 1) refl;
       fits = λ none h q found. first-fits h q (h == 0) (h == 1) refl refl found;
     }
 
@@ -284,10 +325,11 @@ runs-are-booked code types masks shapes parameters goes events =
             (not_empty (runnable (run code (start code) events))) e) g r
             (find-Entry (run code (start code) events).goroutines g r n.goroutines_rise entry);
         always = h.lives;
+        first = h.outer;
         left = left;
         answered = λ g. Every-weaker (HasLife code all) (IsAnswered all) (λ k l. is-answered code types shapes t.0 k l)
             (book_of code events g) (h.lives g);
-        left_answered = Every-weaker (HasLeft code all) (IsAnswered all)
-            (λ k l. is-answered code types shapes t.0 k l.0) (left_of code events) left;
+        left_answered = Every-weaker (CallHasLeft code all) (IsAnswered all)
+            (λ k l. is-answered code types shapes t.0 k l.life) (left_of code events) left;
       },
     )

@@ -3,7 +3,8 @@
 -- By: cases of the goroutine of the turn, of its innermost frame and of how that is left; no induction.
 use Rattle.std.proofs.Common.{◌≡◌, ℕ, ◌==◌, Bool, true, false, cond, List, [], ◌∷◌, Option, Some, None, refl, ap, sym}
 use Rattle.std.proofs.Common.{◌∙◌, subst, slice_get, arith}
-use Rattle.std.specs.Prelude.{option_map, option_and_then}
+use Rattle.std.specs.Prelude.{option_map, option_and_then, option_to_list}
+use Rattle.std.proofs.Common.{◌++◌, length, ◌-◌, inl, inr}
 use Rattle.std.proofs.lemmas.Bool.{eqb-true}
 use Rattle.golf_theory.specs.Membership.{Every}
 use Rattle.golf_theory.specs.Maps.{put, find, IsRising}
@@ -27,40 +28,104 @@ use Rattle.golf_model.specs.Turn.{turn_of}
 use Rattle.golf_meaning_runs.specs.FrameShapes.{FitsShaping}
 use Rattle.golf_meaning_runs.specs.VisibleOutcomes.{CalledBy}
 use Rattle.golf_meaning_runs.specs.Life.{frame, Now, Life}
-use Rattle.golf_meaning_runs.specs.TurnsInLives.{operation, Asked, shows, ends_with}
+use Rattle.golf_meaning_runs.specs.TurnsInLives.{answer, operation, Asked, shows, ends_with}
 use Rattle.golf_meaning_runs.proofs.Turning.{turns-are-lived}
-use Rattle.golf_meaning_runs.specs.Books.{RunTypes, shaping, Shaped, AreArguments, Standing, Call, Book, fresh}
+use Rattle.golf_meaning_runs.specs.Books.{RunTypes, shaping, Shaped, AreArguments, Book}
+use Rattle.golf_meaning_runs.specs.CallRecords.{Standing, Origin, Call, fresh, beginning, beginners}
+use Rattle.golf_meaning_runs.specs.Joins.{IsOutermostOf, OutermostIs, IsBegun, IsOutermost, DiscardsSo, Joined, DefersAll, JoinsOnTop, JoinsTop}
+use Rattle.golf_meaning_runs.specs.Books.{AreLived, TiesOf, FramesStand, popped}
+use Rattle.golf_meaning_flat.specs.Worlds.{pushed}
+use Rattle.golf_meaning_flat.specs.Flat.{lower}
 use Rattle.golf_meaning_runs.specs.Books.{settled_by, with_turn, line_shows, line_ends, turned_call, operands_shown}
 use Rattle.golf_meaning_runs.specs.Books.{passed, calls_after, frames_in, frames_at, left_by, CanBeCalledWith, HasLife}
 use Rattle.golf_meaning_runs.specs.Books.{IsOnTop}
 use Rattle.golf_meaning_runs.specs.Books.{Top, FramesMatch, HasMasks}
-use Rattle.golf_meaning_runs.proofs.Framing.{fresh-top, settled-lives}
+use Rattle.golf_meaning_runs.proofs.Framing.{fresh-top, fresh-joins, fresh-ties, answer-is, settled-lives}
+use Rattle.golf_meaning_runs.proofs.Joining.{comes}
 use Rattle.golf_meaning_runs.proofs.Others.{Fits, runs-awake}
 use Rattle.golf_meaning_runs.proofs.Owning.{Became, by-life}
 use Rattle.golf_meaning_runs.proofs.Leaving.{by-returning, by-unwinding}
-use Rattle.golf_meaning_runs.proofs.Turned.{HasLeft, Done, done-going, done}
+use Rattle.golf_meaning_runs.proofs.Turned.{Done, done-going, done, none-started}
+use Rattle.golf_meaning_runs.specs.Books.{CallHasLeft}
 
--- each call has a life, and unless the run has ended each goroutine matches its calls
+-- Each call has a life, and unless the run has ended each goroutine matches its calls. The outermost calls are those of
+-- goroutines 0 and 1, or were begun by `go`.
 pub record Booked (code : Code) (types : RunTypes) (s : State) (b : Book) : Type 0 where
   pub lives : (h : ℕ) → Every (HasLife code types) (b h)
   pub fits : s.recorded ≡ None → Fits code types b s
+  pub outer : (h : ℕ) → OutermostIs (IsOutermostOf h) (b h)
+
+-- the first call of a goroutine that no call began
+pub first-fits : (code : Code) (types : RunTypes) (masks : HasMasks code) (by : Origin) (g : ℕ) (vs : List Value)
+    (fn : Function) → beginners by ≡ [] → IsOutermost by → DiscardsSo by true → IsBegun by g vs → slice_get code.functions g ≡ Some fn → (length vs ≡ fn.params) × AreArguments types g vs
+    → FramesMatch code types Mode.Running (opened g vs true fn ∷ []) (fresh by g vs ∷ [])
+first-fits code types masks by g vs fn none first discards begun is count = (
+  fresh-top code types masks by g vs true fn is count,
+  fresh-joins by g vs true fn,
+  fresh-ties code types by g vs true begun (subst (AreLived code types) (sym none) tt) discards,
+  first,
+)
 
 -- a call whose last answer is written down
-record Settled (types : RunTypes) (fn : Function) (k : Call) (f : FrameView) (settled : Call) : Type 0 where
+record Settled (code : Code) (types : RunTypes) (fn : Function) (k : Call) (f : FrameView) (settled : Call)
+    : Type 0 where
+  begins : beginning settled ≡ beginning k
+  joined : Joined settled.shown settled.got settled.made
+  defers : DefersAll settled f
+  ties : TiesOf code types settled f.discards
   same : settled.function ≡ k.function
   given : AreArguments types settled.function settled.arguments
   idle : settled.standing ≡ Standing.Goes
   life : Life fn (shaping types settled.function) settled.arguments settled.shown settled.got
       (Now.Stands f.at (frame f.slots f.operands))
 
-settles : (types : RunTypes) (fn : Function) (k : Call) (f : FrameView) (m : Standing)
+-- of none or one value the top comes first and last
+pushed-one : (v : Option Value) (rest : List Value) → option_to_list v ++ rest ≡ pushed (option_to_list v) rest
+pushed-one None rest = refl
+pushed-one (Some v) rest = refl
+
+-- the last operation is answered: it was no call, or its call has returned the answer
+settled-joins : (k : Call) (f : FrameView) (q : Asked) → JoinsOnTop k f (Standing.Asks q) Mode.Running
+    → Joined k.shown
+    (k.got ++ answer (lower q.ranks f.at) (popped (length f.operands - length q.rest) [] f.operands) ∷ []) k.made
+settled-joins k f q (inl (os, o, shown, (plain, joined))) =
+    let a = answer (lower q.ranks f.at) (popped (length f.operands - length q.rest) [] f.operands) in
+    subst (λ z. Joined z (k.got ++ a ∷ []) k.made) (sym shown) (Joined.Other o a joined plain)
+settled-joins k f q (inr (v, (os, o, shown, (made, x, made_is, called, returned, joined)), ops)) =
+    let a = answer (lower q.ranks f.at) (popped (length f.operands - length q.rest) [] f.operands) in
+    let values : a.values ≡ option_to_list v =
+    ap (λ zs. popped (length zs - length q.rest) [] zs) (ops ∙ pushed-one v q.rest)
+    ∙ answer-is (option_to_list v) q.rest in
+    subst (λ z. Joined k.shown (k.got ++ a ∷ []) z) (sym made_is)
+    (subst (λ z. Joined z (k.got ++ a ∷ []) (made ++ x ∷ [])) (sym shown)
+    (Joined.Returned o a x v joined called returned values))
+
+settles : (code : Code) (types : RunTypes) (fn : Function) (k : Call) (f : FrameView) (m : Standing)
+    → JoinsOnTop k f m Mode.Running → DefersAll k f → TiesOf code types k f.discards
     → AreArguments types k.function k.arguments → k.standing ≡ m
     → Shaped types k.function f.at (frame f.slots f.operands) → IsOnTop types fn k f m Mode.Running
-    → Settled types fn k f (settled_by m f k)
-settles types fn k f (Standing.Ended i) given e fits h = absurd h
-settles types fn k f Standing.Goes given e fits h = record { same = refl; given = given; idle = e; life = h }
-settles types fn k f (Standing.Asks q) given e fits h =
-    record { same = refl; given = given; idle = refl; life = settled-lives types fn k f q fits h }
+    → Settled code types fn k f (settled_by m f k)
+settles code types fn k f (Standing.Ended i) joins all ties given e fits h = absurd h
+settles code types fn k f Standing.Goes joins all ties given e fits h = record {
+  begins = refl;
+  joined = joins;
+  defers = all;
+  ties = ties;
+  same = refl;
+  given = given;
+  idle = e;
+  life = h;
+}
+settles code types fn k f (Standing.Asks q) joins all ties given e fits h = record {
+  begins = refl;
+  joined = settled-joins k f q joins;
+  defers = all;
+  ties = ties;
+  same = refl;
+  given = given;
+  idle = refl;
+  life = settled-lives types fn k f q fits h;
+}
 
 -- the innermost frame has the shape of its place, and its function fits its shapes; and what a goroutine with these
 -- frames requeues in its turn, and the entries of the queue, have as many values as the functions have parameters
@@ -106,7 +171,9 @@ module _ (code : Code) (types : RunTypes) (masks : HasMasks code) (b : Book) (s 
         let top : IsOnTop types fn k f k.standing Mode.Running =
         subst (λ left. Top types fn k f left Mode.Running) staying o.4 in
         let fits = passes.stands f callers frames staying in
-        let x = settles types fn k f k.standing o.3.0 refl
+        let joins : JoinsTop k f Leaving.No Mode.Running =
+        subst (λ left. JoinsTop k f left Mode.Running) staying here.1 in
+        let x = settles code types fn k f k.standing joins.0 joins.1 here.2 o.3.0 refl
         (subst (λ n. Shaped types n f.at (frame f.slots f.operands)) o.2 fits) top in
         let at : slice_get fn.body f.at ≡ Some l =
         sym (ap (λ (m : Option Function). option_and_then (λ fn. slice_get fn.body f.at) m)
@@ -118,9 +185,11 @@ module _ (code : Code) (types : RunTypes) (masks : HasMasks code) (b : Book) (s 
         (runs-awake s rising g r found runs) in
         let is : slice_get code.functions kk.function ≡ Some fn = ap (λ n. slice_get code.functions n) x.same ∙ o.1 in
         let became = by-life code types masks s fn (a l.line) l.instr kk ks is
-        (o.2 ∙ sym x.same) x.given x.idle staying here.1 (shows l.instr f.operands)
+        (o.2 ∙ sym x.same) x.given x.idle staying
+        (subst (λ z. FramesStand code types z callers ks) (sym x.begins) here.3) x.joined x.defers x.ties
+        (shows l.instr f.operands)
         (ends_with l.instr f.at (frame f.slots f.operands)) (changes code l.instr (a l.line) choice s)
-        (passes.operands f callers l frames staying e) lived in (
+        (passes.operands f callers l frames staying e) (comes code (a l.line) choice s l.instr) lived in (
           l.line,
           subst (λ m. Became code types s (a l.line) (with_turn (line_shows m f) (line_ends m f) kk) ks
               (operands_shown (line_shows m f)) (changes code l.instr (a l.line) choice s)) (sym e) became,
@@ -131,18 +200,18 @@ module _ (code : Code) (types : RunTypes) (masks : HasMasks code) (b : Book) (s 
     by-leaving Leaving.No e fit = by-line e (line_at code f.function f.at) refl fit
     by-leaving (Leaving.Returning v) e fit = (
       return_line code f,
-      by-returning code types masks s (a (return_line code f)) k ks here v e f.deferred
+      by-returning code types masks s (a (return_line code f)) k ks here v e f.deferred refl
           (passes.deferred f callers frames),
     )
     by-leaving (Leaving.Unwinding x) e fit =
-        (x.line, by-unwinding code types masks s (a x.line) k ks here x e f.deferred (passes.deferred f callers frames))
+        (x.line, by-unwinding code types masks s (a x.line) k ks here x e f.deferred refl (passes.deferred f callers frames))
 
     by-frame : (frame_changes code g r f callers choice s f.leaving ≡ [] → ⊥) → (t : State)
         → KeysBelow t.next_goroutine t.goroutines
         → t ≡ apply_all (frame_changes code g r f callers choice s f.leaving) s → Done code types s g b t
     by-frame fit t above e =
         let x = by-leaving f.leaving refl fit in
-        done code types masks b s rising fits fresh-number (a x.0) r found runs frames k ks calls here.1
+        done code types masks b s rising fits fresh-number (a x.0) r found runs frames k ks calls here.3
         (frame_changes code g r f callers choice s f.leaving) x.1 fit t above e
 
   -- ---- goroutine 0, which begins an entry of its queue
@@ -165,14 +234,18 @@ module _ (code : Code) (types : RunTypes) (masks : HasMasks code) (b : Book) (s 
         ∙ ap (λ j. find j (put 0 begun s.goroutines)) is_first ∙ find-put 0 begun s.goroutines r at0 in
         let before : frames_at s g ≡ [] = ap frames_in found ∙ none in
         done-going code types b s g t (find_above t.next_goroutine t.goroutines s.next_goroutine above
-        (omega (arith, next))) begun (fresh q.function (Value.Ref q.object ∷ []) ∷ []) own
-        (ap (λ z. calls_after code z (frames_at s g) (frames_at t g) (b g)) first
+        (omega (arith, next))) begun (fresh Origin.Finalising q.function (Value.Ref q.object ∷ []) ∷ []) own
+        (none-started code types b s g t (find_above t.next_goroutine t.goroutines s.next_goroutine above
+        (omega (arith, next))) (calls_after code s.queue (frames_at s g) (frames_at t g) (b g))
+        ∙ ap (λ z. calls_after code z (frames_at s g) (frames_at t g) (b g)) first
         ∙ ap (λ z. calls_after code (q ∷ queue) z (frames_at t g) (b g)) before
         ∙ ap (λ z. calls_after code (q ∷ queue) [] z (b g)) (ap frames_in own))
-        (subst (λ mode. FramesMatch code types mode (x ∷ []) (fresh q.function (Value.Ref q.object ∷ []) ∷ []))
+        (subst (λ mode. FramesMatch code types mode (x ∷ [])
+        (fresh Origin.Finalising q.function (Value.Ref q.object ∷ []) ∷ []))
         (sym runs)
-        (fresh-top code types masks q.function (Value.Ref q.object ∷ []) true fn is (takes fn is), tt))
-        (subst (λ z. Every (HasLeft code types) (left_by code z (frames_at t g) (b g))) (sym before) tt)
+        (first-fits code types masks Origin.Finalising q.function (Value.Ref q.object ∷ []) fn refl tt tt
+        (q.object.0, refl) is (takes fn is)))
+        (subst (λ z. Every (CallHasLeft code types) (left_by code z (frames_at t g) (b g))) (sym before) tt)
         (λ h y ne i. fits h y (sym (find-put_other 0 begun s.goroutines h (λ same. ne (same ∙ sym is_first)))
         ∙ ap (λ (v : State). find h v.goroutines) (sym e) ∙ i))
 

@@ -17,7 +17,9 @@ use Rattle.golf_meaning_runs.specs.Books.{left_by, HasLife, FramesMatch, HasMask
 use Rattle.golf_meaning_runs.proofs.Framing.{cleared-matches}
 use Rattle.golf_meaning_runs.proofs.Others.{one-some}
 use Rattle.golf_meaning_runs.proofs.Rebooking.{calls-cleared, left-cleared}
-use Rattle.golf_meaning_runs.proofs.Turned.{own_calls, started_calls, calls_left, HasLeft, Done}
+use Rattle.golf_meaning_runs.proofs.Turned.{own_calls, started_calls, calls_left, Done}
+use Rattle.golf_meaning_runs.specs.Books.{CallHasLeft, begun_by}
+use Rattle.golf_meaning_runs.specs.CallRecords.{noting_start}
 
 module _ (code : Code) (types : RunTypes) (masks : HasMasks code) (s : State) (g : ℕ) (b : Book)
     (not_next : g ≡ s.next_goroutine → ⊥) (t : State) (d : Done code types s g b t) where
@@ -35,20 +37,27 @@ module _ (code : Code) (types : RunTypes) (masks : HasMasks code) (s : State) (g
     other : (h : ℕ) → (h ≡ g → ⊥) → find h u.goroutines ≡ find h t.goroutines
     other h ne = find-put_other g now t.goroutines h ne
 
-    same-calls : own_calls code s g b t ≡ own_calls code s g b u
-    same-calls =
+    same-started : (h : ℕ) → (h ≡ g → ⊥) → started_calls code s g b t h ≡ started_calls code s g b u h
+    same-started h ne = ap (λ m. begun_by code (frames_at s g) (b g) (frames_in m)) (sym (other h ne))
+
+    same-after : calls_after code s.queue (frames_at s g) (frames_at t g) (b g)
+        ≡ calls_after code s.queue (frames_at s g) (frames_at u g) (b g)
+    same-after =
         ap (λ z. calls_after code s.queue (frames_at s g) z (b g)) (ap frames_in found ∙ frames)
         ∙ sym (calls-cleared code s.queue (frames_at s g) f fs (b g))
         ∙ ap (λ z. calls_after code s.queue (frames_at s g) z (b g)) (sym (ap frames_in now-found))
+
+    same-calls : own_calls code s g b t ≡ own_calls code s g b u
+    same-calls = ap (λ z. noting_start s.next_goroutine z
+        (calls_after code s.queue (frames_at s g) (frames_at t g) (b g)))
+        (same-started s.next_goroutine (λ e. not_next (sym e)))
+        ∙ ap (λ z. noting_start s.next_goroutine (started_calls code s g b u s.next_goroutine) z) same-after
 
     same-left : calls_left code s g b t ≡ calls_left code s g b u
     same-left =
         ap (λ z. left_by code (frames_at s g) z (b g)) (ap frames_in found ∙ frames)
         ∙ sym (left-cleared code (frames_at s g) f fs (b g))
         ∙ ap (λ z. left_by code (frames_at s g) z (b g)) (sym (ap frames_in now-found))
-
-    same-started : (h : ℕ) → (h ≡ g → ⊥) → started_calls code s g t h ≡ started_calls code s g u h
-    same-started h ne = ap (λ m. begun_in (frames_in m) (started_with code (frames_at s g))) (sym (other h ne))
 
     now-fits : FramesMatch code types q.mode q.frames (own_calls code s g b t)
         → FramesMatch code types q.mode (cleared code f ∷ fs) (own_calls code s g b u)
@@ -63,7 +72,7 @@ module _ (code : Code) (types : RunTypes) (masks : HasMasks code) (s : State) (g
     cleared-done = record {
       lives = subst (Every (HasLife code types)) same-calls d.lives;
       begun = subst (Every (HasLife code types)) (same-started s.next_goroutine (λ e. not_next (sym e))) d.begun;
-      left = subst (Every (HasLeft code types)) same-left d.left;
+      left = subst (Every (CallHasLeft code types)) same-left d.left;
       fits = λ none x e. subst (λ (z : GoroutineView). FramesMatch code types z.mode z.frames (own_calls code s g b u))
           (one-some now x (sym now-found ∙ e)) (now-fits (d.fits none q found));
       others = λ none h x ne e. subst (λ z. FramesMatch code types x.mode x.frames

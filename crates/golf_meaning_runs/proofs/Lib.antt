@@ -3,9 +3,11 @@ pub mod Arguments
 pub mod Agreeing
 pub mod Runs
 pub mod Sources
+pub mod JoinedRuns
 pub mod Serving
 pub mod Framing
 pub mod Others
+pub mod Joining
 pub mod Owning
 pub mod Leaving
 pub mod Rebooking
@@ -14,8 +16,10 @@ pub mod Clearing
 pub mod Booking
 pub mod Counting
 pub mod Answered
+pub mod Outermost
 pub mod BookedRuns
 pub mod Examples
+pub mod JoinedExamples
 pub mod Inner
 pub mod Needing
 pub mod Showing

@@ -24,7 +24,8 @@ use Rattle.golf_model.specs.Changes.{Change, become, moved, requeue, requeue_at,
 use Rattle.golf_model.proofs.Firsts.{waiters-sound}
 use Rattle.golf_meaning_runs.specs.VisibleOutcomes.{IsOfLock, GoesOnAs, Serves, WaitsOnCondition, IsOther, AreOthers}
 use Rattle.golf_meaning_runs.specs.VisibleOutcomes.{IsAwake}
-use Rattle.golf_meaning_runs.specs.Books.{RunTypes, Call, Book, FramesMatch}
+use Rattle.golf_meaning_runs.specs.Books.{RunTypes, Book, FramesMatch}
+use Rattle.golf_meaning_runs.specs.CallRecords.{Call}
 use Rattle.golf_meaning_runs.proofs.Serving.{wait-for-in, of-lock, resumed-matches, released-matches, woken-matches}
 use Rattle.golf_meaning_runs.proofs.Serving.{moved-matches}
 

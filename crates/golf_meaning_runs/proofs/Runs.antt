@@ -32,8 +32,10 @@ use Rattle.golf_meaning_runs.proofs.WholeFiles.{files-sound}
 use Rattle.golf_meaning_runs.specs.FrameShapes.{giving}
 use Rattle.golf_meaning_runs.specs.Life.{Now, HasShown}
 use Rattle.golf_meaning_runs.proofs.Living.{lives-mean}
-use Rattle.golf_meaning_runs.specs.Books.{AreArguments, RunTypes, shaping, Standing, Call, book_of, left_of, StandsSo}
-use Rattle.golf_meaning_runs.specs.Books.{HasLife, GoesNoMore, TypedAlong}
+use Rattle.golf_meaning_runs.specs.Books.{IsBooked, AreArguments, RunTypes, shaping, book_of, left_of, StandsSo}
+use Rattle.golf_meaning_runs.specs.CallRecords.{Standing, Call}
+use Rattle.golf_meaning_runs.specs.Books.{HasLife, TypedAlong}
+use Rattle.golf_meaning_runs.specs.Books.{CallHasLeft}
 use Rattle.golf_meaning_runs.proofs.Others.{one-some}
 use Rattle.golf_meaning_runs.proofs.BookedRuns.{runs-are-booked}
 use Rattle.golf_meaning_runs.specs.Lives.{SourceMeans}
@@ -93,7 +95,7 @@ typed-along code types shapes (e ∷ es) s h =
     (r.0, grows, ((h.known, h.typed, grows), r.2))
 
 module _ (file : File) (program : IsProgram file) (shapes : List (List Shape)) (known : List (ℕ × ValueType)) where
-  abbrev types : RunTypes
+  abbrev pub types : RunTypes
   types = record { typing = record { of = types_of_file file; shapes = shapes }; known = known }
 
   -- with such arguments the source of a function lacks no rule
@@ -111,7 +113,7 @@ module _ (file : File) (program : IsProgram file) (shapes : List (List Shape)) (
       (parameters-known f 0 xs k names.declarations)
       (subst (λ ts. ValuesFit (types_of_file file) known arguments ts) same fit))
 
-  live-meant : (k : Call) → HasLife (CodeOf file) types k → IsMeant file k
+  pub live-meant : (k : Call) → HasLife (CodeOf file) types k → IsMeant file k
   live-meant k (fn, is, (given, (now, life, stands))) = (
     λ above in_file.
         let ruled_in = λ (n : ℕ). ruled (MeaningOf file k.function k.arguments k.got n).end
@@ -131,21 +133,29 @@ module _ (file : File) (program : IsProgram file) (shapes : List (List Shape)) (
         (lives-mean fn (shaping types k.function) k.arguments k.shown k.got now life)))),
   )
 
-pub runs-mean-sources : RunsMeanSources
-runs-mean-sources file program events =
+-- the calls of the run in their book
+pub booked-run : (file : File) (program : IsProgram file) (events : List Event) → (known : List (ℕ × ValueType))
+    × IsBooked (CodeOf file) (types file program (files-have-shapes file program).0 known) events
+booked-run file program events =
     let x = files-have-shapes file program in
     let of_file : Typing = record { of = types_of_file file; shapes = x.0 } in
     let code = CodeOf file in
     let typed : (es : List Event) → (known : List (ℕ × ValueType)) × TypedAlong code of_file known (start code) es =
     λ es. let t = typed-along code of_file x.1 es (start code) (sound-start code of_file x.1) in (t.0, t.2) in
-    let b = runs-are-booked code of_file (files-have-masks file) x.1 (files-have-parameters file x.0)
-    (typed, (plain-runs-go-on file program).0) events in record {
-      types = record { typing = of_file; known = b.0 };
+    runs-are-booked code of_file (files-have-masks file) x.1 (files-have-parameters file x.0)
+    (typed, (plain-runs-go-on file program).0) events
+
+pub runs-mean-sources : RunsMeanSources
+runs-mean-sources file program events =
+    let x = files-have-shapes file program in
+    let code = CodeOf file in
+    let b = booked-run file program events in record {
+      types = types file program x.0 b.0;
       of_file = refl;
       shaped = x.1;
       booked = b.1;
       meant = λ g. Every-weaker (HasLife code (types file program x.0 b.0)) (IsMeant file)
           (λ k h. live-meant file program x.0 b.0 k h) (book_of code events g) (b.1.always g);
-      left_meant = Every-weaker (λ (k : Call). HasLife code (types file program x.0 b.0) k × GoesNoMore k.standing)
-          (IsMeant file) (λ k h. live-meant file program x.0 b.0 k h.0) (left_of code events) b.1.left;
+      left_meant = Every-weaker (CallHasLeft code (types file program x.0 b.0)) (IsMeant file)
+          (λ k h. live-meant file program x.0 b.0 k h.life) (left_of code events) b.1.left;
     }

@@ -1,7 +1,7 @@
 -- Who is served, woken or passed on from a queue goes on as its call may: the call was answered.
 -- For: `FramesMatch`, golf_meaning_runs/specs/Books.antt.
 -- By: cases of the waking; induction over lists of waits.
-use Rattle.std.proofs.Common.{◌≡◌, ℕ, ◌==◌, Bool, true, false, cond, List, [], ◌∷◌, ◌++◌, Option, Some, None, inl, inr}
+use Rattle.std.proofs.Common.{◌≡◌, ℕ, ◌==◌, Bool, true, false, cond, List, [], ◌∷◌, ◌++◌, Option, Some, None, inl, inr, map}
 use Rattle.std.proofs.Common.{refl, ap, sym, ◌∙◌, subst}
 use Rattle.std.specs.Prelude.{◌&&◌}
 use Rattle.golf_theory.specs.Membership.{In, Every}
@@ -20,10 +20,12 @@ use Rattle.golf_model.specs.Waiters.{wait_for, wait_on, same_side}
 use Rattle.golf_model.specs.Wakes.{fault, unwinding, resumed_frame, on_top, received, Waking, closed_for, closed_on}
 use Rattle.golf_model.specs.Wakes.{released_by, is_below, reads_next, woken_by}
 use Rattle.golf_model.specs.Changes.{moved_waits}
-use Rattle.golf_meaning_flat.specs.Worlds.{pushed}
+use Rattle.golf_meaning_flat.specs.Worlds.{Halt, pushed}
 use Rattle.golf_meaning_runs.specs.VisibleOutcomes.{IsOfLock}
 use Rattle.golf_meaning_runs.specs.TurnsInLives.{Asked}
-use Rattle.golf_meaning_runs.specs.Books.{RunTypes, Standing, Call, LivesAt, MayServe, IsOnTop, GoesNoMore, Top}
+use Rattle.golf_meaning_runs.specs.Books.{RunTypes, LivesAt, MayServe, IsOnTop, Top}
+use Rattle.golf_meaning_runs.specs.CallRecords.{Standing, Child, Call, as_seen}
+use Rattle.golf_meaning_runs.specs.Joins.{GoesNoMore, deferred_of, StillDefers, DefersAll, JoinsEnded, JoinsOnTop, JoinsTop}
 use Rattle.golf_meaning_runs.specs.Books.{FramesMatch}
 
 -- values from the top, in source order
@@ -83,6 +85,25 @@ of-lock Side.Send Side.Write e k = cc
 of-lock Side.Send Side.Cond e k = cc
 of-lock _ b e k = tt
 
+-- it waits for the answer to its last operation
+abbrev Awaits : Standing → Type 0
+Awaits Standing.Goes = ⊥
+Awaits (Standing.Asks q) = Unit {0}
+Awaits (Standing.Ended h) = ⊥
+
+-- so it does if it is not being left
+abbrev Left : Standing → Leaving → Type 0
+Left o Leaving.No = Awaits o
+Left o (Leaving.Returning v) = Unit {0}
+Left o (Leaving.Unwinding x) = Unit {0}
+
+-- a call of which no deferred call has run is left with all of them
+pub none-late : (k : Call) (f : FrameView) → DefersAll k f → StillDefers k [] f
+none-late k f h = (
+  ap (λ (ls : List Child). map deferred_of ls ++ f.deferred) h.0 ∙ h.1,
+  subst (λ (ls : List Child). Every (λ (x : Child). x.after ≡ as_seen k) ls) (sym h.0) tt,
+)
+
 module _ (code : Code) (types : RunTypes) (kind : WaitKind) (line : ℕ) (waits : List Wait) (ticket : ℕ) where
   abbrev blocked : Mode
   blocked = Mode.Blocked kind line waits ticket
@@ -126,6 +147,59 @@ module _ (code : Code) (types : RunTypes) (kind : WaitKind) (line : ℕ) (waits 
     released-top w m lock (Leaving.Returning v) h = h
     released-top w m lock (Leaving.Unwinding x) h = h
 
+  module _ (fn : Function) (k : Call) (f : FrameView) where
+    blocked-awaits : (o : Standing) → IsOnTop types fn k f o blocked → Awaits o
+    blocked-awaits Standing.Goes h = absurd h
+    blocked-awaits (Standing.Asks q) h = tt
+    blocked-awaits (Standing.Ended i) h = absurd h
+
+    top-left : (l : Leaving) → Top types fn k f l blocked → Left k.standing l
+    top-left Leaving.No h = blocked-awaits k.standing h
+    top-left (Leaving.Returning v) h = tt
+    top-left (Leaving.Unwinding x) h = tt
+
+  -- who waits has shown no call, and is served, released or unwound without one
+  module _ (k : Call) (f : FrameView) where
+    resumed-joins-so : (w : Wait) (vs : List Value) (o : Standing) → JoinsOnTop k f o blocked
+        → JoinsOnTop k (resumed_frame w vs f) o Mode.Running
+    resumed-joins-so w vs Standing.Goes h = h
+    resumed-joins-so w vs (Standing.Asks q) h = inl h
+    resumed-joins-so w vs (Standing.Ended i) h = h
+
+    resumed-joins : (w : Wait) (vs : List Value) (l : Leaving) → JoinsTop k f l blocked
+        → JoinsTop k (resumed_frame w vs f) l Mode.Running
+    resumed-joins w vs Leaving.No h = (resumed-joins-so w vs k.standing h.0, h.1)
+    resumed-joins w vs (Leaving.Returning v) h = absurd h.3
+    resumed-joins w vs (Leaving.Unwinding x) h = h
+
+    released-joins-so : (o : Standing) → JoinsOnTop k f o blocked → JoinsOnTop k f o Mode.Running
+    released-joins-so Standing.Goes h = h
+    released-joins-so (Standing.Asks q) h = inl h
+    released-joins-so (Standing.Ended i) h = h
+
+    released-joins : (l : Leaving) → JoinsTop k f l blocked → JoinsTop k f l Mode.Running
+    released-joins Leaving.No h = (released-joins-so k.standing h.0, h.1)
+    released-joins (Leaving.Returning v) h = absurd h.3
+    released-joins (Leaving.Unwinding x) h = h
+
+    ended-joins : (o : Standing) → GoesNoMore o → JoinsOnTop k f o blocked → JoinsEnded k o
+    ended-joins Standing.Goes n h = absurd n
+    ended-joins (Standing.Asks q) n h = inl h
+    ended-joins (Standing.Ended i) n h = h
+
+    -- who waits has not returned
+    waits-on : (o : Standing) → Awaits o → (v : Option Value) → o ≡ Standing.Ended (Halt.Returned v) → ⊥
+    waits-on (Standing.Asks q) n v e = cc
+    waits-on Standing.Goes n v e = cc
+    waits-on (Standing.Ended i) n v e = absurd n
+
+    unwound-joins : (x : Fault) (l : Leaving) → GoesNoMore k.standing → Left k.standing l → JoinsTop k f l blocked
+        → JoinsTop k (unwinding x f) (Leaving.Unwinding x) Mode.Running
+    unwound-joins x Leaving.No n w h =
+        (ended-joins k.standing n h.0, none-late k f h.1, inl (waits-on k.standing w))
+    unwound-joins x (Leaving.Returning v) n w h = absurd h.3
+    unwound-joins x (Leaving.Unwinding y) n w h = h
+
   -- served with values
   pub resumed-matches : (w : Wait) (vs : List Value) → In w waits → (fs : List FrameView) (ks : List Call)
       → FramesMatch code types blocked fs ks → FramesMatch code types Mode.Running (on_top (resumed_frame w vs) fs) ks
@@ -133,7 +207,7 @@ module _ (code : Code) (types : RunTypes) (kind : WaitKind) (line : ℕ) (waits 
   resumed-matches w vs m [] (k ∷ ks) h = absurd h
   resumed-matches w vs m (f ∷ fs) [] h = absurd h
   resumed-matches w vs m (f ∷ fs) (k ∷ ks) h = let o =
-      h.0 in ((o.0, o.1, o.2, o.3, resumed-top o.0 k f w vs m f.leaving o.4), h.1)
+      h.0 in ((o.0, o.1, o.2, o.3, resumed-top o.0 k f w vs m f.leaving o.4), resumed-joins k f w vs f.leaving h.1, h.2, h.3)
 
   -- woken where it stands
   pub released-matches : (w : Wait) → In w waits → IsOfLock w.side → (fs : List FrameView) (ks : List Call)
@@ -142,7 +216,7 @@ module _ (code : Code) (types : RunTypes) (kind : WaitKind) (line : ℕ) (waits 
   released-matches w m lock [] (k ∷ ks) h = absurd h
   released-matches w m lock (f ∷ fs) [] h = absurd h
   released-matches w m lock (f ∷ fs) (k ∷ ks) h = let o =
-      h.0 in ((o.0, o.1, o.2, o.3, released-top o.0 k f w m lock f.leaving o.4), h.1)
+      h.0 in ((o.0, o.1, o.2, o.3, released-top o.0 k f w m lock f.leaving o.4), released-joins k f f.leaving h.1, h.2, h.3)
 
   -- unwinding
   pub unwound-matches : (x : Fault) (fs : List FrameView) (ks : List Call) → FramesMatch code types blocked fs ks
@@ -150,7 +224,9 @@ module _ (code : Code) (types : RunTypes) (kind : WaitKind) (line : ℕ) (waits 
   unwound-matches x [] [] h = tt
   unwound-matches x [] (k ∷ ks) h = absurd h
   unwound-matches x (f ∷ fs) [] h = absurd h
-  unwound-matches x (f ∷ fs) (k ∷ ks) h = let o = h.0 in ((o.0, o.1, o.2, o.3, top-ends o.0 k f f.leaving o.4), h.1)
+  unwound-matches x (f ∷ fs) (k ∷ ks) h = let o = h.0 in
+      let ends = top-ends o.0 k f f.leaving o.4 in
+      ((o.0, o.1, o.2, o.3, ends), unwound-joins k f x f.leaving ends (top-left o.0 k f f.leaving o.4) h.1, h.2, h.3)
 
 -- ---- all who wait on an object are woken
 
@@ -243,10 +319,24 @@ module _ (code : Code) (types : RunTypes) (kind : WaitKind) (line : ℕ) (waits 
   moved-top fn k f (Leaving.Returning v) h = h
   moved-top fn k f (Leaving.Unwinding x) h = h
 
+  moved-joins-so : (k : Call) (f : FrameView) (o : Standing)
+      → JoinsOnTop k f o (Mode.Blocked kind line waits ticket)
+      → JoinsOnTop k f o (Mode.Blocked kind line (moved_waits m waits) next)
+  moved-joins-so k f Standing.Goes h = h
+  moved-joins-so k f (Standing.Asks q) h = h
+  moved-joins-so k f (Standing.Ended i) h = h
+
+  moved-joins : (k : Call) (f : FrameView) (l : Leaving) → JoinsTop k f l (Mode.Blocked kind line waits ticket)
+      → JoinsTop k f l (Mode.Blocked kind line (moved_waits m waits) next)
+  moved-joins k f Leaving.No h = (moved-joins-so k f k.standing h.0, h.1)
+  moved-joins k f (Leaving.Returning v) h = absurd h.3
+  moved-joins k f (Leaving.Unwinding x) h = h
+
   pub moved-matches : (fs : List FrameView) (ks : List Call)
       → FramesMatch code types (Mode.Blocked kind line waits ticket) fs ks
       → FramesMatch code types (Mode.Blocked kind line (moved_waits m waits) next) fs ks
   moved-matches [] [] h = tt
   moved-matches [] (k ∷ ks) h = absurd h
   moved-matches (f ∷ fs) [] h = absurd h
-  moved-matches (f ∷ fs) (k ∷ ks) h = let o = h.0 in ((o.0, o.1, o.2, o.3, moved-top o.0 k f f.leaving o.4), h.1)
+  moved-matches (f ∷ fs) (k ∷ ks) h = let o = h.0 in
+      ((o.0, o.1, o.2, o.3, moved-top o.0 k f f.leaving o.4), moved-joins k f f.leaving h.1, h.2, h.3)

@@ -46,7 +46,7 @@ use Rattle.golf_model.specs.Turn.{changes}
 use Rattle.golf_meaning_flat.specs.Worlds.{pushed}
 use Rattle.golf_meaning_flat.specs.Flat.{targets}
 use Rattle.golf_meaning_runs.specs.FlatSteps.{is_inner}
-use Rattle.golf_meaning_runs.specs.VisibleOutcomes.{split_from, IsOfLock, IsOther, AreOthers, stood, started_on}
+use Rattle.golf_meaning_runs.specs.VisibleOutcomes.{split_from, IsOfLock, IsOther, AreOthers, stood, started_on, DefersBy}
 use Rattle.golf_meaning_runs.specs.VisibleOutcomes.{CalledBy}
 use Rattle.golf_meaning_runs.specs.VisibleOutcomes.{ComesTo, ComesBy, ServedGoOn, Chooses, IsAwake}
 use Rattle.golf_meaning_runs.specs.VisibleOutcomes.ComesTo.{NoRule, Answered, Waits, Calls, Starts, Defers, Panics}
@@ -562,7 +562,7 @@ module _ (code : Code) (i : Instr) (a : Actor) (choice : ℕ) (s : State) (awake
   visible (Instr.Go f n) same e ns = by-many n [] a.frame.operands _
       (λ vs rest. by-start rest f vs (subst (λ z. CalledBy z f) same refl) (slice_get code.functions f) refl)
   visible (Instr.Defer f n) same e ns = by-many n [] a.frame.operands _
-      (λ vs rest. Defers at1 (record { function = f; arguments = vs }) refl refl)
+      (λ vs rest. Defers at1 (record { function = f; arguments = vs }) refl (subst (λ z. DefersBy z) same tt) refl)
   visible (Instr.Print n) same e ns = by-many n [] a.frame.operands _
       (λ vs rest. S rest _ (line_bytes code.texts vs) (λ bytes. on rest [] (Change.Output bytes ∷ []) [] (tt, tt) tt))
   visible Instr.Collect same e ns = on a.frame.operands [] [] [] tt tt

@@ -1,5 +1,5 @@
 -- The calls of a run: the operations that each has shown and its answers, turn by turn; and what holds of them.
-use Rattle.std.specs.Prelude.{◌≡◌, ℕ, zero, suc, ◌-◌, ◌==◌, Bool, true, false, cond, List, [], ◌∷◌, ◌++◌, length}
+use Rattle.std.specs.Prelude.{◌≡◌, ℕ, zero, suc, ◌-◌, ◌==◌, Bool, true, false, cond, List, [], ◌∷◌, ◌++◌, length, map}
 use Rattle.std.specs.Prelude.{Option, Some, None, unwrap_or, slice_get}
 use Rattle.golf_theory.specs.Maps.{find, Entry}
 use Rattle.golf_theory.specs.Membership.{Every}
@@ -21,7 +21,7 @@ use Rattle.golf_model_typing.specs.Types.{ValueType, Signature, FunctionTypes, s
 use Rattle.golf_model_typing.specs.Grows.{Grows}
 use Rattle.golf_model_typing.specs.Shapes.{HasShapes}
 use Rattle.golf_model_typing.specs.WellTyped.{WellTyped}
-use Rattle.golf_meaning_flat.specs.Worlds.{Operation, Answer, Halt, pushed}
+use Rattle.golf_meaning_flat.specs.Worlds.{Operation, Halt, pushed}
 use Rattle.golf_meaning_flat.specs.InstructionEffects.{Frame}
 use Rattle.golf_meaning_flat.specs.Flat.{lower}
 use Rattle.golf_meaning_runs.specs.VisibleOutcomes.{IsOfLock}
@@ -29,25 +29,10 @@ use Rattle.golf_meaning_runs.specs.FrameShapes.{Shaping, IsShaped}
 use Rattle.golf_meaning_runs.specs.Life.{frame, Now, Life}
 use Rattle.golf_meaning_runs.specs.AnswerTypes.{AnswerFits, AreAnswers}
 use Rattle.golf_meaning_runs.specs.TurnsInLives.{answer, Asked, shows, ends_with}
-
--- ---- the record of a call
-
--- a call goes on, or its last operation waits for its answer, or it has returned or divided by zero
-pub data Standing : Type 0 where
-  Goes : Standing
-  Asks : (q : Asked) → Standing
-  Ended : (h : Halt) → Standing
-
--- the function, the arguments, the shown operations, the answers, and the present standing
-pub record Call : Type 0 where
-  pub function : ℕ
-  pub arguments : List Value
-  pub shown : List Operation
-  pub got : List Answer
-  pub standing : Standing
-
-abbrev pub fresh : ℕ → List Value → Call
-fresh f vs = record { function = f; arguments = vs; shown = []; got = []; standing = Standing.Goes }
+use Rattle.golf_meaning_runs.specs.CallRecords.{Standing, CallSnapshot, Child, Origin, Call, Beginning, fresh, as_seen, call_of}
+use Rattle.golf_meaning_runs.specs.CallRecords.{beginning, beginners, StartedCall, noting_start, started_as, starts, origin_by, leaving_so, noted_below, deferrals}
+use Rattle.golf_meaning_runs.specs.Joins.{IsOutermostOf, OutermostIs, GoesNoMore, IsBegun, DiscardsSo, IsOutermost, JoinsTop, JoinsBelow, JoinsEnded}
+use Rattle.golf_meaning_runs.specs.Joins.{DeferredHaveRun, HasLeftSo}
 
 -- n operands in source order
 abbrev pub popped : ℕ → List Value → List Value → List Value
@@ -110,22 +95,25 @@ is_longer [] ys = false
 is_longer (x ∷ xs) [] = true
 is_longer (x ∷ xs) (y ∷ ys) = is_longer xs ys
 
-abbrev pub begun_in : List FrameView → List Value → List Call
-begun_in [] vs = []
-begun_in (f ∷ fs) vs = fresh f.function vs ∷ []
+abbrev pub begun_in : Origin → List FrameView → List Value → List Call
+begun_in o [] vs = []
+begun_in o (f ∷ fs) vs = fresh o f.function vs ∷ []
 
--- one more frame is one more call, and one frame fewer is one call fewer
+-- one more frame is one more call; one frame fewer is one call fewer, which the call below notes
 abbrev pub rebooked : Code → FrameView → List FrameView → List FrameView → Call → List Call → List Call
 rebooked code f callers after k ks = cond (is_longer after (f ∷ callers))
-    (begun_in after (passed code f f.leaving) ++ turned_call code f f.leaving k ∷ ks)
-    (cond (is_longer (f ∷ callers) after) ks (turned_call code f f.leaving k ∷ ks))
+    (begun_in (origin_by f.leaving (turned_call code f f.leaving k)) after (passed code f f.leaving)
+    ++ turned_call code f f.leaving k ∷ ks)
+    (cond (is_longer (f ∷ callers) after) (noted_below k.origin
+    (leaving_so f.leaving (turned_call code f f.leaving k)) ks)
+    (turned_call code f f.leaving k ∷ ks))
 
 abbrev pub queue_arguments : List Queued → List Value
 queue_arguments [] = []
 queue_arguments (q ∷ qs) = Value.Ref q.object ∷ []
 
 abbrev pub calls_after : Code → List Queued → List FrameView → List FrameView → List Call → List Call
-calls_after code queue [] after ks = begun_in after (queue_arguments queue)
+calls_after code queue [] after ks = begun_in Origin.Finalising after (queue_arguments queue)
 calls_after code queue (f ∷ callers) after [] = []
 calls_after code queue (f ∷ callers) after (k ∷ ks) = rebooked code f callers after k ks
 
@@ -146,11 +134,19 @@ abbrev pub started_with : Code → List FrameView → List Value
 started_with code [] = []
 started_with code (f ∷ callers) = passed code f f.leaving
 
+-- it is begun by the innermost call of the goroutine that starts it
+abbrev pub begun_by : Code → List FrameView → List Call → List FrameView → List Call
+begun_by code (f ∷ callers) (k ∷ ks) after =
+    begun_in (Origin.Starting (as_seen (turned_call code f f.leaving k))) after (started_with code (f ∷ callers))
+begun_by code _ _ after = []
+
 abbrev pub turned_book : Code → State → ℕ → Option ℕ → Book → Book
 turned_book code s c None b h = b h
 turned_book code s c (Some g) b h =
-    cond (h == g) (calls_after code s.queue (frames_at s g) (frames_at (step code s c) g) (b g))
-    (cond (h == s.next_goroutine) (begun_in (frames_at (step code s c) h) (started_with code (frames_at s g))) (b h))
+    cond (h == g) (noting_start s.next_goroutine
+    (begun_by code (frames_at s g) (b g) (frames_at (step code s c) s.next_goroutine))
+    (calls_after code s.queue (frames_at s g) (frames_at (step code s c) g) (b g)))
+    (cond (h == s.next_goroutine) (begun_by code (frames_at s g) (b g) (frames_at (step code s c) h)) (b h))
 
 abbrev pub booked_in : Bool → Code → State → Event → Book → Book
 booked_in true code s e b = b
@@ -163,7 +159,7 @@ book_from code s (e ∷ es) b = book_from code (happens code s e) es (booked_in 
 
 -- at first, goroutine 1 has a call of function 0
 abbrev pub first_book : Book
-first_book g = cond (g == 1) (fresh 0 [] ∷ []) []
+first_book g = cond (g == 1) (fresh Origin.Opening 0 [] ∷ []) []
 
 -- the calls of the run from the opening state
 abbrev pub book_of : Code → List Event → Book
@@ -174,7 +170,7 @@ book_of code es = book_from code (start code) es first_book
 -- with one frame fewer, the innermost call has left
 abbrev pub left_by : Code → List FrameView → List FrameView → List Call → List Call
 left_by code (f ∷ callers) after (k ∷ ks) =
-    cond (is_longer (f ∷ callers) after) (turned_call code f f.leaving k ∷ []) []
+    cond (is_longer (f ∷ callers) after) (leaving_so f.leaving (turned_call code f f.leaving k) ∷ []) []
 left_by code _ after _ = []
 
 abbrev pub left_at_turn : Code → State → ℕ → Option ℕ → Book → List Call
@@ -263,12 +259,6 @@ IsOnTop types fn k f (Standing.Asks q) (Mode.Blocked kind line waits ticket) = (
     × Every (MayServe types fn k q f) waits
 IsOnTop types fn k f (Standing.Ended h) mode = ⊥
 
--- a call whose frame unwinds or is gone: it has ended, or its last operation is never answered
-abbrev pub GoesNoMore : Standing → Type 0
-GoesNoMore Standing.Goes = ⊥
-GoesNoMore (Standing.Asks q) = Unit {0}
-GoesNoMore (Standing.Ended h) = Unit {0}
-
 -- a call whose frame is leaving: it has returned this value, or it unwinds
 abbrev pub IsLeft : Call → Leaving → Type 0
 IsLeft k Leaving.No = Unit {0}
@@ -297,18 +287,54 @@ abbrev pub Of : Code → RunTypes → Call → FrameView → (Function → Type 
 Of code types k f P = (fn : Function) × (slice_get code.functions k.function ≡ Some fn) × (f.function ≡ k.function)
     × Lives types fn k × P fn
 
-abbrev pub FramesStand : Code → RunTypes → List FrameView → List Call → Type 0
-FramesStand code types [] [] = Unit {0}
-FramesStand code types (f ∷ fs) (k ∷ ks) = Of code types k f (λ fn. Below types fn k f f.leaving)
-    × FramesStand code types fs ks
-FramesStand code types _ _ = ⊥
+-- these calls have lives
+abbrev pub one_of : Child → CallSnapshot
+one_of x = x.one
+
+abbrev pub AreLived : Code → RunTypes → List CallSnapshot → Type 0
+AreLived code types ss = Every (λ (x : CallSnapshot). HasLife code types (call_of x)) ss
+
+-- A call that was begun so, and the calls that it began and that have left: function and arguments are those of its
+-- beginning, and the others have lives.
+pub record Ties (code : Code) (types : RunTypes) (o : Origin) (f : ℕ) (vs : List Value) (made : List Child)
+    (late : List Child) (shown : List Operation) (spawned : List StartedCall) (discards : Bool) : Type 0 where
+  pub begun : IsBegun o f vs
+  pub by : AreLived code types (beginners o)
+  pub discards_so : DiscardsSo o discards
+  pub made_live : AreLived code types (map one_of made)
+  pub late_live : AreLived code types (map one_of late)
+  pub starts_so : map started_as spawned ≡ starts shown
+
+abbrev pub TiesOf : Code → RunTypes → Call → Bool → Type 0
+TiesOf code types k d = Ties code types k.origin k.function k.arguments k.made k.late k.shown k.spawned d
+
+-- the frames below a call that was begun so
+abbrev pub FramesStand : Code → RunTypes → Beginning → List FrameView → List Call → Type 0
+FramesStand code types above [] [] = IsOutermost above.origin
+FramesStand code types above (f ∷ fs) (k ∷ ks) = Of code types k f (λ fn. Below types fn k f f.leaving)
+    × JoinsBelow above k f f.leaving × TiesOf code types k f.discards × FramesStand code types (beginning k) fs ks
+FramesStand code types above _ _ = ⊥
 
 -- the frames of a goroutine match its calls
 abbrev pub FramesMatch : Code → RunTypes → Mode → List FrameView → List Call → Type 0
 FramesMatch code types mode [] [] = Unit {0}
 FramesMatch code types mode (f ∷ fs) (k ∷ ks) = Of code types k f (λ fn. Top types fn k f f.leaving mode)
-    × FramesStand code types fs ks
+    × JoinsTop k f f.leaving mode × TiesOf code types k f.discards × FramesStand code types (beginning k) fs ks
 FramesMatch code types mode _ _ = ⊥
+
+-- A call that has left. It goes on no more, and is joined. All of its deferred calls have run. It has returned and none
+-- of these has panicked, or it panicked.
+pub record CallHasLeft (code : Code) (types : RunTypes) (k : Call) : Type 0 where
+  pub life : HasLife code types k
+  pub ended : GoesNoMore k.standing
+  pub joins : JoinsEnded k k.standing
+  pub ran : DeferredHaveRun k (deferrals k.shown)
+  pub so : HasLeftSo k.panicked k
+  pub begun : IsBegun k.origin k.function k.arguments
+  pub by : AreLived code types (beginners k.origin)
+  pub made_live : AreLived code types (map one_of k.made)
+  pub late_live : AreLived code types (map one_of k.late)
+  pub starts_so : map started_as k.spawned ≡ starts k.shown
 
 -- the masks of each function are those of its body
 abbrev pub HasMasks : Code → Type 0
@@ -348,7 +374,8 @@ pub record IsBooked (code : Code) (types : RunTypes) (events : List Event) : Typ
       → Entry (run code (start code) events).goroutines g r
       → FramesMatch code types r.mode r.frames (book_of code events g)
   pub always : (g : ℕ) → Every (HasLife code types) (book_of code events g)
-  pub left : Every (λ (k : Call). HasLife code types k × GoesNoMore k.standing) (left_of code events)
+  pub first : (g : ℕ) → OutermostIs (IsOutermostOf g) (book_of code events g)
+  pub left : Every (CallHasLeft code types) (left_of code events)
   pub answered : (g : ℕ) → Every (IsAnswered types) (book_of code events g)
   pub left_answered : Every (IsAnswered types) (left_of code events)
 

@@ -12,7 +12,8 @@ use Rattle.golf_meaning_flat.specs.Worlds.{Operation, Halt, End, Told}
 use Rattle.golf_meaning_flat.specs.Laws.{BeginsWith}
 use Rattle.golf_meaning_statements.specs.Functions.{CodeMeaning}
 use Rattle.golf_meaning_statements.specs.Files.{function_count, giving_in, MeaningOf}
-use Rattle.golf_meaning_runs.specs.Books.{RunTypes, Standing, Call, book_of, left_of, IsBooked}
+use Rattle.golf_meaning_runs.specs.Books.{RunTypes, book_of, left_of, IsBooked}
+use Rattle.golf_meaning_runs.specs.CallRecords.{Standing, Call}
 
 -- What a meaning says of a call with this standing, for some bound. While the call goes on, its operations are a prefix
 -- of those that are meant. If it waits for an answer, they are the same, and the meaning waits at the last one. If it

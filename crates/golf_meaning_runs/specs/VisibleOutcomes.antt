@@ -80,6 +80,11 @@ CalledBy (Instr.Call f n) g = f ≡ g
 CalledBy (Instr.Go f n) g = f ≡ g
 CalledBy _ g = ⊥
 
+-- the instruction defers a call
+abbrev pub DefersBy : Instr → Type 0
+DefersBy (Instr.Defer f n) = Unit {0}
+DefersBy _ = ⊥
+
 -- The outcome of an operation with its operands, and with `rest` below them:
 --   no rule fits;
 --   it is answered at once, and the goroutine goes on at a place where answers go on;
@@ -102,7 +107,7 @@ pub data ComesTo (code : Code) (s : State) (a : Actor) (i : Instr) (operands res
   Starts : (to g : ℕ) (fn : Function) → Answering to → CalledBy i g → slice_get code.functions g ≡ Some fn
       → cs ≡ Change.Spawn (started_on a (opened g operands true fn)) ∷ stands a (stood a to rest)
       → ComesTo code s a i operands rest Answering Waiting cs
-  Defers : (to : ℕ) (d : Deferred) → Answering to
+  Defers : (to : ℕ) (d : Deferred) → Answering to → DefersBy i
       → cs ≡ stands a (record a.frame { at = to; operands = rest; deferred = d ∷ a.frame.deferred })
       → ComesTo code s a i operands rest Answering Waiting cs
   Panics : (kind : PanicKind) → cs ≡ panics a kind → ComesTo code s a i operands rest Answering Waiting cs

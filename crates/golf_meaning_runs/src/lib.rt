@@ -7,6 +7,7 @@
 ghost use Rattle.golf_meaning_runs.specs.Agreement.{ProgramsAgree};
 ghost use Rattle.golf_meaning_runs.specs.AnswerTypes.{AnswersAreCounted, AnswersAreTyped};
 ghost use Rattle.golf_meaning_runs.specs.Books.{RunsAreBooked};
+ghost use Rattle.golf_meaning_runs.specs.JoinedRuns.{RunsAreJoined};
 ghost use Rattle.golf_meaning_runs.specs.Laws.{RunsMeanSources};
 ghost use Rattle.golf_meaning_runs.specs.Life.{LivesMean};
 ghost use Rattle.golf_meaning_runs.specs.Lives.{LivesMeanSource};
@@ -32,6 +33,16 @@ pub fn programs_agree()
 /// with the same end.
 pub fn runs_mean_their_sources()
     ensures { RunsMeanSources }
+{}
+
+/// States that the calls of each run of such a file are joined.
+///
+/// The function and the arguments of a call are those that the call which began it has shown, with its call instruction,
+/// its `go` or its `defer`. The answer that a caller got is what the call returned. Deferred calls run after the end of
+/// their call, the latest first, each before the next. A call that a panic reaches leaves after the last of them, and
+/// its caller gets no answer.
+pub fn runs_are_joined()
+    ensures { RunsAreJoined }
 {}
 
 /// States that with the answers that a call got, the source of its function means the operations

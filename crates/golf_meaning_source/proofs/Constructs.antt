@@ -288,7 +288,7 @@ module _ (taking : Taking) where
         (λ us. turn-last taking slots (op l Instr.GroupAdd) us (visible taking Instr.GroupAdd ts us)
         (turn-visible taking slots l Instr.GroupAdd ts us refl))
 
-    turn-operation : (l n : ℕ) (b : BuiltIn) (ts : List (Option GoType)) (vs : List Value)
+    pub turn-operation : (l n : ℕ) (b : BuiltIn) (ts : List (Option GoType)) (vs : List Value)
         → T (K.operation l b n) vs (X.operation taking n b ts vs)
     turn-operation l n built_in.Length ts vs = turn-visible taking slots l Instr.Len ts vs refl
     turn-operation l n built_in.Close ts vs = turn-visible taking slots l Instr.Close ts vs refl

@@ -41,7 +41,7 @@ use Rattle.golf_meaning_statements.specs.Functions.{named, begins, at_end, told_
 use Rattle.golf_meaning_statements.specs.FunctionLaws.{FunctionsAgree}
 use Rattle.golf_meaning_statements.proofs.Entering.{body-known}
 
-stand-whole : (xs ys : List CodeLine) (n : ℕ) → n ≡ length xs → Stand (xs ++ ys) n ys
+pub stand-whole : (xs ys : List CodeLine) (n : ℕ) → n ≡ length xs → Stand (xs ++ ys) n ys
 stand-whole xs [] n e = tt
 stand-whole xs (y ∷ ys) n e = (
   at-length xs y ys n e,

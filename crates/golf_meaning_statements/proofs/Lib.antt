@@ -12,6 +12,7 @@ pub mod Choices
 pub mod Entering
 pub mod Agreeing
 pub mod WholeFiles
+pub mod MadeFunctions
 pub mod Equations
 pub mod OnLiterals
 pub mod SamplesOfExpressions

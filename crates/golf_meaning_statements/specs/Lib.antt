@@ -7,3 +7,4 @@ pub mod Laws
 pub mod Functions
 pub mod Files
 pub mod FunctionLaws
+pub mod MadeFunctions

@@ -7,6 +7,7 @@
 ghost use Rattle.golf_meaning_statements.specs.FunctionLaws.{FilesAgree, FunctionsAgree};
 ghost use Rattle.golf_meaning_source.specs.Operations.{Taking};
 ghost use Rattle.golf_meaning_statements.specs.Laws.{StatementsMean};
+ghost use Rattle.golf_meaning_statements.specs.MadeFunctions.{EntryAgrees, MadeFunctionsAgree};
 
 /// States that the code of a statement does what the statement does, however answers are taken.
 pub fn statements_mean()
@@ -23,4 +24,18 @@ pub fn functions_agree()
 /// States that each function and method of a file has code of the same number that agrees with its source.
 pub fn files_agree()
     ensures { FilesAgree }
+{}
+
+/// States that the code of function 0 agrees with the initialisers of the globals, in source order, and the call of
+/// `main`. These must not lack a rule.
+pub fn entry_agrees()
+    ensures { EntryAgrees }
+{}
+
+/// States that the code of a function that is made for `go` or `defer` agrees with the operation that its statement
+/// names.
+///
+/// There are as many arguments as parameters, and the operation must not lack a rule.
+pub fn made_functions_agree()
+    ensures { MadeFunctionsAgree }
 {}
