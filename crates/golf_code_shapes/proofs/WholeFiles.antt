@@ -16,6 +16,7 @@ use Rattle.golf_syntax_trees.specs.declared.statements.VarContent.{VarContent}
 use Rattle.golf_syntax_trees.specs.declared.statements.VarContent.TheVariants as content
 use Rattle.golf_syntax_trees.specs.declared.declarations.Decl.{Decl}
 use Rattle.golf_syntax_trees.specs.declared.declarations.Decl.TheVariants as d
+use Rattle.golf_syntax_trees.specs.declared.declarations.File.{File}
 use Rattle.golf_syntax_trees.specs.Simple.{all_of}
 use Rattle.golf_syntax_trees.specs.Types.{type_form}
 use Rattle.golf_syntax_trees.specs.Statements.{stmts_good, stmt_form}
@@ -29,7 +30,7 @@ use Rattle.golf_check_types.specs.Expressions.{used, given_by}
 use Rattle.golf_check_types.specs.Judgments.{judge}
 use Rattle.golf_check_types.specs.Files.{outside, globals_above, initial_walk, decl_walked, walk_faults, formed_content}
 use Rattle.golf_check_types.specs.Files.{with_forms, with_types, bare_file, function_types, import_faults, names_faults}
-use Rattle.golf_check_types.specs.Files.{none_above, type_faults, main_faults, with_imports, no_imports, Broken}
+use Rattle.golf_check_types.specs.Files.{none_above, type_faults, main_faults, with_imports, no_imports, Broken, Typed}
 use Rattle.golf_model_typing.specs.Types.{ValueType, Shape, Signature, FunctionTypes, Types, with_shapes, ValueFits}
 use Rattle.golf_model_typing.specs.Types.{ValuesFit}
 use Rattle.golf_live.specs.Live.{live}
@@ -51,7 +52,8 @@ use Rattle.golf_code_shapes.specs.Types.{value_type, known_types}
 use Rattle.golf_code_shapes.specs.Sound.{FileFits, ScopeFits, Pushes}
 use Rattle.golf_code_shapes.specs.StatementFlow.{IsMaking, MadeFit}
 use Rattle.golf_code_shapes.specs.FunctionLaws.{function_signature, made_signature, FunctionIsFit}
-use Rattle.golf_code_shapes.specs.FileLaws.{entry_signature, own_signatures, types_of_code, scope_of, initial_scope}
+use Rattle.golf_code_shapes.specs.FileLaws.{entry_signature, own_signatures, made_in, types_of_code, scope_of}
+use Rattle.golf_code_shapes.specs.FileLaws.{initial_scope}
 use Rattle.golf_code_shapes.specs.FileLaws.{GlobalIsKnown, DeclarationIsKnown, DeclarationsAreKnown, NamesFit, FilesFit}
 use Rattle.golf_code_shapes.proofs.Typings.{none-left, none-right, kept}
 use Rattle.golf_code_shapes.proofs.Names.{given-to}
@@ -350,6 +352,21 @@ module _ (types : Types) (t : Tables) (f : FileScope) (file : FileFits types t f
 
 -- The whole code.
 
+-- the functions of a file fit, and those that are made take what their operations take
+own-code-fits : (t : Tables) (f : FileScope) (xs : List Decl)
+    → ((bytes : List ℕ) → text_number t.texts bytes < length t.texts)
+    → length f.functions ≡ length (own_signatures t (outside f) xs) → DeclsFit f 0 xs → NamesFit t f xs
+    → Fitted (types_of_code t f xs) (own_signatures t (outside f) xs)
+    (functions_from t (giving f) (outside f) (length f.functions + 1) xs).own × Every IsMaking (made_in t f xs)
+own-code-fits t f xs texts count declarations h =
+    let types = types_of_code t f xs in
+    let n = length f.functions + 1 in
+    let file : FileFits types t f = record { texts = texts; names = h.names; members = h.members } in
+    let made : MadeFit types n (made_in t f xs) =
+    made-behind types (entry_signature ∷ own_signatures t (outside f) xs) (made_in t f xs) n
+    (omega (arith, count)) refl in
+    own-fitted types t (giving f) f 0 n xs file declarations made
+
 code-fits : (t : Tables) (f : FileScope) (xs : List Decl)
     → ((bytes : List ℕ) → text_number t.texts bytes < length t.texts)
     → length f.functions ≡ length (own_signatures t (outside f) xs) → DeclsFit f 0 xs → NamesFit t f xs
@@ -359,15 +376,12 @@ code-fits t f xs texts count declarations h =
     let types = types_of_code t f xs in
     let gives = giving f in
     let out = outside f in
-    let n = length f.functions + 1 in
     let own = own_signatures t out xs in
-    let fs = functions_from t gives out n xs in
+    let fs = functions_from t gives out (length f.functions + 1) xs in
     let some_text = texts [] in
     let few : 0 < types.texts = omega (arith, some_text) in
     let file : FileFits types t f = record { texts = texts; names = h.names; members = h.members } in
-    let made : MadeFit types n fs.made = made-behind types (entry_signature ∷ own) fs.made n
-    (omega (arith, count)) refl in
-    let mine = own-fitted types t gives f 0 n xs file declarations made in
+    let mine = own-code-fits t f xs texts count declarations h in
     let main = h.main in
     let first = masked types (function gives 0 0 (main_line xs) (entry_body t f (main_number f) (main_line xs) xs))
     entry_signature refl (first-fits types t f file refl gives xs main.0 declarations main.1 main.2 main.3) in
@@ -387,17 +401,37 @@ code-fits t f xs texts count declarations h =
       },
     )
 
-pub files-fit : FilesFit
-unfolding CodeOf Broken
-files-fit file typed good h =
+-- the declarations of a file that breaks no rule
+declarations-fit : (file : File) → Typed file → list_all decl_good file.declarations ≡ true
+    → NamesFit (tables_of file.declarations) (scope_of file) file.declarations
+    → (length (scope_of file).functions ≡ length (own_signatures (tables_of file.declarations)
+    (outside (scope_of file)) file.declarations)) × DeclsFit (scope_of file) 0 file.declarations
+unfolding Broken
+declarations-fit file typed good h =
     let xs = file.declarations in
-    let i = with_imports no_imports file.imports in
     let t = tables_of xs in
     let f = scope_of file in
-    let bare = bare_file i xs in
+    let bare = bare_file (with_imports no_imports file.imports) xs in
     let behind-imports = none-right (import_faults no_imports file.imports) _ typed in
     let behind-names = none-right (names_faults bare none_above xs) _ behind-imports in
     let behind-types = none-right (flat_map (type_faults (outside bare)) xs) _ behind-names in
-    let none = none-right (main_faults xs) (walk_faults f 0 xs) behind-types in
-    let count = ap length (forms-keep (with_types bare xs) 0 xs) ∙ signatures-long (outside bare) t (outside f) xs in
-    code-fits t f xs (text-below xs) count (decls-fit f 0 xs none good h.declarations) h
+    let none = none-right (main_faults xs) (walk_faults f 0 xs) behind-types in (
+      ap length (forms-keep (with_types bare xs) 0 xs) ∙ signatures-long (outside bare) t (outside f) xs,
+      decls-fit f 0 xs none good h.declarations,
+    )
+
+-- each function that is made for a file takes what its operation takes
+pub made-are-fit : (file : File) → Typed file → list_all decl_good file.declarations ≡ true
+    → NamesFit (tables_of file.declarations) (scope_of file) file.declarations
+    → Every IsMaking (made_in (tables_of file.declarations) (scope_of file) file.declarations)
+made-are-fit file typed good h =
+    let xs = file.declarations in
+    let d = declarations-fit file typed good h in
+    (own-code-fits (tables_of xs) (scope_of file) xs (text-below xs) d.0 d.1 h).1
+
+pub files-fit : FilesFit
+unfolding CodeOf
+files-fit file typed good h =
+    let xs = file.declarations in
+    let d = declarations-fit file typed good h in
+    code-fits (tables_of xs) (scope_of file) xs (text-below xs) d.0 d.1 h

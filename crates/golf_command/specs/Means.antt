@@ -53,8 +53,8 @@ abbrev pub IsSoundBy : Option RunOptions → Code → Type 0
 IsSoundBy (Some options) code = IsSoundRun code options
 IsSoundBy None code = Unit {0}
 
--- An accepted file is sound in the given way. The code of each function and method does what its source says. The run,
--- if there is one, is sound.
+-- An accepted file is sound in the given way. The code of each function does what its source says. The run, if there is
+-- one, is sound.
 pub record IsSound (way : Way) (file : File) : Type 0 where
   pub source : MeansItsSource file
   pub run : IsSoundBy (options_of way) (CodeOf file)

@@ -83,15 +83,17 @@ pub record MovesAlways (code : Code) (options : RunOptions) : Type 0 where
   pub continuations : (p : State) → In p (stops code (events_of options)) → GoesOnFrom code p
   pub moves : (s : State) (c : ℕ) → Leads code s → ending s ≡ None → MovesOn code s c
 
--- The code of each function and method of the file does what its source says.
+-- The code of each function does what its source says. The source of function 0 is the initialisers of the globals, in
+-- source order, and the call of `main`. That of a function made for `go` or `defer` is the one operation that the
+-- statement names.
 --
 -- Take as many arguments as it has parameters, and any answers. Both have the same visible operations in the same
 -- order, with the same end. For each bound of one there is a bound of the other. The source lacks no rule. If it looks
 -- at the kinds of answers, only an answer can make it unfit.
 --
--- The same holds in each run of the plain machine, after each turn. With the answers that a call got, the operations of
--- its source begin with those that the call has shown. If the call waits, they are exactly these, and the source waits
--- at the last one. If the call has ended, they are exactly these, with the same end. Its code means the same.
+-- The same holds of each call in each run of the plain machine, after each turn. With the answers that a call got, the
+-- operations of its source begin with those that the call has shown. If the call waits, they are exactly these, and the
+-- source waits at the last one. If it has ended, they are exactly these, with the same end. Its code means the same.
 --
 -- The calls of a run are joined. Function and arguments of a call are those that the call which began it has shown, with
 -- its call instruction, its `go` or its `defer`. Each `go` has started a goroutine. The answer that a caller got of a

@@ -1,12 +1,12 @@
 -- The lines of the program that looks at every schedule (profile).
-use Rattle.std.specs.Prelude.{ℕ, ◌+◌, ◌/◌, Bool, true, false, if◌then◌else◌, List, [], ◌++◌, length, Some, None, nat_le}
-use Rattle.std.specs.Prelude.{codes}
-use Rattle.std.specs.Prelude.{decimal}
+use Rattle.std.specs.Prelude.{ℕ, ◌+◌, ◌/◌, Bool, true, false, if◌then◌else◌, List, [], ◌++◌, length, Option, Some, None}
+use Rattle.std.specs.Prelude.{nat_le, codes, decimal}
 use Rattle.golf_explore.specs.declared.full_search.Visited.{Visited}
 use Rattle.golf_command_words.specs.Values.{most_choices}
-use Rattle.golf_command_words.specs.Words.{default_turns}
+use Rattle.golf_explore_words.specs.declared.line.SearchFor.{SearchFor}
 use Rattle.golf_run_schedules.specs.declared.options.RunOptions.{RunOptions}
 use Rattle.golf_run_schedules.specs.declared.schedule.Schedule.{Schedule}
+use Rattle.golf_run_schedules.specs.Options.{most_turns}
 use Rattle.golf_run_texts.specs.Texts.{numbers_text}
 
 -- the usage, for words that are no command line
@@ -49,51 +49,51 @@ abbrev pub visited_text : Visited → List ℕ
 visited_text told = ((every_line told.states ++ panics_text told.panics) ++ sleeps_text told.sleeps)
     ++ ends_text told.ends
 
--- ---- a leak
+-- ---- a run that was found
 
--- the options of the run that shows the leak, as `golf run --every N --schedule choices:..` has them: these turns, and
--- then a collection
-unfoldable pub leak_options : List ℕ → RunOptions
-leak_options ns = record {
+-- how the run is named
+abbrev pub name_of : SearchFor → List ℕ
+name_of SearchFor.Leak = codes "leak"
+name_of SearchFor.Panic = codes "panic"
+name_of SearchFor.Asleep = codes "asleep"
+
+-- after how many turns the run collects: a leak is reported by a collection after its last turn
+abbrev pub every_for : SearchFor → ℕ → Option ℕ
+every_for SearchFor.Leak turns = Some turns
+every_for SearchFor.Panic turns = None
+every_for SearchFor.Asleep turns = None
+
+-- The options of the run of these numbers, with the most turns that a run may have. If the line has words, `golf run` takes
+-- the same turns by them: words have fewer numbers than it takes turns without `--turns`.
+unfoldable pub shown_options : SearchFor → List ℕ → RunOptions
+shown_options aim ns = record {
   schedule = Schedule.Choices ns;
-  turns = default_turns;
-  every = Some (length ns);
+  turns = most_turns;
+  every = every_for aim (length ns);
   markers = 1;
   recover = false;
   why = false;
 }
 
-abbrev pub leak_words : ℕ → List ℕ
-leak_words turns = codes "leak: --every " ++ (decimal turns ++ codes " --schedule choices:")
+-- the words of the run, up to its numbers
+abbrev pub words_before : SearchFor → ℕ → List ℕ
+words_before SearchFor.Leak turns = codes ": --every " ++ (decimal turns ++ codes " --schedule choices:")
+words_before SearchFor.Panic turns = codes ": --schedule choices:"
+words_before SearchFor.Asleep turns = codes ": --schedule choices:"
 
--- the words of this run, or the number of turns if there are more than words can have
-abbrev pub leak_line : List ℕ → List ℕ
-leak_line ns =
+-- in place of the words: there are more turns than words can have, or than a run can have
+abbrev pub many_turns : ℕ → List ℕ
+many_turns turns =
+    if nat_le turns most_turns
+    then codes ": after " ++ (decimal turns ++ codes " turns, more than a schedule of choices may have\n")
+    else codes ": after " ++ (decimal turns ++ codes " turns, more than a run may have\n")
+
+-- the line of the run
+abbrev pub found_line : SearchFor → List ℕ → List ℕ
+found_line aim ns =
     if nat_le (length ns) most_choices
-    then (leak_words (length ns) ++ numbers_text ns) ++ codes "\n"
-    else codes "leak: after " ++ (decimal (length ns)
-    ++ codes " turns, more than a schedule of choices may have\n")
-
--- ---- another run that was found
-
--- the options of a run of these turns, as `golf run --schedule choices:..` has them
-unfoldable pub end_options : List ℕ → RunOptions
-end_options ns = record {
-  schedule = Schedule.Choices ns;
-  turns = default_turns;
-  every = None;
-  markers = 1;
-  recover = false;
-  why = false;
-}
-
--- the words of this run, or the number of turns if there are more than words can have; first comes how it ends
-abbrev pub end_line : List ℕ → List ℕ → List ℕ
-end_line how ns =
-    if nat_le (length ns) most_choices
-    then ((how ++ codes ": --schedule choices:") ++ numbers_text ns) ++ codes "\n"
-    else how ++ (codes ": after " ++ (decimal (length ns)
-    ++ codes " turns, more than a schedule of choices may have\n"))
+    then ((name_of aim ++ words_before aim (length ns)) ++ numbers_text ns) ++ codes "\n"
+    else name_of aim ++ many_turns (length ns)
 
 -- nothing was found in these states
 abbrev pub nothing_line : ℕ → ℕ → List ℕ

@@ -4,6 +4,7 @@
 //! - `USAGE`: the text for words that are no command line.
 #![tactic(auto)]
 
+mod found_runs;
 mod full_answers;
 mod progress;
 mod search_answers;

@@ -5,19 +5,23 @@ ghost use Rattle.golf_explore_command.specs.Texts.{
   ends_text,
   panics_text,
   sleeps_text,
-  end_line as end_line_of,
-  leak_line as leak_line_of,
+  found_line as found_line_of,
+  many_turns as many_turns_of,
+  name_of as told_name,
   nothing_line as nothing_line_of,
   note_line as note_line_of,
   out_of_time_line as out_of_time_line_of,
   too_many_line as too_many_line_of,
   usage_text,
   visited_text as visited_text_of,
+  words_before as words_before_of,
 };
 
 use golf_base::{List, Memory};
 use golf_command_words::MOST_CHOICES;
 use golf_explore::Visited;
+use golf_explore_words::SearchFor;
+use golf_run_schedules::MOST_TURNS;
 use golf_run_texts::{add_numbers, list_of};
 use std::alloc::Global;
 
@@ -82,40 +86,59 @@ pub(crate) fn visited_text(alloc: Global, told: Visited) -> Result<List<u8>, Mem
     Ok(text)
 }
 
-/// Returns the line of a leak that the turns of these numbers reach. It has the words for a run that
-/// shows the leak, unless there are more numbers than words may have.
-pub(crate) fn leak_line(alloc: Global, numbers: &[u64]) -> Result<List<u8>, Memory>
-    ensures { IfOk result (λ line. line ≡ leak_line_of numbers.now) }
+// How a run that was found is named.
+fn name_of(aim: SearchFor) -> &'static str
+    ensures { result.now ≡ told_name aim }
 {
-    let count = numbers.len();
-    if count > MOST_CHOICES as usize {
-        let text = format!(in alloc;
-            "leak: after {count} turns, more than a schedule of choices may have\n"
-        )?;
-        return list_of(alloc, text.as_bytes());
+    match aim {
+        SearchFor::Leak => "leak",
+        SearchFor::Panic => "panic",
+        SearchFor::Asleep => "asleep",
     }
-    let words = format!(in alloc; "leak: --every {count} --schedule choices:")?;
-    let mut line = list_of(alloc, words.as_bytes())?;
-    add_numbers(alloc, &mut line, numbers)?;
-    line.extend_from_slice(b"\n")?;
-    Ok(line)
 }
 
-/// Returns the line of a run that ends so after the turns of these numbers. It has the words for the run, unless there
-/// are more numbers than words may have.
-pub(crate) fn end_line(alloc: Global, how: &[u8], numbers: &[u64]) -> Result<List<u8>, Memory>
-    ensures { IfOk result (λ line. line ≡ end_line_of how.now numbers.now) }
+// The words of a run with so many turns, up to its numbers.
+fn words_before(alloc: Global, aim: SearchFor, turns: u64) -> Result<List<u8>, Memory>
+    ensures { IfOk result (λ words. words ≡ words_before_of aim turns) }
 {
-    let mut line = list_of(alloc, how)?;
-    let count = numbers.len() as u64;
+    match aim {
+        SearchFor::Leak => {
+            let text = format!(in alloc; ": --every {turns} --schedule choices:")?;
+            list_of(alloc, text.as_bytes())
+        }
+        SearchFor::Panic => list_of(alloc, b": --schedule choices:"),
+        SearchFor::Asleep => list_of(alloc, b": --schedule choices:"),
+    }
+}
+
+// What stands in place of the words: that there are more turns than words may have, or than a run may have.
+fn many_turns(alloc: Global, turns: u64) -> Result<List<u8>, Memory>
+    ensures { IfOk result (λ text. text ≡ many_turns_of turns) }
+{
+    if turns > u64::from(MOST_TURNS) {
+        let text = format!(in alloc; ": after {turns} turns, more than a run may have\n")?;
+        return list_of(alloc, text.as_bytes());
+    }
+    let text = format!(in alloc;
+        ": after {turns} turns, more than a schedule of choices may have\n"
+    )?;
+    list_of(alloc, text.as_bytes())
+}
+
+/// Returns the line of a run that was found, with the turns of these numbers. It has the words for the run, unless there
+/// are more numbers than words may have.
+pub(crate) fn found_line(alloc: Global, aim: SearchFor, numbers: &[u64]) -> Result<List<u8>, Memory>
+    ensures { IfOk result (λ line. line ≡ found_line_of aim numbers.now) }
+{
+    let mut line = list_of(alloc, name_of(aim).as_bytes())?;
+    let turns = numbers.len() as u64;
     if numbers.len() > MOST_CHOICES as usize {
-        let text = format!(in alloc;
-            ": after {count} turns, more than a schedule of choices may have\n"
-        )?;
-        line.extend_from_slice(text.as_bytes())?;
+        let text = many_turns(alloc, turns)?;
+        line.extend_from_slice(text.as_slice())?;
         return Ok(line);
     }
-    line.extend_from_slice(b": --schedule choices:")?;
+    let words = words_before(alloc, aim, turns)?;
+    line.extend_from_slice(words.as_slice())?;
     add_numbers(alloc, &mut line, numbers)?;
     line.extend_from_slice(b"\n")?;
     Ok(line)

@@ -53,26 +53,31 @@ same-agrees file k (Some f) (Some g) s h =
 same-agrees file k (Some f) None s h = absurd s
 same-agrees file k None y s h = absurd s
 
-file-agrees : (file : File) (k : ℕ) → IsFunctionNumber file k → Agrees file (CodeOf file) k
-file-agrees file k (lt, le) =
-    let r = files-agree file k lt le in
-    subst (λ o. FunctionAgrees file k o) (sym r.1) r.2
+file-agrees : (file : File) (k : ℕ) (x y : Option Function) → AreSame x y → slice_get (CodeOf file).functions k ≡ y
+    → FunctionAgrees file k y
+file-agrees file k x (Some f) s is = (files-agree file).1 k f is
+file-agrees file k (Some f) None s is = absurd s
+file-agrees file k None None s is = absurd s
 
-pub body-agrees : (file : File) (code : Code) (k : ℕ) → IsCodeOf file code k → IsFunctionNumber file k
-    → Agrees file code k
-body-agrees file code k s h = same-agrees file k (slice_get code.functions k) (slice_get (CodeOf file).functions k) s
-    (file-agrees file k h)
+pub body-agrees : (file : File) (code : Code) (k : ℕ) → IsCodeOf file code k → Agrees file code k
+body-agrees file code k s =
+    let theirs = slice_get (CodeOf file).functions k in
+    same-agrees file k (slice_get code.functions k) theirs s
+    (file-agrees file k (slice_get code.functions k) theirs s refl)
 
-own : (file : File) (k : ℕ) (o : Option Function) → FunctionAgrees file k o → AreSame o o
-own file k (Some f) h = record { params = refl; slots = refl; body = refl }
-own file k None h = h
+-- a function that is there is the same as itself
+own : (fs : List Function) (k : ℕ) → k < length fs → AreSame (slice_get fs k) (slice_get fs k)
+own [] k less = absurd (omega (arith, less))
+own (f ∷ fs) zero less = record { params = refl; slots = refl; body = refl }
+own (f ∷ fs) (suc k) less = own fs k (omega (arith, less))
 
 -- the functions of a file are there, and so are the same as themselves
 pub same-as-itself : (file : File) (code : Code) (k : ℕ) → code ≡ CodeOf file → IsFunctionNumber file k
     → AreSame (slice_get code.functions k) (slice_get code.functions k)
 same-as-itself file code k e h =
+    let count = (files-agree file).0 in
     subst (λ (c : Code). AreSame (slice_get c.functions k) (slice_get c.functions k)) (sym e)
-    (own file k (slice_get (CodeOf file).functions k) (file-agrees file k h))
+    (own (CodeOf file).functions k (omega (arith, h.1, count)))
 
 module _ (t : Tables) (gives : List Bool) where
   -- there are as many functions as are declared
@@ -146,7 +151,7 @@ all-by-facts file code s xs fs gs is at told past =
     ∙ ap function_count at))
 
 pub all-agree : (file : File) (code : Code) → AllAreCodeOf file code → AllAgree file code
-all-agree file code h = λ k n. body-agrees file code k (h k n) n
+all-agree file code h = λ k n. body-agrees file code k (h k n)
 
 -- the code of a file has each of its functions
 pub own-code : (file : File) (code : Code) → code ≡ CodeOf file → AllAreCodeOf file code

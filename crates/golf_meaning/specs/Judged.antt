@@ -21,8 +21,7 @@ AreSame None o = ⊥
 abbrev pub IsCodeOf : File → Code → ℕ → Type 0
 IsCodeOf file code k = AreSame (slice_get code.functions k) (slice_get (CodeOf file).functions k)
 
--- The number is that of a function or method of the file. It is not 0, and not the number of a function made for `go`
--- or `defer`.
+-- The number is that of a function or method of the file: not 0, and not that of a function made for `go` or `defer`.
 abbrev pub IsFunctionNumber : File → ℕ → Type 0
 IsFunctionNumber file k = (0 < k) × (k ≤ function_count file.declarations)
 

@@ -4,7 +4,7 @@
 
 ghost use Rattle.std.specs.Prelude.{◌≡◌, ◌↔◌, drop, slice_get, IfOk, IsTrue};
 ghost use Rattle.golf_meaning_statements.specs.Files.{function_count as function_count_of};
-ghost use Rattle.golf_meaning.specs.Judged.{AreSame, IsCodeOf, IsFunctionNumber, Agrees, AllAreCodeOf, AllAgree};
+ghost use Rattle.golf_meaning.specs.Judged.{AreSame, IsCodeOf, Agrees, AllAreCodeOf, AllAgree};
 
 use golf_base::Memory;
 use golf_check::Checked;
@@ -29,8 +29,9 @@ fn are_same(code: &Code, other: &Code, number: usize) -> bool
 /// Returns whether the code has this function as the code of the file has it: the same parameters, slots
 /// and body. The body includes the place in the source of each instruction.
 ///
-/// Suppose that it has, and that the number is that of a function or method of the file. Then source and
-/// code agree, for as many arguments as the function has parameters, and for all answers:
+/// Suppose that it has. Then source and code agree, for as many arguments as the function has parameters,
+/// and for all answers. The source of function 0 is the initialisers of the globals and the call of `main`.
+/// That of a function made for `go` or `defer` is the operation that the statement names.
 ///
 /// - Each bound of one has a bound of the other with which the operations and the end are the same.
 /// - If the bound is too short for the end, the operations of one are a prefix of the other's.
@@ -44,7 +45,7 @@ pub fn check_body(
     function: u32,
 ) -> Result<bool, Memory>
     ensures exact { IfOk result (λ same. IsTrue same ↔ IsCodeOf checked.now code.now function) }
-    ensures agrees { IfOk result (λ same. IsTrue same → IsFunctionNumber checked.now function → Agrees checked.now code.now function) }
+    ensures agrees { IfOk result (λ same. IsTrue same → Agrees checked.now code.now function) }
 {
     let made = generate(alloc, checked)?;
     Ok(are_same(code, &made, function as usize))

@@ -1,12 +1,15 @@
--- The arguments of a call are of the types of receiver and parameters in the source.
--- For: `ArgumentsFit`, golf_meaning_runs/specs/TypingLaws.antt; `IsMeant`, golf_meaning_runs/specs/Laws.antt.
--- By: cases of a value and its type; induction over lists of parameters and of declarations.
-use Rattle.std.proofs.Common.{◌≡◌, ℕ, zero, suc, ◌+◌, ◌<◌, true, List, [], ◌∷◌, ◌++◌, map, Option, Some, None, refl, ap}
-use Rattle.std.proofs.Common.{sym, subst, slice_get, arith}
+-- The arguments of a call fit the function in the source.
+-- For: `AreArgumentsOf`, specs/FileLaws.antt; `SourcesAgree`, specs/Agreement.antt; `IsMeant`, specs/Laws.antt.
+-- By: cases of a value and its type; induction over lists of parameters, of declarations and of made functions.
+use Rattle.std.proofs.Common.{◌≡◌, ℕ, zero, suc, ◌+◌, Bool, true, false, List, [], ◌∷◌, ◌++◌, length, map, Option, Some}
+use Rattle.std.proofs.Common.{None, refl, ap, sym, ◌∙◌, subst, slice_get, arith}
+use Rattle.std.proofs.lemmas.Bool.{false≢true}
+use Rattle.std.proofs.lemmas.List.{length-map}
 use Rattle.golf_theory.specs.Membership.{Every}
 use Rattle.golf_syntax_trees.specs.declared.declarations.Decl.{Decl}
 use Rattle.golf_syntax_trees.specs.declared.declarations.Decl.TheVariants as d
 use Rattle.golf_syntax_trees.specs.declared.declarations.Func.{Func}
+use Rattle.golf_syntax_trees.specs.declared.declarations.File.{File}
 use Rattle.golf_syntax_trees.specs.declared.declarations.Receiver.{Receiver}
 use Rattle.golf_data.specs.declared.value.Value.{Value}
 use Rattle.golf_check_types.specs.declared.types.GoType.{GoType}
@@ -16,16 +19,20 @@ use Rattle.golf_check_types.specs.Files.{outside, all_typed_names, receiver_walk
 use Rattle.golf_check_types.specs.Statements.{behind}
 use Rattle.golf_check_types.specs.Statements as W
 use Rattle.golf_model_typing.specs.Types.{ValueType, Signature, IsNilable, Types, ValueFits, ValuesFit}
+use Rattle.golf_code_of.specs.declared.surroundings.Making.{Making}
 use Rattle.golf_code_of.specs.declared.tables.Tables.{Tables}
+use Rattle.golf_code_of.specs.Files.{tables_of}
 use Rattle.golf_code_shapes.specs.Types.{value_type, known_type, known_types}
 use Rattle.golf_code_shapes.specs.Sound.{IsKnown}
-use Rattle.golf_code_shapes.specs.FunctionLaws.{result_scope, function_signature}
-use Rattle.golf_code_shapes.specs.FileLaws.{own_signatures, ParametersAreKnown, DeclarationsAreKnown}
-use Rattle.golf_meaning_statements.specs.Files.{function_count}
+use Rattle.golf_code_shapes.specs.FunctionLaws.{result_scope, parameter_slots, function_signature, made_signature}
+use Rattle.golf_code_shapes.specs.FileLaws.{entry_signature, own_signatures, ParametersAreKnown, DeclarationsAreKnown}
+use Rattle.golf_code_shapes.specs.FileLaws.{NamesFit, scope_of, types_of_file}
+use Rattle.golf_code_shapes.proofs.Gets.{some-same}
+use Rattle.golf_meaning_statements.specs.Files.{made_in, taking_in}
 use Rattle.golf_meaning_source.specs.Operations.{Taking}
 use Rattle.golf_meaning_runs.specs.Sound.{is_of, Held}
 use Rattle.golf_meaning_runs.specs.TypingLaws.{ArgumentsFit}
-use Rattle.golf_meaning_runs.specs.FileLaws.{parameters_at}
+use Rattle.golf_meaning_runs.specs.FileLaws.{MadeArguments, ArgumentsAt, AreArgumentsOf}
 
 -- a value of a type has its kind
 
@@ -55,12 +62,23 @@ module _ (taking : Taking) (types : Types) (known : List (ℕ × ValueType)) whe
   held o v k h = subst (λ z. Held taking z v) (sym k.1)
       (λ strict. value-kind (value_type k.0) v (subst (λ z. ValueFits types known v (known_type z)) k.1 h))
 
-  pub arguments-held : (os : List (Option GoType)) (vs : List Value) → Every IsKnown os
+  arguments-held : (os : List (Option GoType)) (vs : List Value) → Every IsKnown os
       → ValuesFit types known vs (known_types os) → ArgumentsFit taking os vs
   arguments-held [] [] k h = tt
   arguments-held [] (v ∷ vs) k h = absurd h
   arguments-held (o ∷ os) [] k h = absurd h
   arguments-held (o ∷ os) (v ∷ vs) k h = (held o v k.0 h.0, arguments-held os vs k.1 h.1)
+
+  as-many : (os : List (Option GoType)) (vs : List Value) → ValuesFit types known vs (known_types os)
+      → length vs ≡ length os
+  as-many [] [] h = refl
+  as-many [] (v ∷ vs) h = absurd h
+  as-many (o ∷ os) [] h = absurd h
+  as-many (o ∷ os) (v ∷ vs) h = ap suc (as-many os vs h.1)
+
+  none-taken : (vs : List Value) → ValuesFit types known vs [] → vs ≡ []
+  none-taken [] h = refl
+  none-taken (v ∷ vs) h = absurd h
 
 -- receiver and parameters have types
 
@@ -82,27 +100,71 @@ slots-known names f (Some r) e h = (
   each-known f.line (all_typed_names (outside names) f.parameters) _ h.parameters,
 )
 
--- of the function at a place among the declarations
+-- what is so of the types of a function's parameters makes the arguments fit
+module _ (taking : Taking) (vs : List Value) (Given : List ValueType → Type 0)
+    (fits : (os : List (Option GoType)) → Every IsKnown os → Given (known_types os) → ArgumentsFit taking os vs)
+    (long : (os : List (Option GoType)) → Given (known_types os) → length vs ≡ length os) where
+  made-arguments : (ms : List Making) (k : ℕ) (sig : Signature) → slice_get (map made_signature ms) k ≡ Some sig
+      → Given sig.params → MadeArguments ms k vs
+  made-arguments [] k sig e h = absurd (cc)
+  made-arguments (m ∷ ms) zero sig e h =
+      long m.parameters (subst Given (ap (λ (s : Signature). s.params) (sym (some-same (made_signature m) sig e))) h)
+  made-arguments (m ∷ ms) (suc k) sig e h = made-arguments ms k sig e h
 
-pub parameters-known : (names : FileScope) (g : ℕ) (xs : List Decl) (k : ℕ) → DeclarationsAreKnown names g xs
-    → Every IsKnown (parameters_at (outside names) xs k)
-parameters-known names g [] k h = tt
-parameters-known names g (d.Func f ∷ xs) zero h = slots-known names f f.receiver refl h.0
-parameters-known names g (d.Func f ∷ xs) (suc k) h = parameters-known names g xs k h.1
-parameters-known names g (d.Var v ∷ xs) k h = parameters-known names (g + 1) xs k h.1
-parameters-known names g (d.Const l x c ∷ xs) k h = parameters-known names g xs k h.1
-parameters-known names g (d.Struct l x fields ∷ xs) k h = parameters-known names g xs k h.1
+  module _ (t : Tables) (names : FileScope) (made : List Making) where
+    pub arguments-at : (g : ℕ) (xs : List Decl) (k : ℕ) (sig : Signature) → DeclarationsAreKnown names g xs
+        → slice_get (own_signatures t (outside names) xs ++ map made_signature made) k ≡ Some sig
+        → Given sig.params → ArgumentsAt taking (outside names) made xs k vs
+    arguments-at g [] k sig known e h = made-arguments made k sig e h
+    arguments-at g (d.Func f ∷ xs) zero sig known e h =
+        fits (parameter_slots (outside names) f) (slots-known names f f.receiver refl known.0)
+        (subst Given (ap (λ (s : Signature). s.params)
+        (sym (some-same (function_signature t (outside names) f) sig e))) h)
+    arguments-at g (d.Func f ∷ xs) (suc k) sig known e h = arguments-at g xs k sig known.1 e h
+    arguments-at g (d.Var v ∷ xs) k sig known e h = arguments-at (g + 1) xs k sig known.1 e h
+    arguments-at g (d.Const l x c ∷ xs) k sig known e h = arguments-at g xs k sig known.1 e h
+    arguments-at g (d.Struct l x fields ∷ xs) k sig known e h = arguments-at g xs k sig known.1 e h
 
-pub signature-at : (t : Tables) (names : FileScope) (xs : List Decl) (more : List Signature) (k : ℕ) (sig : Signature)
-    → k < function_count xs → slice_get (own_signatures t (outside names) xs ++ more) k ≡ Some sig
-    → sig.params ≡ known_types (parameters_at (outside names) xs k)
-signature-at t names [] more k sig less e = absurd (omega (arith, less))
-signature-at t names (d.Func f ∷ xs) more zero sig less e = ap (λ (s : Signature). s.params) (sym same)
-  where
-    same : function_signature t (outside names) f ≡ sig
-    same = cc
-signature-at t names (d.Func f ∷ xs) more (suc k) sig less e =
-    signature-at t names xs more k sig (omega (arith, less)) e
-signature-at t names (d.Var v ∷ xs) more k sig less e = signature-at t names xs more k sig less e
-signature-at t names (d.Const l x c ∷ xs) more k sig less e = signature-at t names xs more k sig less e
-signature-at t names (d.Struct l x fields ∷ xs) more k sig less e = signature-at t names xs more k sig less e
+-- values of the types of the parameters of a function
+pub typed-arguments : (file : File) (strict : Bool) (known : List (ℕ × ValueType)) (k : ℕ) (sig : Signature)
+    (vs : List Value) → NamesFit (tables_of file.declarations) (scope_of file) file.declarations
+    → slice_get (types_of_file file).functions k ≡ Some sig → ValuesFit (types_of_file file) known vs sig.params
+    → AreArgumentsOf strict file k vs
+typed-arguments file strict known zero sig vs h e fit =
+    none-taken (taking_in file strict) (types_of_file file) known vs
+    (subst (λ ts. ValuesFit (types_of_file file) known vs ts)
+    (ap (λ (s : Signature). s.params) (sym (some-same entry_signature sig e))) fit)
+typed-arguments file strict known (suc k) sig vs h e fit =
+    let taking = taking_in file strict in
+    let types = types_of_file file in
+    arguments-at taking vs (λ ts. ValuesFit types known vs ts) (λ os is. arguments-held taking types known os vs is)
+    (λ os. as-many taking types known os vs) (tables_of file.declarations) (scope_of file) (made_in file) 0
+    file.declarations k sig h.declarations e fit
+
+-- if kinds are not looked at, as many values as parameters
+
+held-any : (file : File) (o : Option GoType) (v : Value) → IsKnown o → Held (taking_in file false) o v
+held-any file o v known = subst (λ z. Held (taking_in file false) z v) (sym known.1)
+    (λ strict. absurd (false≢true strict))
+
+any-fit : (file : File) (os : List (Option GoType)) (vs : List Value) → Every IsKnown os → length vs ≡ length os
+    → ArgumentsFit (taking_in file false) os vs
+any-fit file [] [] known e = tt
+any-fit file [] (v ∷ vs) known e = absurd (omega (arith, e))
+any-fit file (o ∷ os) [] known e = absurd (omega (arith, e))
+any-fit file (o ∷ os) (v ∷ vs) known e = (held-any file o v known.0, any-fit file os vs known.1 (omega (arith, e)))
+
+none-many : (vs : List Value) → length vs ≡ 0 → vs ≡ []
+none-many [] e = refl
+none-many (v ∷ vs) e = absurd (omega (arith, e))
+
+pub any-arguments : (file : File) (k : ℕ) (sig : Signature) (vs : List Value)
+    → NamesFit (tables_of file.declarations) (scope_of file) file.declarations
+    → slice_get (types_of_file file).functions k ≡ Some sig → length vs ≡ length sig.params
+    → AreArgumentsOf false file k vs
+any-arguments file zero sig vs h e many =
+    none-many vs (many ∙ ap (λ (s : Signature). length s.params) (sym (some-same entry_signature sig e)))
+any-arguments file (suc k) sig vs h e many =
+    arguments-at (taking_in file false) vs (λ ts. length vs ≡ length ts)
+    (λ os known is. any-fit file os vs known (is ∙ length-map os known_type)) (λ os is. is ∙ length-map os known_type)
+    (tables_of file.declarations) (scope_of file) (made_in file) 0 file.declarations k sig h.declarations e many

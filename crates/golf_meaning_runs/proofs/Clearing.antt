@@ -12,7 +12,7 @@ use Rattle.golf_model.specs.Views.{FrameView, GoroutineView}
 use Rattle.golf_model.specs.State.{State}
 use Rattle.golf_model.specs.Changes.{become, apply_all}
 use Rattle.golf_model.specs.ClearedSlots.{cleared, clears_in, clears, clearing}
-use Rattle.golf_meaning_runs.specs.Books.{RunTypes, Book, begun_in, calls_after, frames_in, frames_at, started_with}
+use Rattle.golf_meaning_runs.specs.Books.{RunTypes, Book, calls_after, frames_in, frames_at}
 use Rattle.golf_meaning_runs.specs.Books.{left_by, HasLife, FramesMatch, HasMasks}
 use Rattle.golf_meaning_runs.proofs.Framing.{cleared-matches}
 use Rattle.golf_meaning_runs.proofs.Others.{one-some}

@@ -1,4 +1,4 @@
--- The functions of the code of a file have the masks of their bodies, and as many parameters as their types say.
+-- The functions of the code of a file have the masks of their bodies, and types with as many parameters.
 -- For: `HasMasks` and `HasParameters`, golf_meaning_runs/specs/Books.antt.
 -- By: induction over the list of declarations, and over lists of functions.
 use Rattle.std.proofs.Common.{◌≡◌, ℕ, zero, suc, ◌+◌, Bool, List, [], ◌∷◌, ◌++◌, length, map, Some, refl, ap, sym, ◌∙◌}
@@ -24,6 +24,7 @@ use Rattle.golf_code_of.specs.Files.{CodeOf}
 use Rattle.golf_code_shapes.specs.Types.{known_type, known_types}
 use Rattle.golf_code_shapes.specs.FunctionLaws.{result_scope, parameter_slots, made_signature}
 use Rattle.golf_code_shapes.specs.FileLaws.{own_signatures, types_of_code, scope_of, types_of_file}
+use Rattle.golf_code_shapes.proofs.Gets.{some-same}
 use Rattle.golf_meaning_runs.specs.Books.{HasMasks, HasParameters}
 
 -- each function of a list has the masks of its body
@@ -85,6 +86,15 @@ paired-at (f ∷ fs) (g ∷ gs) zero fn sig h e i = let a : f ≡ fn = cc in let
     cc in ap (λ (z : Function). z.params) (sym a) ∙ h.0 ∙ ap (λ (z : Signature). length z.params) b
 paired-at (f ∷ fs) (g ∷ gs) (suc k) fn sig h e i = paired-at fs gs k fn sig h.1 e i
 
+-- a function that is there has a signature
+signature-of : (fs : List Function) (gs : List Signature) (k : ℕ) (fn : Function) → Paired fs gs
+    → slice_get fs k ≡ Some fn → (sig : Signature) × (slice_get gs k ≡ Some sig) × (fn.params ≡ length sig.params)
+signature-of [] gs k fn h e = absurd (cc)
+signature-of (f ∷ fs) [] k fn h e = absurd h
+signature-of (f ∷ fs) (g ∷ gs) zero fn h e =
+    (g, refl, ap (λ (z : Function). z.params) (sym (some-same f fn e)) ∙ h.0)
+signature-of (f ∷ fs) (g ∷ gs) (suc k) fn h e = signature-of fs gs k fn h.1 e
+
 paired-append : (fs ps : List Function) (gs qs : List Signature) → Paired fs gs → Paired ps qs
     → Paired (fs ++ ps) (gs ++ qs)
 paired-append [] ps [] qs h k = k
@@ -134,3 +144,11 @@ files-have-parameters file shapes k fn sig is typed =
     paired-at (code_in (tables_of file.declarations) (scope_of file) file.declarations).functions
     (types_of_code (tables_of file.declarations) (scope_of file) file.declarations).functions k fn sig
     (code-paired (tables_of file.declarations) (scope_of file) file.declarations) is typed
+
+pub files-have-signatures : (file : File) (k : ℕ) (fn : Function) → slice_get (CodeOf file).functions k ≡ Some fn
+    → (sig : Signature) × (slice_get (types_of_file file).functions k ≡ Some sig) × (fn.params ≡ length sig.params)
+unfolding CodeOf
+files-have-signatures file k fn is =
+    signature-of (code_in (tables_of file.declarations) (scope_of file) file.declarations).functions
+    (types_of_code (tables_of file.declarations) (scope_of file) file.declarations).functions k fn
+    (code-paired (tables_of file.declarations) (scope_of file) file.declarations) is

@@ -20,6 +20,7 @@ pub mod Outermost
 pub mod BookedRuns
 pub mod Examples
 pub mod JoinedExamples
+pub mod PoolExamples
 pub mod Inner
 pub mod Needing
 pub mod Showing
@@ -51,5 +52,6 @@ pub mod Choices
 pub mod Statements
 pub mod Functions
 pub mod Giving
+pub mod MadeFunctions
 pub mod TypedFiles
 pub mod WholeFiles

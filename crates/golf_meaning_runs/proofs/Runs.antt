@@ -1,22 +1,20 @@
 -- The sources of the functions of a program mean what its calls show in a run.
 -- For: `RunsMeanSources`, golf_meaning_runs/specs/Laws.antt; the law `runs_mean_their_sources`, src/lib.rt.
 -- By: cases of where a call stands; induction over lists of calls.
-use Rattle.std.proofs.Common.{◌≡◌, ℕ, zero, suc, Bool, false, ◌<◌, ◌≤◌, List, [], ◌∷◌, Some, map, slice_get, refl, ap}
-use Rattle.std.proofs.Common.{sym, ◌∙◌, subst, append-nil, arith}
+use Rattle.std.proofs.Common.{◌≡◌, ℕ, Bool, false, List, [], ◌∷◌, Some, slice_get, refl, ap, sym, ◌∙◌, subst}
+use Rattle.std.proofs.Common.{append-nil}
 use Rattle.golf_theory.proofs.Lists.{Every-weaker}
 use Rattle.golf_syntax_trees.specs.declared.declarations.File.{File}
 use Rattle.golf_data.specs.declared.value.Value.{Value}
-use Rattle.golf_check_types.specs.Files.{outside}
 use Rattle.golf_data.specs.declared.code.Code.{Code}
 use Rattle.golf_data.specs.declared.code.Function.{Function}
 use Rattle.golf_model.specs.State.{State, start}
 use Rattle.golf_model.specs.Runs.{Event, happens}
-use Rattle.golf_model_typing.specs.Types.{ValueType, Shape, Typing, ValuesFit}
+use Rattle.golf_model_typing.specs.Types.{ValueType, Shape, Typing}
 use Rattle.golf_model_typing.specs.Grows.{Grows}
 use Rattle.golf_model_typing.specs.Shapes.{HasShapes}
-use Rattle.golf_code_of.specs.Files.{tables_of, CodeOf}
-use Rattle.golf_code_shapes.specs.FunctionLaws.{made_signature}
-use Rattle.golf_code_shapes.specs.FileLaws.{made_in, scope_of, types_of_file}
+use Rattle.golf_code_of.specs.Files.{CodeOf}
+use Rattle.golf_code_shapes.specs.FileLaws.{types_of_file}
 use Rattle.golf_code_shapes.proofs.Globals.{names-fit}
 use Rattle.golf_code_never_stuck.specs.Reached.{IsProgram}
 use Rattle.golf_code_never_stuck.proofs.Plain.{Sound, sound-start, sound-event, plain-runs-go-on}
@@ -24,9 +22,8 @@ use Rattle.golf_code_never_stuck.proofs.Reaching.{files-have-shapes}
 use Rattle.golf_meaning_flat.specs.Worlds.{Operation, Answer, Halt, End, Told, halted}
 use Rattle.golf_meaning_flat.specs.Laws.{BeginsWith}
 use Rattle.golf_meaning_statements.specs.Functions.{CodeMeaning}
-use Rattle.golf_meaning_statements.specs.Files.{function_count, giving_in, taking_in, MeaningOf}
+use Rattle.golf_meaning_statements.specs.Files.{giving_in, MeaningOf}
 use Rattle.golf_meaning_runs.specs.SoundFlows.{EndSound}
-use Rattle.golf_meaning_runs.specs.FileLaws.{parameters_at}
 use Rattle.golf_meaning_runs.proofs.Giving.{gives-are}
 use Rattle.golf_meaning_runs.proofs.WholeFiles.{files-sound}
 use Rattle.golf_meaning_runs.specs.FrameShapes.{giving}
@@ -43,7 +40,7 @@ use Rattle.golf_meaning_runs.proofs.Sources.{lives-mean-source}
 use Rattle.golf_meaning_runs.specs.Laws.{SaysOf, IsMeant, RunsMeanSources}
 use Rattle.golf_meaning_runs.proofs.Agreeing.{ruled}
 use Rattle.golf_meaning_runs.proofs.Files.{files-have-masks, files-have-parameters}
-use Rattle.golf_meaning_runs.proofs.Arguments.{arguments-held, parameters-known, signature-at}
+use Rattle.golf_meaning_runs.proofs.Arguments.{typed-arguments}
 
 -- a life that has come to this has a meaning which says what is so of the call
 module _ (meaning : ℕ → Told) (shown : List Operation) where
@@ -99,30 +96,19 @@ module _ (file : File) (program : IsProgram file) (shapes : List (List Shape)) (
   types = record { typing = record { of = types_of_file file; shapes = shapes }; known = known }
 
   -- with such arguments the source of a function lacks no rule
-  sound : (k : ℕ) (arguments : List Value) (got : List Answer) → 0 < k → k ≤ function_count file.declarations
-      → AreArguments types k arguments → (n : ℕ) → EndSound false (MeaningOf file k arguments got n).end
-  sound zero arguments got above in_file h n = absurd (omega (arith, above))
-  sound (suc k) arguments got above in_file (sig, is, fit) n =
-      let xs = file.declarations in
-      let f = scope_of file in
-      let less : k < function_count xs = omega (arith, in_file) in
-      let names = names-fit file program.typed in
-      let same = signature-at (tables_of xs) f xs (map made_signature (made_in (tables_of xs) f xs)) k sig less is in
-      files-sound file program.typed program.good false k arguments got n less
-      (arguments-held (taking_in file false) (types_of_file file) known (parameters_at (outside f) xs k) arguments
-      (parameters-known f 0 xs k names.declarations)
-      (subst (λ ts. ValuesFit (types_of_file file) known arguments ts) same fit))
+  sound : (k : ℕ) (arguments : List Value) (got : List Answer) → AreArguments types k arguments → (n : ℕ)
+      → EndSound false (MeaningOf file k arguments got n).end
+  sound k arguments got (sig, is, fit) n = files-sound file program.typed program.good false k arguments got n
+      (typed-arguments file false known k sig arguments (names-fit file program.typed) is fit)
 
   pub live-meant : (k : Call) → HasLife (CodeOf file) types k → IsMeant file k
   live-meant k (fn, is, (given, (now, life, stands))) = (
-    λ above in_file.
-        let ruled_in = λ (n : ℕ). ruled (MeaningOf file k.function k.arguments k.got n).end
-        (sound k.function k.arguments k.got above in_file given n) in
-        says (MeaningOf file k.function k.arguments k.got) k.shown k.standing now stands
+    says (MeaningOf file k.function k.arguments k.got) k.shown k.standing now stands
         (of-source file k.function k.arguments k.shown k.got now
-        (lives-mean-source file k.function fn
-        (shaping types k.function) k.arguments k.shown k.got now above in_file is
-        (sym (gives-are file)) ruled_in life)),
+        (lives-mean-source file k.function fn (shaping types k.function) k.arguments k.shown k.got now is
+        (sym (gives-are file))
+        (λ n. ruled (MeaningOf file k.function k.arguments k.got n).end
+        (sound k.function k.arguments k.got given n)) life)),
     λ other found.
         let gives = giving (types_of_file file) in
         subst (λ (f : Function). SaysOf (CodeMeaning (giving_in file) f k.arguments k.got) k.shown k.standing)

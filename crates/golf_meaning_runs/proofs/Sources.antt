@@ -1,13 +1,12 @@
 -- What a call has shown is what its source means.
 -- For: `LivesMeanSource`, golf_meaning_runs/specs/Lives.antt; the law `lives_mean_the_source`, src/lib.rt.
 -- By: cases of where the call stands; induction over its life.
-use Rattle.std.proofs.Common.{◌≡◌, ℕ, Bool, List, length, Option, Some, subst, slice_get}
+use Rattle.std.proofs.Common.{◌≡◌, ℕ, Bool, List, length, Option, subst}
 use Rattle.golf_syntax_trees.specs.declared.declarations.File.{File}
 use Rattle.golf_data.specs.declared.value.Value.{Value}
 use Rattle.golf_data.specs.declared.code.Function.{Function}
-use Rattle.golf_code_of.specs.Files.{CodeOf}
 use Rattle.golf_meaning_flat.specs.Worlds.{Operation, Answer, Told}
-use Rattle.golf_meaning_flat.specs.Laws.{IsPartOf, Agree, HasRules}
+use Rattle.golf_meaning_flat.specs.Laws.{IsPartOf, Agree}
 use Rattle.golf_meaning_statements.specs.Functions.{CodeMeaning}
 use Rattle.golf_meaning_statements.specs.Files.{giving_in, MeaningOf}
 use Rattle.golf_meaning_statements.proofs.WholeFiles.{files-agree}
@@ -38,16 +37,9 @@ counted fn shaping arguments shown got now (Life.Answered l a to d life good is 
     counted fn shaping arguments _ _ _ life
 counted fn shaping arguments shown got now (Life.Halts l h life is step) = counted fn shaping arguments _ _ _ life
 
-same-function : (f g : Function) (m : Option Function) → m ≡ Some f → m ≡ Some g → f ≡ g
-same-function f g m a b = cc
-
 pub lives-mean-source : LivesMeanSource
-lives-mean-source file k fn shaping arguments shown got now lt le is gives ruled life =
-    let r = files-agree file k lt le in
-    let same : r.0 ≡ fn = same-function r.0 fn (slice_get (CodeOf file).functions k) r.1 is in
-    let agree = subst (λ (f : Function). length arguments ≡ f.params → HasRules (MeaningOf file k arguments got)
-    → Agree (MeaningOf file k arguments got) (CodeMeaning (giving_in file) f arguments got)) same
-    (r.2 arguments got) (counted fn shaping arguments shown got now life) ruled in
+lives-mean-source file k fn shaping arguments shown got now is gives ruled life =
+    let agree = (files-agree file).1 k fn is arguments got (counted fn shaping arguments shown got now life) ruled in
     source-means file k fn arguments shown got agree now
     (subst (λ (bs : List Bool). HasShown bs fn arguments shown got now) gives
     (lives-mean fn shaping arguments shown got now life))

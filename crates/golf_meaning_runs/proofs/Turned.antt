@@ -26,10 +26,10 @@ use Rattle.golf_model.specs.Actors.{Actor, with_frames, standing, stands, dies, 
 use Rattle.golf_model.specs.Calls.{ends, handed_back, returns_to, unwinds_to}
 use Rattle.golf_meaning_flat.specs.Worlds.{Halt}
 use Rattle.golf_meaning_runs.specs.VisibleOutcomes.{AreOthers, started_on}
-use Rattle.golf_meaning_runs.specs.Books.{RunTypes, AreArguments, Book, turned_call, passed, begun_in}
+use Rattle.golf_meaning_runs.specs.Books.{RunTypes, AreArguments, Book, turned_call, passed}
 use Rattle.golf_meaning_runs.specs.CallRecords.{Standing, Origin, Call, Beginning, fresh, as_seen, beginning, is_unwinding}
 use Rattle.golf_meaning_runs.specs.CallRecords.{leaving_so, noted_below, with_start, noting_start}
-use Rattle.golf_meaning_runs.specs.Books.{rebooked, calls_after, frames_in, frames_at, started_with, left_by, HasLife}
+use Rattle.golf_meaning_runs.specs.Books.{rebooked, calls_after, frames_in, frames_at, left_by, HasLife}
 use Rattle.golf_meaning_runs.specs.Books.{FramesStand, FramesMatch, CallHasLeft, begun_by, HasMasks}
 use Rattle.golf_meaning_runs.specs.Joins.{GoesNoMore, IsBegun}
 use Rattle.golf_meaning_runs.proofs.Framing.{fresh-top, fresh-joins, fresh-ties, returned-matches}

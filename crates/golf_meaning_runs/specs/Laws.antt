@@ -1,5 +1,5 @@
 -- The law of the runs of a program and of its source, as a statement.
-use Rattle.std.specs.Prelude.{◌≡◌, ℕ, ◌<◌, ◌≤◌, List, Some, slice_get}
+use Rattle.std.specs.Prelude.{◌≡◌, ℕ, List, Some, slice_get}
 use Rattle.golf_theory.specs.Membership.{Every}
 use Rattle.golf_syntax_trees.specs.declared.declarations.File.{File}
 use Rattle.golf_data.specs.declared.code.Function.{Function}
@@ -11,7 +11,7 @@ use Rattle.golf_code_never_stuck.specs.Reached.{IsProgram}
 use Rattle.golf_meaning_flat.specs.Worlds.{Operation, Halt, End, Told}
 use Rattle.golf_meaning_flat.specs.Laws.{BeginsWith}
 use Rattle.golf_meaning_statements.specs.Functions.{CodeMeaning}
-use Rattle.golf_meaning_statements.specs.Files.{function_count, giving_in, MeaningOf}
+use Rattle.golf_meaning_statements.specs.Files.{giving_in, MeaningOf}
 use Rattle.golf_meaning_runs.specs.Books.{RunTypes, book_of, left_of, IsBooked}
 use Rattle.golf_meaning_runs.specs.CallRecords.{Standing, Call}
 
@@ -24,11 +24,9 @@ SaysOf meaning shown (Standing.Asks q) = (n : ℕ)
     × (meaning n ≡ record { operations = shown; end = End.Halts Halt.Waits })
 SaysOf meaning shown (Standing.Ended h) = (n : ℕ) × (meaning n ≡ record { operations = shown; end = End.Halts h })
 
--- the source of a function or method of the file says this of the call
+-- the source of the call's function says this of the call
 abbrev pub SourceSays : File → Call → Type 0
-SourceSays file k =
-    0 < k.function → k.function ≤ function_count file.declarations
-    → SaysOf (MeaningOf file k.function k.arguments k.got) k.shown k.standing
+SourceSays file k = SaysOf (MeaningOf file k.function k.arguments k.got) k.shown k.standing
 
 -- the code of the call's function says this of the call
 abbrev pub CodeSays : File → Call → Type 0

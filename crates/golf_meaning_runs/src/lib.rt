@@ -20,8 +20,10 @@ ghost use Rattle.golf_meaning_runs.specs.TypingLaws.{NamesGive};
 ghost use Rattle.golf_meaning_runs.specs.TypingLaws.{OperatorsFit, StatementsAreSound};
 ghost use Rattle.golf_meaning_runs.specs.WholeFileLaws.{FilesSound};
 
-/// States that the code of each function and method agrees with its source, for all answers. The file is well formed
-/// and breaks no rule, and there are as many arguments as parameters.
+/// States that each function of the code agrees with its source, for all answers. The file is well formed and breaks no
+/// rule, and there are as many arguments as parameters.
+///
+/// These are function 0, the functions and methods, and those that are made for `go` and `defer`.
 pub fn programs_agree()
     ensures { ProgramsAgree }
 {}
@@ -142,16 +144,17 @@ pub fn functions_fit()
     ensures { (taking : Taking) → FunctionsAreSound taking }
 {}
 
-/// States this for each function and method of a well-formed file that breaks no rule and whose names fit.
+/// States this for each function of a well-formed file that breaks no rule and whose names fit.
 pub fn files_fit()
     ensures { FilesAreSound }
 {}
 
-/// States that the meaning of each function and method of a well-formed file that breaks no rule is sound.
+/// States that the meaning of each function of a well-formed file that breaks no rule is sound.
 ///
-/// The arguments must be of the types of receiver and parameters. For all answers and all bounds no rule is lacking. If
-/// kinds are looked at in answers, the meaning is unfit only if an answer does not fit its operation. If not, it is
-/// unfit only by the number of values of an answer, or by the kind of a value where it is used.
+/// The arguments must be of the types of receiver and parameters. For a function that is made their number is enough. For
+/// all answers and all bounds no rule is lacking. If kinds are looked at in answers, the meaning is unfit only if an
+/// answer does not fit its operation. If not, it is unfit only by the number of values of an answer, or by the kind of a
+/// value where it is used.
 pub fn meanings_sound()
     ensures { FilesSound }
 {}

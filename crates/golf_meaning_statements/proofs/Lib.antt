@@ -22,4 +22,5 @@ pub mod BodiesOfLoops
 pub mod BodiesOfCalls
 pub mod BodiesOfExpressions
 pub mod WholeFunctions
+pub mod MadeExamples
 pub mod Examples

@@ -25,7 +25,7 @@ use Rattle.golf_meaning_flat.specs.Worlds.{Answer, Misfit, Halt, End, Told}
 use Rattle.golf_meaning_statements.specs.Steps.{Step, in_order}
 use Rattle.golf_meaning_statements.specs.Statements.{step}
 use Rattle.golf_meaning_statements.specs.Functions.{named, begins, told_by, Meaning}
-use Rattle.golf_meaning_statements.specs.Files.{MeaningOf}
+use Rattle.golf_meaning_statements.specs.Files.{all_functions, MeaningOf}
 use Rattle.golf_meaning_statements.proofs.OnLiterals.{on_literals}
 use Rattle.golf_meaning_statements.proofs.Samples as s
 use Rattle.golf_meaning_statements.proofs.Samples.{strictly, Sample, StmtSample, trees, values, all-same, name, integer}
@@ -201,15 +201,19 @@ two = record {
       ∷ [];
 }
 
--- the functions have the numbers 1 and 2, and no others are there
+-- the functions have the numbers 1 and 2; function 0 calls `main`, and no others are there
 pub first_of_two : MeaningOf two 1 [] [] 0 ≡ ends [] (End.Halts (Halt.Returned None))
 first_of_two = refl
 
 pub second_of_two : MeaningOf two 2 [] [] 0 ≡ ends [] (End.Halts (Halt.Returned None))
 second_of_two = refl
 
+pub zeroth_of_two : MeaningOf two 0 [] (answer [] ∷ []) 0
+    ≡ ends (shown (Instr.Call 2 0) [] ∷ []) (End.Halts (Halt.Returned None))
+zeroth_of_two = refl
+
 pub third_of_two : MeaningOf two 3 [] [] 0 ≡ ends [] (End.Halts (Halt.Unfit Misfit.OfRule))
 third_of_two = refl
 
-pub none_of_two : MeaningOf two 0 [] [] 0 ≡ ends [] (End.Halts (Halt.Unfit Misfit.OfRule))
-none_of_two = refl
+pub functions_of_two : all_functions two ≡ 3
+functions_of_two = refl

@@ -21,7 +21,11 @@ pub fn functions_agree()
     ensures { FunctionsAgree }
 {}
 
-/// States that each function and method of a file has code of the same number that agrees with its source.
+/// States that the code of a file has exactly the functions of the file, and that each agrees with what the source says
+/// of its number.
+///
+/// These are function 0, the functions and methods, and those that are made for `go` and `defer`. There are as many
+/// arguments as parameters, and the source must not lack a rule.
 pub fn files_agree()
     ensures { FilesAgree }
 {}

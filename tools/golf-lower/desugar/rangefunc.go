@@ -38,7 +38,8 @@ type exits struct {
 	*desugarer
 	label   string
 	state   *types.Var
-	results []*types.Var
+	results []*types.Var // what keeps the results of a return: those of the function that have names, and new variables
+	own     []*types.Var // the new ones
 	returns bool
 	outer   []*ast.BranchStmt // branches to statements around the loop
 	labels  map[string]bool   // labels inside of the body
@@ -51,22 +52,33 @@ func (d *desugarer) loop(s *ast.RangeStmt, label *ast.Ident, yield *types.Signat
 	if label != nil {
 		x.label = label.Name
 	}
-	for i := 0; i < d.sig.Results().Len(); i++ {
-		x.results = append(x.results, d.variable("result", d.sig.Results().At(i).Type(), pos))
-	}
+	x.keep(pos)
 	x.look(s.Body)
 	x.list(s.Body.List, false, false)
 	call := &ast.CallExpr{Fun: s.X, Lparen: pos, Args: []ast.Expr{x.literal(s, yield)}, Rparen: s.Body.Rbrace}
 	d.info.Types[call] = types.TypeAndValue{Type: types.NewTuple()}
 	list := []ast.Stmt{d.declare(x.state, pos)}
 	if x.returns {
-		for _, r := range x.results {
+		for _, r := range x.own {
 			list = append(list, d.declare(r, pos))
 		}
 	}
 	list = append(list, &ast.ExprStmt{X: call})
 	list = append(list, x.behind(pos)...)
 	return &ast.BlockStmt{List: list, Rbrace: s.Body.Rbrace}
+}
+
+// keep finds the variables that keep the results of a return. The iterator, which goes on behind the return, sees those that have
+// names.
+func (x *exits) keep(pos token.Pos) {
+	for i := range x.sig.Results().Len() {
+		r := x.sig.Results().At(i)
+		if r.Name() == "" || r.Name() == "_" {
+			r = x.variable("result", r.Type(), pos)
+			x.own = append(x.own, r)
+		}
+		x.results = append(x.results, r)
+	}
 }
 
 // look notes the labels of the body, and refuses what cannot be in a literal.
@@ -253,10 +265,6 @@ func (x *exits) ret(s *ast.ReturnStmt) ast.Stmt {
 			a.Lhs = append(a.Lhs, x.use(v, pos))
 		}
 		first = append(first, a)
-	} else {
-		for i, v := range x.results {
-			first = append(first, x.assign(v, x.use(x.sig.Results().At(i), pos), pos))
-		}
 	}
 	return x.leave(returned, pos, first...)
 }

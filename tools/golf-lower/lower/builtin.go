@@ -58,7 +58,11 @@ func (f *fctx) builtin(b string, c *ast.CallExpr) string {
 				at := p.at(elem, "s", "i")
 				b.add(0, "func %s(s %s) {", name, l)
 				b.add(0, "for i := 0; i < %s; i++ {", p.sliceLen(elem, "s"))
-				b.add(0, "%s = %s", at, p.zero(elem))
+				if isRef(elem) {
+					b.add(0, "%s", p.set2(elem, at, p.zero(elem)))
+				} else {
+					b.add(0, "%s = %s", at, p.zero(elem))
+				}
 				b.add(0, "}")
 				b.add(0, "}")
 			})

@@ -59,6 +59,7 @@ func (f *fctx) callText(c *ast.CallExpr) string {
 			return x
 		}
 	}
+	f.secondOfCall(c, sig)
 	// a literal that is called at once
 	if lit, ok := ast.Unparen(c.Fun).(*ast.FuncLit); ok {
 		name, li := f.lift(lit)
@@ -85,11 +86,15 @@ func (f *fctx) callText(c *ast.CallExpr) string {
 		return fmt.Sprintf("%s_call(%s)", fi.name, join(xs[0], xs[1]))
 	}
 	var call func(string, []string) string
+	held := ""
 	xs := f.ordered(func() string {
-		r, _, g := f.boundMethod(sel, s)
-		call = g
+		r, l, g := f.boundMethod(sel, s)
+		call, held = g, l
 		return r
 	}, f.argsText(sig, c))
+	if held == anyText { // it is looked for its method behind the arguments
+		xs[0] = f.notNil(xs[0])
+	}
 	var args []string
 	if xs[1] != "" {
 		args = []string{xs[1]}
@@ -158,7 +163,10 @@ func (f *fctx) args(sig *types.Signature, c *ast.CallExpr) []string {
 	return xs
 }
 
-// boundMethod is the receiver of x.m, its type in the subset, and how to call m on it.
+// anyText is the type of the subset that holds interfaces.
+const anyText = "*golf_any"
+
+// boundMethod is the receiver of x.m, its type in the subset, and how to call m on it. An interface may be nil.
 func (f *fctx) boundMethod(e *ast.SelectorExpr, s *selection) (string, string, func(string, []string) string) {
 	p := f.p
 	path := s.index
@@ -173,7 +181,7 @@ func (f *fctx) boundMethod(e *ast.SelectorExpr, s *selection) (string, string, f
 		if native(deref(f.typeOf(e.X))) == "sync.Cond" {
 			p.refuse("L of a condition")
 		}
-		return f.notNil(x), "*golf_any", call(p.dispatcherOf(fn).name)
+		return x, anyText, call(p.dispatcherOf(fn).name)
 	}
 	base := deref(t)
 	if native(base) != "" {

@@ -145,6 +145,9 @@ func (f *fctx) methodValue(e *ast.SelectorExpr, s *selection, sig *types.Signatu
 	p := f.p
 	fi := p.fnStruct(sig)
 	recv, lt, call := f.boundMethod(e, s)
+	if lt == anyText {
+		recv = f.notNil(recv)
+	}
 	// a method with a value receiver has a copy of its own at each call
 	own := func(x string) string { return x }
 	if t := s.obj.(*types.Func).Signature().Recv().Type(); !isIface(t) && isRef(t) {

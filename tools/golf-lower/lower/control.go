@@ -251,6 +251,7 @@ func (f *fctx) switchStmt(s *ast.SwitchStmt, label string) {
 		for _, e := range clauses[i].List {
 			cond = f.orElse(cond, func() string {
 				f.early(e)
+				f.second(e)
 				return f.caseCond(s, e, tag, tt)
 			})
 		}
@@ -406,8 +407,7 @@ func (f *fctx) clauses(s *ast.SelectStmt, waits bool) []*clause {
 func (f *fctx) operands(comm ast.Stmt) []func() string {
 	channel := func(e ast.Expr) func() string {
 		return func() string {
-			f.early(e)
-			return f.expr(e)
+			return f.alone(e)
 		}
 	}
 	if m, ok := comm.(*ast.SendStmt); ok {
@@ -478,8 +478,7 @@ func (f *fctx) forStmt(s *ast.ForStmt, label string) {
 	if s.Cond != nil {
 		f.at(s.Cond.Pos())
 		cb = f.capture(func() {
-			f.early(s.Cond)
-			cond = f.expr(s.Cond)
+			cond = f.alone(s.Cond)
 		})
 	}
 	pb := &buffer{}
@@ -533,8 +532,7 @@ func (f *fctx) onlyCase(s *ast.SelectStmt, label string) bool {
 	if m, ok := c.Comm.(*ast.AssignStmt); ok && m.Tok == token.ASSIGN {
 		f.at(c.Comm.Pos())
 		ch := receivesFrom(m)
-		f.early(ch)
-		x := f.settle(f.expr(ch))
+		x := f.settle(f.alone(ch))
 		v, ok := f.fresh("t"), f.fresh("ok")
 		names := v
 		if len(m.Lhs) == 2 {

@@ -2,6 +2,7 @@ package lower
 
 import (
 	"go/ast"
+	"go/token"
 	"go/types"
 
 	"golflower/analyse"
@@ -34,11 +35,13 @@ func (f *fctx) convertedFirst(e ast.Expr) bool {
 // keyFirst: a map is asked with a copy of the key that is made in its turn.
 func (f *fctx) keyFirst(e *ast.IndexExpr) bool {
 	m, ok := under(f.typeOf(e.X)).(*types.Map)
-	if !ok {
-		return false
-	}
-	converted := isIface(m.Key()) && !isIface(f.typeOf(e.Index))
-	return keyInMemory(m.Key()) || keyByAddress(m) && (converted || !f.hasAddress(e.Index))
+	return ok && f.keyCopied(m, e.Index)
+}
+
+// keyCopied is keyFirst for a key.
+func (f *fctx) keyCopied(m *types.Map, key ast.Expr) bool {
+	converted := isIface(m.Key()) && !isIface(f.typeOf(key))
+	return keyInMemory(m.Key()) || keyByAddress(m) && (converted || !f.hasAddress(key))
 }
 
 // byNewString: a map is read by a string that is made of bytes. Go's compiler reads it at once, and makes no string.
@@ -52,6 +55,32 @@ func (f *fctx) byNewString(e *ast.IndexExpr) bool {
 	}
 	from, ok := under(f.typeOf(c.Args[0])).(*types.Slice)
 	return ok && sizes.Sizeof(from.Elem()) == 1 && isText(f.typeOf(c))
+}
+
+// copiesText: the call is a conversion of a string to bytes or runes. Go's compiler makes the copy in its turn.
+func (f *fctx) copiesText(c *ast.CallExpr) bool {
+	if !f.p.Info.Types[c.Fun].IsType() || !isText(f.typeOf(c.Args[0])) {
+		return false
+	}
+	_, isSlice := under(f.typeOf(c)).(*types.Slice)
+	return isSlice
+}
+
+// comparedFirst: an operand of a comparison of structs or arrays has no address, and is copied in its turn.
+func (f *fctx) comparedFirst(e *ast.BinaryExpr, x ast.Expr) bool {
+	if e.Op != token.EQL && e.Op != token.NEQ {
+		return false
+	}
+	switch under(f.typeOf(x)).(type) {
+	case *types.Struct, *types.Array:
+		return !f.hasAddress(x)
+	}
+	return false
+}
+
+// copiedToSend: a value that is sent has no address, or is converted. Go's compiler copies it before it reads the channel.
+func (f *fctx) copiedToSend(e ast.Expr, t types.Type) bool {
+	return !f.hasAddress(e) || isIface(t) && !isIface(f.typeOf(e))
 }
 
 // isText: the type is one of strings.

@@ -207,6 +207,7 @@ func (p *prog) passes(file *tree.File, holds bool) {
 		file.DropQuestions()
 	}
 	file.Chains(p.fresh)
+	file.DropUncalled()
 }
 
 // things finds on what the lines can wait.

@@ -22,7 +22,7 @@ func (p *prog) constant(v constant.Value, t types.Type) string {
 		if p.texts && !isLit(t) {
 			return p.textConst(constant.StringVal(v))
 		}
-		if isLit(t) {
+		if isLit(t) && !p.printsAlone {
 			p.noteLiteral(constant.StringVal(v))
 		}
 		return p.quote(constant.StringVal(v))
@@ -74,6 +74,7 @@ func (f *fctx) rval(e ast.Expr, t types.Type) string {
 	if b, ok := et.(*types.Basic); ok && b.Kind() == types.UntypedNil {
 		return "nil"
 	}
+	f.second(e)
 	x := f.expr(e)
 	if isRef(et) && !f.isFresh(e) {
 		x = f.p.copyOf(et, x)
@@ -128,7 +129,11 @@ func (f *fctx) expr(e ast.Expr) string {
 		if tup, ok := t.(*types.Tuple); ok {
 			t = tup.At(0).Type()
 		}
-		return f.assert(x, f.typeOf(e.X), t)
+		x = f.assert(x, f.typeOf(e.X), t)
+		if f.reads(e.X) {
+			return f.temp(x) // a later call may change the variable
+		}
+		return x
 	case *ast.CallExpr:
 		return f.call(e)
 	case *ast.StarExpr:
@@ -385,13 +390,9 @@ func isNil(p *prog, e ast.Expr) bool { return p.Info.Types[e].IsNil() }
 func (f *fctx) binary(e *ast.BinaryExpr) string {
 	switch e.Op {
 	case token.LAND, token.LOR:
-		f.early(e.X)
-		x := f.expr(e.X)
+		x := f.alone(e.X)
 		var y string
-		b := f.capture(func() {
-			f.early(e.Y)
-			y = f.expr(e.Y)
-		})
+		b := f.capture(func() { y = f.alone(e.Y) })
 		if len(b.lines) == 0 {
 			return fmt.Sprintf("(%s %s %s)", x, e.Op, y)
 		}
@@ -461,6 +462,9 @@ func (f *fctx) compare(e *ast.BinaryExpr) string {
 		}
 		return fmt.Sprintf("(%s %s nil)", f.expr(x), e.Op)
 	}
+	if x := f.comparedWithEmpty(e); x != nil {
+		return fmt.Sprintf("(%s %s 0)", p.golf("Len", f.expr(x)), e.Op)
+	}
 	tx, ty := f.typeOf(e.X), f.typeOf(e.Y)
 	t := tx
 	if isIface(ty) && !isIface(tx) {
@@ -488,6 +492,20 @@ func (f *fctx) compare(e *ast.BinaryExpr) string {
 		return p.lessOf(t, e.Op, xy[0], xy[1])
 	}
 	return fmt.Sprintf("(%s %s %s)", xy[0], e.Op, xy[1])
+}
+
+// comparedWithEmpty is the operand that == or != compares with the empty string, nil if there is none: its length tells enough.
+func (f *fctx) comparedWithEmpty(e *ast.BinaryExpr) ast.Expr {
+	if e.Op != token.EQL && e.Op != token.NEQ {
+		return nil
+	}
+	for _, xy := range [][2]ast.Expr{{e.X, e.Y}, {e.Y, e.X}} {
+		v := f.p.Info.Types[xy[1]].Value
+		if v != nil && v.Kind() == constant.String && constant.StringVal(v) == "" && f.p.isText(f.typeOf(xy[0])) {
+			return xy[0]
+		}
+	}
+	return nil
 }
 
 // lessOf compares values whose order is not that of the integers that hold them.
@@ -566,36 +584,91 @@ func (f *fctx) composite(e *ast.CompositeLit) string {
 		xs := f.elements(e, u.Elem(), int(u.Len()))
 		return p.arrayOf(u.Elem(), xs)
 	case *types.Map:
-		x := p.mapFunc(u, "new") + "()"
-		if f.hasCall(e) {
-			return f.mapInTurn(e, u, f.temp(x))
-		}
-		var gs []func() string
-		for _, el := range e.Elts {
-			kv := el.(*ast.KeyValueExpr)
-			gs = append(gs, func() string { return f.rval(kv.Key, u.Key()) }, func() string { return f.rval(kv.Value, u.Elem()) })
-		}
-		xs := f.ordered(gs...)
-		for i := 0; i < len(xs); i += 2 {
-			xs[i] = f.hashable(u, xs[i], "")
-			x = fmt.Sprintf("%s(%s, %s, %s)", p.mapFunc(u, "with"), x, xs[i], xs[i+1])
-		}
-		return x
+		return f.mapLiteral(e, u)
 	}
 	p.refuse("composite literal of type %s", t)
 	return ""
 }
 
-// mapInTurn stores the elements of a literal one by one.
-func (f *fctx) mapInTurn(e *ast.CompositeLit, u *types.Map, m string) string {
+// mapLiteral is a map with the entries of a literal. As by Go's compiler, those that are constants are stored first, so that
+// another one with the same key replaces them.
+func (f *fctx) mapLiteral(e *ast.CompositeLit, u *types.Map) string {
+	x := f.p.mapFunc(u, "new") + "()"
+	var known, others []*ast.KeyValueExpr
+	inTurn := holdsIface(u.Key())
 	for _, el := range e.Elts {
 		kv := el.(*ast.KeyValueExpr)
-		f.early(kv.Key, kv.Value)
-		kx := f.ordered(func() string { return f.rval(kv.Key, u.Key()) }, func() string { return f.rval(kv.Value, u.Elem()) })
-		key := f.hashable(u, kx[0], "")
-		f.emit("%s(%s, %s, %s)", f.p.mapFunc(u, "put"), m, key, kx[1])
+		if f.isStatic(kv.Key) && f.isStatic(kv.Value) {
+			known = append(known, kv)
+			continue
+		}
+		others = append(others, kv)
+		inTurn = inTurn || f.hasCall(kv) || f.panics(kv.Key) || f.panics(kv.Value)
 	}
-	return m
+	if !inTurn {
+		known, others = append(known, others...), nil
+	}
+	var gs []func() string
+	for _, kv := range known {
+		gs = append(gs, func() string { return f.rval(kv.Key, u.Key()) }, func() string { return f.rval(kv.Value, u.Elem()) })
+	}
+	xs := f.ordered(gs...)
+	for i := 0; i < len(xs); i += 2 {
+		x = fmt.Sprintf("%s(%s, %s, %s)", f.p.mapFunc(u, "with"), x, xs[i], xs[i+1])
+	}
+	if len(others) == 0 {
+		return x
+	}
+	x = f.temp(x)
+	for _, kv := range others {
+		f.storeEntry(x, u, kv)
+	}
+	return x
+}
+
+// storeEntry stores an entry of a literal: a value that may panic comes before a key that may.
+func (f *fctx) storeEntry(x string, u *types.Map, kv *ast.KeyValueExpr) {
+	f.early(kv.Key, kv.Value)
+	key := func() string { return f.rval(kv.Key, u.Key()) }
+	value := func() string { return f.rval(kv.Value, u.Elem()) }
+	var k, v string
+	if f.panics(kv.Key) && f.panics(kv.Value) {
+		if f.keyCopied(u, kv.Key) {
+			f.keep(kv.Key)
+		}
+		v = f.keptValue(value())
+		k = key()
+	} else {
+		kv := f.ordered(key, value)
+		k, v = kv[0], kv[1]
+	}
+	if holdsIface(u.Key()) {
+		v = f.keptValue(v)
+	}
+	k = f.hashable(u, k, "")
+	f.emit("%s(%s, %s, %s)", f.p.mapFunc(u, "put"), x, k, v)
+}
+
+// isStatic: Go's compiler knows the value: a constant, nil, or an array or a struct of such values. What becomes a value of an
+// interface is none.
+func (f *fctx) isStatic(e ast.Expr) bool {
+	tv := f.p.Info.Types[e]
+	if to, ok := f.p.targets[e]; ok && !tv.IsNil() && isIface(f.p.subst(to)) {
+		return false
+	}
+	lit, ok := ast.Unparen(e).(*ast.CompositeLit)
+	if !ok || !isRef(f.typeOf(e)) {
+		return tv.Value != nil || tv.IsNil()
+	}
+	for _, el := range lit.Elts {
+		if kv, ok := el.(*ast.KeyValueExpr); ok {
+			el = kv.Value
+		}
+		if !f.isStatic(el) {
+			return false
+		}
+	}
+	return true
 }
 
 // elements are the elements of a literal, with zero values in the gaps.
@@ -662,11 +735,20 @@ func (f *fctx) index(e *ast.IndexExpr) string {
 		xi := f.ordered(func() string { return f.expr(e.X) }, func() string { return f.expr(e.Index) })
 		return f.element(u.Elem(), xi[0], xi[1])
 	case *types.Array:
-		xi := f.ordered(func() string { return f.expr(e.X) }, func() string { return f.expr(e.Index) })
+		xi := f.ordered(func() string { return f.indexed(e) }, func() string { return f.expr(e.Index) })
 		return f.arrayElement(e, u, xi[0], xi[1])
 	}
 	p.refuse("index of type %s", xt)
 	return ""
+}
+
+// indexed is the operand of an index. A pointer to an array is looked at before an index that may panic.
+func (f *fctx) indexed(e *ast.IndexExpr) string {
+	x := f.expr(e.X)
+	if isPtr(f.typeOf(e.X)) && f.panics(e.Index) {
+		return f.nilChecked(x)
+	}
+	return x
 }
 
 // arrayElement is a[i] of an array, or of what a pointer to one points to.
@@ -739,8 +821,10 @@ func (f *fctx) assertOK(x string, t types.Type) (string, string) {
 }
 
 // count is the right operand; an unsigned count of a shift that is above 2^63-1 shifts all away.
-func (f *fctx) count(op token.Token, e ast.Expr) string {
-	x := f.expr(e)
+func (f *fctx) count(op token.Token, e ast.Expr) string { return f.counted(op, e, f.expr(e)) }
+
+// counted is count for an operand that has been evaluated.
+func (f *fctx) counted(op token.Token, e ast.Expr, x string) string {
 	if (op == token.SHL || op == token.SHR) && f.p.Info.Types[e].Value == nil && isWide(f.typeOf(e)) {
 		return f.p.golf("Count", x)
 	}

@@ -274,7 +274,14 @@ func (f *fctx) formatPieces(c *ast.CallExpr, first int) []piece {
 
 // printed is an operand that is printed.
 func (f *fctx) printed(a ast.Expr, v *verb) string {
-	if isNil(f.p, a) || v.char == 'T' && !isIface(f.typeOf(a)) {
+	if isNil(f.p, a) {
+		return "nil"
+	}
+	f.second(a)
+	if v.char == 'T' && !isIface(f.typeOf(a)) { // its type is known: it is evaluated for what it does
+		if f.mayPanic(a) {
+			f.discard(f.expr(a))
+		}
 		return "nil"
 	}
 	if v.char == 'w' {

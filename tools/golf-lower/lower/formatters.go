@@ -2,6 +2,7 @@ package lower
 
 import (
 	"fmt"
+	"go/ast"
 	"go/token"
 	"go/types"
 	"strings"
@@ -40,7 +41,7 @@ func (p *prog) format(x string, t types.Type, v *verb, depth int, methods bool) 
 		return fmt.Sprintf("%s(%s)", p.formatterAt(v, depth, methods).name, x)
 	}
 	if name := hasTextMethod(t); name != "" && methods && plain {
-		text := p.formatString(p.textMethod(x, t, name), v)
+		text := p.formatString(p.askedText(x, t, name, v), v)
 		if text == "" {
 			p.refuse("%%%c with these flags of a value of type %s", v.char, t)
 		}
@@ -75,10 +76,127 @@ func (p *prog) format(x string, t types.Type, v *verb, depth int, methods bool) 
 	return ""
 }
 
-// textMethod calls Error or String; of a nil pointer fmt writes <nil> if the method would fail, which is not told here.
+// textMethod calls Error or String.
 func (p *prog) textMethod(x string, t types.Type, name string) string {
+	return p.callOn(x, t, textMethodOf(t, name), nil)
+}
+
+func textMethodOf(t types.Type, name string) *method {
 	sel := types.NewMethodSet(t).Lookup(nil, name)
-	return p.callOn(x, t, &method{fn: sel.Obj().(*types.Func), index: sel.Index()}, nil)
+	return &method{fn: sel.Obj().(*types.Func), index: sel.Index()}
+}
+
+// askedText is what a method gives to fmt. Of a nil pointer whose method panics fmt writes <nil>; another panic of a method is
+// told in the text.
+func (p *prog) askedText(x string, t types.Type, name string, v *verb) string {
+	if !p.unwind && !isPtr(t) && len(textMethodOf(t, name).index) == 1 {
+		return p.textMethod(x, t, name)
+	}
+	fn := p.aux("ask", name+p.verbKey(v)+typeKey(t), func(fn string, b *buffer) {
+		call := p.textMethod("x", t, name)
+		b.add(0, "func %s(x %s) *%s {", fn, p.lt(t), p.structName(p.textType()))
+		if isPtr(t) {
+			p.askNil(b, t, name, v)
+		}
+		p.askEmbedded(b, t, name, v)
+		b.add(0, "s := %s", call)
+		if p.unwind {
+			p.askRaised(b, t, name, v)
+		}
+		b.add(0, "return s")
+		b.add(0, "}")
+	})
+	return fmt.Sprintf("%s(%s)", fn, x)
+}
+
+// askNil writes what fmt does with a nil pointer, unless its method is called. If the method may panic or not, and nobody can see
+// which, the program ends.
+func (p *prog) askNil(b *buffer, t types.Type, name string, v *verb) {
+	m := textMethodOf(t, name)
+	switch {
+	case !isPtr(m.fn.Signature().Recv().Type()) || len(m.index) > 1:
+		b.add(0, "if x == nil {")
+		p.askFailed(b, name, v, p.textConst("<nil>"))
+		b.add(0, "}")
+	case !p.unwind && !p.takesNil(m.fn):
+		b.add(0, "if x == nil {")
+		b.add(0, "panic(%s)", quoted("lowering: the method "+name+" of a nil pointer in fmt is not supported"))
+		b.add(0, "}")
+	}
+}
+
+// askEmbedded writes what fmt does if the method is that of an embedded pointer that is nil.
+func (p *prog) askEmbedded(b *buffer, t types.Type, name string, v *verb) {
+	m := textMethodOf(t, name)
+	x := "x"
+	for k, i := range m.index {
+		last := k == len(m.index)-1
+		if x != "x" && isPtr(t) && (!last || !isPtr(m.fn.Signature().Recv().Type())) {
+			b.add(0, "if %s == nil {", x)
+			p.askFailed(b, name, v, p.textConst(panicHead(name, v)+nilText+")"))
+			b.add(0, "}")
+		}
+		if !last {
+			x, t = p.walkPath(x, t, []int{i})
+		}
+	}
+}
+
+// panicHead is how the text of a panic of a method begins.
+func panicHead(name string, v *verb) string {
+	return "%!" + string(v.char) + "(PANIC=" + name + " method: "
+}
+
+// askFailed gives what fmt writes in place of what a method gives. Flags and other verbs do not change that.
+func (p *prog) askFailed(b *buffer, name string, v *verb, text string) {
+	if v.flagged() || v.char != 'v' && v.char != 's' {
+		b.add(0, "panic(%s)", quoted("lowering: a panic of the method "+name+" in fmt beside a flag is not supported"))
+		return
+	}
+	b.add(0, "return %s", text)
+}
+
+// takesNil: a method does not read its receiver, or compares it with nil.
+func (p *prog) takesNil(fn *types.Func) bool {
+	fd := p.bodies[fn.Origin()]
+	if fd == nil || fd.Body == nil {
+		return true
+	}
+	isRecv := func(e ast.Expr) bool {
+		id, ok := ast.Unparen(e).(*ast.Ident)
+		return ok && len(fd.Recv.List[0].Names) == 1 && p.Info.Uses[id] == p.Info.Defs[fd.Recv.List[0].Names[0]]
+	}
+	reads, compares := false, false
+	ast.Inspect(fd.Body, func(n ast.Node) bool {
+		switch n := n.(type) {
+		case *ast.Ident:
+			reads = reads || isRecv(n)
+		case *ast.BinaryExpr:
+			compares = compares || isRecv(n.X) && isNil(p, n.Y) || isRecv(n.Y) && isNil(p, n.X)
+		}
+		return true
+	})
+	return compares || !reads
+}
+
+// askRaised writes what fmt does with a panic of a method.
+func (p *prog) askRaised(b *buffer, t types.Type, name string, v *verb) {
+	b.add(0, "if golf_raised() {")
+	b.add(0, "if golf_g.p.exit {")
+	b.add(0, "return nil")
+	b.add(0, "}")
+	p.usesAny = true
+	b.add(0, "value := golf_g.p.value")
+	b.add(0, "golf_g.p = nil")
+	if isPtr(t) {
+		b.add(0, "if x == nil {")
+		p.askFailed(b, name, v, p.textConst("<nil>"))
+		b.add(0, "}")
+	}
+	head := p.textConst(panicHead(name, v))
+	value := p.formatterOf(plain('v')).name + "(value)"
+	p.askFailed(b, name, v, p.golf("Join", p.golf("Join", head, value), p.textConst(")")))
+	b.add(0, "}")
 }
 
 // formatString is the text of a string.

@@ -40,7 +40,21 @@ func Lower(program *load.Program, opt Options) (*Output, error) {
 
 // Loaded lowers a program that is loaded. A loaded program can be lowered several times.
 func Loaded(l *load.Loader, opt Options) (*Output, error) {
+	var n Needs
+	return n.Loaded(l, opt)
+}
+
+// Needs are what the lowerings of a program so far have found that it needs. The next one begins with them, so that it finds
+// nothing on its way and is not begun again. It must lower the same tests.
+type Needs struct{ found *needs }
+
+// Loaded is the function Loaded for a program whose needs may be known.
+func (n *Needs) Loaded(l *load.Loader, opt Options) (*Output, error) {
 	needs := needs{texts: opt.Tests, grow: map[string]bool{}}
+	if n.found != nil {
+		needs = *n.found
+		needs.clock = needs.clock && !opt.Loose
+	}
 	for {
 		p := newProg(l, opt, needs)
 		out, err := p.lower()
@@ -50,9 +64,18 @@ func Loaded(l *load.Loader, opt Options) (*Output, error) {
 		case err != nil && !p.texts:
 			needs.texts = true // what is refused may be an operation on strings that are made at run time
 		default:
+			n.add(needs)
 			return out, err
 		}
 	}
+}
+
+// add adds what a lowering has found.
+func (n *Needs) add(more needs) {
+	if n.found != nil {
+		more.clock = more.clock || n.found.clock
+	}
+	n.found = &more
 }
 
 // needs is what a program needs that changes how all of it is lowered.
@@ -216,6 +239,7 @@ type prog struct {
 	timers      timers
 	targets     map[ast.Expr]types.Type // the interfaces that get values (copies.go)
 	rawNative   bool                    // a method of sync is called as it is (clock.go)
+	printsAlone bool                    // constants are only printed (text.go)
 
 	open    []string          // types that are being held (types.go)
 	ownName map[string]string // the structs of those that contain themselves

@@ -60,30 +60,52 @@ func (f *fctx) earlyOperands(e ast.Expr) {
 			}
 		}
 		f.early(list...)
+	case *ast.CallExpr:
+		if f.p.Info.Types[e.Fun].IsType() {
+			f.early(e.Args[0])
+		}
 	}
 }
 
-// orderer finds whether the order matters: whether a call comes behind something that it may change, or that may fail.
+// orderer finds whether the order matters: whether a call comes behind something that it may change, or that may panic, or
+// whether something else that comes first and may panic does.
 type orderer struct {
 	f       *fctx
 	open    bool // something of this kind has been seen, and is read behind the calls
+	fails   bool // it may panic
 	matters bool
 }
 
 // inTurn: the node is evaluated in its turn, so that what it reads is not open behind it.
 func (o *orderer) inTurn(acts bool, visit func()) {
-	before := o.open
-	if acts && before {
+	open, fails := o.open, o.fails
+	if acts && open {
 		o.matters = true
 	}
 	visit()
-	o.open = before
+	o.open, o.fails = open, fails
+}
+
+// behind notes that an expression is evaluated behind the calls.
+func (o *orderer) behind(e ast.Expr) {
+	o.open = true
+	o.fails = o.fails || o.f.panicsItself(e)
+}
+
+// first notes that an expression comes first.
+func (o *orderer) first(e ast.Expr) {
+	if o.fails && o.f.mayPanic(e) {
+		o.matters = true
+	}
 }
 
 func (o *orderer) visit(e ast.Expr) {
 	p := o.f.p
 	if tv := p.Info.Types[e]; e == nil || tv.Value != nil || tv.IsType() {
 		return
+	}
+	if o.f.comesFirst(e) || o.f.convertedFirst(e) {
+		o.first(e)
 	}
 	if o.f.convertedFirst(e) {
 		o.inTurn(false, func() { o.parts(e) })
@@ -106,7 +128,9 @@ func (o *orderer) parts(e ast.Expr) {
 			return
 		}
 		o.visit(e.X)
-		o.open = o.open || p.Info.Selections[e].Kind() == types.FieldVal || o.copiesReceiver(e)
+		if p.Info.Selections[e].Kind() == types.FieldVal || o.copiesReceiver(e) {
+			o.behind(e)
+		}
 	case *ast.IndexExpr:
 		if p.isInstance(e) {
 			return
@@ -117,12 +141,12 @@ func (o *orderer) parts(e ast.Expr) {
 		}
 		o.visit(e.X)
 		o.index(e)
-		o.open = true
+		o.behind(e)
 	case *ast.SliceExpr:
 		o.inTurn(false, func() { o.visits(e.X, e.Low, e.High, e.Max) })
 	case *ast.StarExpr:
 		o.visit(e.X)
-		o.open = true
+		o.behind(e)
 	case *ast.UnaryExpr:
 		o.unary(e)
 	case *ast.BinaryExpr:
@@ -130,7 +154,7 @@ func (o *orderer) parts(e ast.Expr) {
 	case *ast.TypeAssertExpr:
 		if p.oneWord(o.f.typeOf(e)) {
 			o.visit(e.X)
-			o.open = true
+			o.behind(e)
 			return
 		}
 		o.inTurn(false, func() { o.visit(e.X) })
@@ -144,6 +168,7 @@ func (o *orderer) parts(e ast.Expr) {
 // index visits an index, or the key of a map.
 func (o *orderer) index(e *ast.IndexExpr) {
 	if o.f.keyFirst(e) {
+		o.first(e.Index)
 		o.inTurn(false, func() { o.visit(e.Index) })
 	} else {
 		o.visit(e.Index)
@@ -175,8 +200,11 @@ func (o *orderer) unary(e *ast.UnaryExpr) {
 	case token.AND:
 		if _, ok := ast.Unparen(e.X).(*ast.CompositeLit); ok {
 			o.visit(e.X)
-		} else {
-			o.place(e.X)
+			return
+		}
+		o.place(e.X)
+		if o.f.panics(e.X) {
+			o.open, o.fails = true, true
 		}
 	default:
 		o.visit(e.X)
@@ -188,9 +216,16 @@ func (o *orderer) binary(e *ast.BinaryExpr) {
 	case token.LAND, token.LOR:
 		o.inTurn(o.f.hasCall(e), func() { o.visit(e.X) })
 	default:
-		o.visits(e.X, e.Y)
-		if (e.Op == token.QUO || e.Op == token.REM) && o.f.p.Info.Types[e.Y].Value == nil {
-			o.open = true
+		for _, x := range []ast.Expr{e.X, e.Y} {
+			if o.f.comparedFirst(e, x) {
+				o.first(x)
+				o.inTurn(false, func() { o.visit(x) })
+			} else {
+				o.visit(x)
+			}
+		}
+		if o.f.panicsBinary(e) {
+			o.behind(e)
 		}
 	}
 }
@@ -215,6 +250,8 @@ func (o *orderer) literal(e *ast.CompositeLit) {
 func (o *orderer) call(e *ast.CallExpr) {
 	p := o.f.p
 	switch b := p.isBuiltin(e); {
+	case o.f.copiesText(e):
+		o.inTurn(false, func() { o.visit(e.Args[0]) })
 	case p.Info.Types[e.Fun].IsType():
 		o.visit(e.Args[0])
 	case b != "":
@@ -304,6 +341,14 @@ func (f *fctx) hoistValue(e ast.Expr) {
 	if _, done := f.hoisted[e]; done || !f.hasCall(e) && !f.reads(e) && !mayFail(e) {
 		return
 	}
+	f.keep(e)
+}
+
+// keep evaluates an expression now, and keeps its value for its place.
+func (f *fctx) keep(e ast.Expr) {
+	if _, done := f.hoisted[e]; done || f.p.Info.Types[e].Value != nil {
+		return
+	}
 	x := f.rval(e, f.typeOf(e))
 	if !isLiteral(x) {
 		x = f.temp(x)
@@ -346,8 +391,12 @@ func (f *fctx) hoistParts(e ast.Expr) {
 			f.hoist(e.X)
 		}
 	case *ast.BinaryExpr:
-		f.hoist(e.X)
-		f.hoist(e.Y)
+		for _, x := range []ast.Expr{e.X, e.Y} {
+			f.hoist(x)
+			if f.comparedFirst(e, x) {
+				f.hoistValue(x)
+			}
+		}
 	case *ast.TypeAssertExpr:
 		f.hoist(e.X)
 	case *ast.CompositeLit:
@@ -411,7 +460,7 @@ func (f *fctx) comesFirst(e ast.Expr) bool {
 		if tup, ok := f.typeOf(e).(*types.Tuple); ok && tup.Len() != 1 {
 			return false
 		}
-		return !p.Info.Types[e.Fun].IsType()
+		return !p.Info.Types[e.Fun].IsType() || f.copiesText(e)
 	}
 	return false
 }

@@ -377,10 +377,17 @@ func (p *prog) drain() {
 	}
 }
 
+// isLetters: the variable has the characters that are printed, whose bytes nobody asks for.
+func isLetters(v *types.Var) bool {
+	return v.Pkg() != nil && v.Pkg().Path() == "golf" && v.Name() == "letters"
+}
+
 // initPiece lowers one initialiser of globals.
 func (p *prog) initPiece(in *types.Initializer) *buffer {
 	f := p.newFctx("init")
 	f.at(in.Rhs.Pos())
+	p.printsAlone = isLetters(in.Lhs[0])
+	defer func() { p.printsAlone = false }()
 	p.findTargets(in.Rhs, nil)
 	if len(in.Lhs) == 1 && isIface(in.Lhs[0].Type()) {
 		p.targets[in.Rhs] = in.Lhs[0].Type()

@@ -115,6 +115,9 @@ func (f *fctx) lowerStmt(s ast.Stmt) {
 	case *ast.SendStmt:
 		t := f.elemOf(s.Chan)
 		f.early(s.Chan, s.Value)
+		if f.panics(s.Chan) && f.panics(s.Value) && f.copiedToSend(s.Value, t) {
+			f.keep(s.Value)
+		}
 		xs := f.ordered(func() string { return f.expr(s.Chan) }, func() string { return f.rval(s.Value, t) })
 		c, x := f.settle(xs[0]), f.settle(xs[1])
 		f.waiting(func() { f.emit("%s <- %s", c, x) })
@@ -390,7 +393,7 @@ func (f *fctx) assignStmt(s *ast.AssignStmt) {
 		f.declare(v, f.rval(s.Rhs[0], f.p.vtype(v)))
 		return
 	}
-	f.assignOne(l, func() string { return f.rval(s.Rhs[0], lt) })
+	f.assignOne(l, s.Rhs[0], lt)
 }
 
 // assignOps are the operators of assignments with one.
@@ -404,105 +407,118 @@ var assignOps = map[token.Token]token.Token{
 // is left of the operands on the left.
 func (f *fctx) assignParts(s *ast.AssignStmt) {
 	for _, l := range s.Lhs {
-		if f.hasCall(l) {
-			f.hoistOperands(l)
-		}
+		f.hoistOperands(l)
 	}
 	f.earlyOperands(s.Rhs[0])
 	parts, ts := f.multi(s.Rhs[0], len(s.Lhs))
 	f.at(s.Pos())
-	stores := make([]func(string), len(s.Lhs))
+	places := make([]*storing, len(s.Lhs))
+	before := f.newStores()
 	for i, l := range s.Lhs {
-		if !isBlank(l) && f.newVar(s, l) == nil {
-			f.hard = true
-			stores[i] = f.place(l)
-			f.hard = false
-		}
+		places[i] = f.foundFirst(s, i, before)
+		before.add(l)
 	}
 	for i, l := range s.Lhs {
-		if stores[i] != nil {
-			stores[i](f.convert(parts[i], ts[i], f.typeOf(l)))
-		} else {
-			f.storePart(s, l, parts[i], ts[i])
+		if !isBlank(l) {
+			f.storeLate(s, i, places[i], f.convert(parts[i], ts[i], f.storedType(s, i)))
 		}
 	}
 }
 
-// assignAll is a, b = x, y: first what an earlier store may change, of the operands on the left and then of the values. Then
-// each store comes with what is left of its operands and its value.
+// assignAll is a, b = x, y: first what an earlier store may change, of the operands on the left and of the values. Then each
+// store comes with what is left of its value and its operands.
 func (f *fctx) assignAll(s *ast.AssignStmt) {
 	n := len(s.Lhs)
 	places, vals := make([]*storing, n), make([]string, n)
-	before := &stores{f: f, names: map[types.Object]bool{}}
-	if !f.mayBeLate(s.Lhs, s.Rhs) {
+	before := f.newStores()
+	late := f.mayBeLate(s.Lhs, s.Rhs)
+	if !late {
 		for i := range s.Lhs {
 			places[i] = f.storing(s, i)
 		}
 	}
-	for i, l := range s.Lhs {
-		if places[i] == nil && (before.change(l) || !f.panicsBefore(l)) {
-			places[i] = f.storing(s, i)
+	for i, r := range s.Rhs {
+		if late {
+			places[i] = f.foundFirst(s, i, before)
 		}
-		if before.change(s.Rhs[i]) || !f.panics(s.Rhs[i]) {
+		if before.change(r) || !f.panics(r) {
 			vals[i] = f.assigned(s, i)
 		}
-		before.add(l)
+		before.add(s.Lhs[i])
 	}
 	for i := range s.Lhs {
 		f.storeLate(s, i, places[i], vals[i])
 	}
 }
 
-// storing is the place of a store. make is nil unless it is an entry of a map.
+// storing is the place of a store, as an entry of a map or as another one.
 type storing struct {
-	make  func()
+	entry *mapEntry
 	store func(string)
 }
 
-// storing evaluates the operands of a left side of a, b = x, y.
-func (f *fctx) storing(s *ast.AssignStmt, i int) *storing {
-	if v := f.newVar(s, s.Lhs[i]); v != nil {
-		return &storing{store: func(x string) { f.declare(v, x) }}
+// foundFirst evaluates the operands of a left side that an earlier store may change. It gives the place if no other operand may
+// panic.
+func (f *fctx) foundFirst(s *ast.AssignStmt, i int, before *stores) *storing {
+	if l := s.Lhs[i]; f.panicsBefore(l) && !f.promotes(l) {
+		before.saveOperands(l)
+		return nil
 	}
+	return f.storing(s, i)
+}
+
+// storing evaluates the operands of a left side of a, b = x, y before the stores.
+func (f *fctx) storing(s *ast.AssignStmt, i int) *storing {
 	f.hard = true
 	defer func() { f.hard = false }()
-	if ix, m := f.isMapIndex(s.Lhs[i]); m != nil {
-		make, store := f.entry(ix, m)
-		return &storing{make, store}
+	return f.storingNow(s, i)
+}
+
+// storingNow evaluates the operands of a left side of a, b = x, y.
+func (f *fctx) storingNow(s *ast.AssignStmt, i int) *storing {
+	l := s.Lhs[i]
+	if v := f.newVar(s, l); v != nil {
+		return &storing{store: func(x string) { f.declare(v, x) }}
 	}
-	return &storing{store: f.place(s.Lhs[i])}
+	if ix, m := f.isMapIndex(l); m != nil {
+		e := f.entry(ix, m)
+		return &storing{e, e.store}
+	}
+	return &storing{store: f.place(l)}
 }
 
 // storeLate stores a value, and evaluates what has not been evaluated yet: the operands of an entry of a map come before the
 // value, others behind it.
 func (f *fctx) storeLate(s *ast.AssignStmt, i int, to *storing, x string) {
 	if _, m := f.isMapIndex(s.Lhs[i]); to == nil && m != nil {
-		to = f.storing(s, i)
+		to = f.storingNow(s, i)
+	}
+	if to == nil {
+		f.copyOperands(s.Lhs[i])
 	}
 	if x == "" {
-		if to != nil && to.make != nil {
-			to.make()
+		if to != nil && to.entry != nil {
+			to.entry.make()
 		}
 		x = f.assigned(s, i)
 	}
 	if to == nil {
-		to = f.storing(s, i)
+		to = f.storingNow(s, i)
 	}
 	to.store(x)
 }
 
 // assigned is a value of a, b = x, y.
 func (f *fctx) assigned(s *ast.AssignStmt, i int) string {
-	r := s.Rhs[i]
-	t := f.lhsType(s.Lhs[i], f.typeOf(r))
+	return f.keptValue(f.rval(s.Rhs[i], f.storedType(s, i)))
+}
+
+// storedType is the type of the variable that a store of a, b = .. is to, nil for none.
+func (f *fctx) storedType(s *ast.AssignStmt, i int) types.Type {
 	if v := f.newVar(s, s.Lhs[i]); v != nil {
-		t = f.p.vtype(v)
+		return f.p.vtype(v)
 	}
-	x := f.rval(r, t)
-	if isLiteral(x) {
-		return x
-	}
-	return f.temp(x)
+	return f.lhsType(s.Lhs[i], nil)
 }
 
 func isBlank(e ast.Expr) bool {
@@ -538,22 +554,36 @@ func (f *fctx) storePart(s *ast.AssignStmt, l ast.Expr, x string, t types.Type) 
 	f.place(l)(f.convert(x, t, f.typeOf(l)))
 }
 
-// assignOne is l = value.
-func (f *fctx) assignOne(l ast.Expr, value func() string) {
+// assignOne is l = r, where the value is converted to t.
+func (f *fctx) assignOne(l, r ast.Expr, t types.Type) {
 	if isBlank(l) {
-		f.discard(value())
+		f.discard(f.rval(r, t))
 		return
+	}
+	if f.panicsBefore(l) {
+		if _, m := f.isMapIndex(l); m == nil {
+			f.copyOperands(l)
+		}
+		if f.panics(r) {
+			x := f.keptValue(f.rval(r, t))
+			f.place(l)(x)
+			return
+		}
 	}
 	var st func(string)
 	lb := f.capture(func() { st = f.place(l) })
 	if len(lb.lines) > 0 {
 		f.splice(lb)
-		x := value()
-		st(x)
-		return
 	}
-	x := value()
-	st(x)
+	st(f.rval(r, t))
+}
+
+// keptValue is a value in a variable, unless it is a literal.
+func (f *fctx) keptValue(x string) string {
+	if isLiteral(x) {
+		return x
+	}
+	return f.temp(x)
 }
 
 // place evaluates the operands of a left side, and gives the store to it.
@@ -565,8 +595,7 @@ func (f *fctx) place(l ast.Expr) func(string) {
 	}
 	t := f.typeOf(l)
 	if ix, m := f.isMapIndex(l); m != nil {
-		_, store := f.entry(ix, m)
-		return store
+		return f.entry(ix, m).store
 	}
 	lv := f.lvalue(l)
 	if isRef(t) {
@@ -576,7 +605,7 @@ func (f *fctx) place(l ast.Expr) func(string) {
 }
 
 // lvalue evaluates the operands of a left side. What it gives is called where the value is stored: it looks for nil pointers
-// and wrong indexes, and gives the text of the place.
+// and wrong indexes, and gives the text of the place. An array is found before an index that may panic.
 func (f *fctx) lvalue(l ast.Expr) func() string {
 	l = ast.Unparen(l)
 	switch l := l.(type) {
@@ -586,10 +615,14 @@ func (f *fctx) lvalue(l ast.Expr) func() string {
 		}
 		if u, ok := under(f.typeOf(l.X)).(*types.Array); ok {
 			a := f.lvalue(l.X)
+			if f.panics(l.Index) {
+				found := f.pin(a())
+				a = func() string { return found }
+			}
 			i := f.pin(f.expr(l.Index))
 			return func() string { return f.arrayElement(l, u, a(), i) }
 		}
-		xs := f.ordered(func() string { return f.expr(l.X) }, func() string { return f.expr(l.Index) })
+		xs := f.ordered(func() string { return f.indexed(l) }, func() string { return f.expr(l.Index) })
 		s, i := f.pin(xs[0]), f.pin(xs[1])
 		if u, ok := under(f.typeOf(l.X)).(*types.Slice); ok {
 			return func() string { return f.element(u.Elem(), s, i) }
@@ -676,28 +709,18 @@ func (f *fctx) calls(e ast.Expr, without func(ast.Expr) bool) bool {
 
 // opAssign is l op= e; without e it is l++ or l--.
 func (f *fctx) opAssign(l ast.Expr, op token.Token, e ast.Expr) {
-	p := f.p
 	t := f.typeOf(l)
 	if e != nil {
 		f.earlyIn([]ast.Expr{l}, []ast.Expr{e})
 	} else {
 		f.earlyIn([]ast.Expr{l}, nil)
 	}
-	if ix, ok := ast.Unparen(l).(*ast.IndexExpr); ok {
-		if m, ok := under(f.typeOf(ix.X)).(*types.Map); ok {
-			xs := f.ordered(func() string { return f.expr(ix.X) }, func() string { return f.rval(ix.Index, m.Key()) })
-			x, k := f.pin(xs[0]), f.hashable(m, f.pin(xs[1]), "")
-			calls := f.callsYet(e)
-			y := f.operand(op, e, t)
-			if calls {
-				y = f.pin(y)
-			}
-			old := fmt.Sprintf("%s(%s, %s)", p.mapFunc(m, "get"), x, k)
-			r := f.arith(op, t, old, y)
-			f.runtimeError(x+" == nil", "assignment to entry in nil map")
-			f.emit("%s(%s, %s, %s)", p.mapFunc(m, "put"), x, k, r)
-			return
-		}
+	if ix, m := f.isMapIndex(l); m != nil {
+		f.opAssignEntry(ix, m, op, e)
+		return
+	}
+	if f.panicsBefore(l) {
+		f.copyOperands(l)
 	}
 	place := f.lvalue(l)
 	y := ""
@@ -718,6 +741,37 @@ func (f *fctx) opAssign(l ast.Expr, op token.Token, e ast.Expr) {
 		return
 	}
 	f.emit("%s = %s", lv, r)
+}
+
+// opAssignEntry is m[k] op= e. Go's compiler evaluates e first, and makes the entry before the operation; if it divides, the
+// operands and the old value come before e, and the entry is made at the end.
+func (f *fctx) opAssignEntry(ix *ast.IndexExpr, m *types.Map, op token.Token, e ast.Expr) {
+	divides := op == token.QUO || op == token.REM
+	shifts := f.unwinds() && (op == token.SHL || op == token.SHR) && f.p.Info.Types[e].Value == nil && !isUnsigned(f.typeOf(e))
+	y := ""
+	if e != nil && !divides && f.valueFirst(ix, e) {
+		y = f.keptValue(f.expr(e))
+	}
+	entry := f.entry(ix, m)
+	if divides {
+		entry.key = f.hashable(m, entry.key, "")
+	}
+	switch calls := f.callsYet(e); {
+	case shifts:
+		if y == "" {
+			y = f.pin(f.expr(e))
+		}
+		entry.make()
+		y = f.counted(op, e, y)
+	case y != "":
+		y = f.counted(op, e, y)
+	default:
+		y = f.operand(op, e, m.Elem())
+		if calls {
+			y = f.pin(y)
+		}
+	}
+	entry.store(f.arith(op, f.typeOf(ix), entry.get(), y))
 }
 
 func (f *fctx) returnStmt(s *ast.ReturnStmt) {
@@ -803,8 +857,7 @@ func (f *fctx) condition(s *ast.IfStmt) string {
 		f.stmt(s.Init)
 		f.at(s.Cond.Pos())
 	}
-	f.early(s.Cond)
-	return f.expr(s.Cond)
+	return f.alone(s.Cond)
 }
 
 // branches is an if with its condition, and with how it begins.

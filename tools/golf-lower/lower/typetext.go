@@ -7,40 +7,53 @@ import (
 )
 
 // typeText is the name of a type as the run time of Go writes it: in %T, and in the texts of its errors.
-func typeText(t types.Type) string {
+func typeText(t types.Type) string { return namer(false).text(t) }
+
+// namer writes names of types. In arguments of types a package has its path, and so have names that are not exported.
+type namer bool
+
+// qualified is a name with its package.
+func (n namer) qualified(p *types.Package, name string) string {
+	switch {
+	case p == nil:
+		return name
+	case bool(n):
+		return p.Path() + "." + name
+	}
+	return p.Name() + "." + name
+}
+
+func (n namer) text(t types.Type) string {
 	switch t := types.Unalias(t).(type) {
 	case *types.Basic:
 		return types.Typ[t.Kind()].Name() // uint8 for byte
 	case *types.Named:
-		return namedText(t)
+		return n.named(t)
 	case *types.Pointer:
-		return "*" + typeText(t.Elem())
+		return "*" + n.text(t.Elem())
 	case *types.Slice:
-		return "[]" + typeText(t.Elem())
+		return "[]" + n.text(t.Elem())
 	case *types.Array:
-		return fmt.Sprintf("[%d]%s", t.Len(), typeText(t.Elem()))
+		return fmt.Sprintf("[%d]%s", t.Len(), n.text(t.Elem()))
 	case *types.Map:
-		return "map[" + typeText(t.Key()) + "]" + typeText(t.Elem())
+		return "map[" + n.text(t.Key()) + "]" + n.text(t.Elem())
 	case *types.Chan:
-		return chanText(t)
+		return n.channel(t)
 	case *types.Signature:
-		return "func" + signatureText(t)
+		return "func" + n.signature(t)
 	case *types.Struct:
-		return structText(t)
+		return n.structure(t)
 	case *types.Interface:
-		return interfaceText(t)
+		return n.iface(t)
 	}
 	return types.TypeString(t, (*types.Package).Name)
 }
 
-func namedText(t *types.Named) string {
-	s := t.Obj().Name()
-	if p := t.Obj().Pkg(); p != nil {
-		s = p.Name() + "." + s
-	}
+func (n namer) named(t *types.Named) string {
+	s := n.qualified(t.Obj().Pkg(), t.Obj().Name())
 	var args []string
 	for i := 0; i < t.TypeArgs().Len(); i++ {
-		args = append(args, typeText(t.TypeArgs().At(i)))
+		args = append(args, namer(true).text(t.TypeArgs().At(i)))
 	}
 	if args != nil {
 		s += "[" + strings.Join(args, ",") + "]"
@@ -48,8 +61,8 @@ func namedText(t *types.Named) string {
 	return s
 }
 
-func chanText(t *types.Chan) string {
-	e := typeText(t.Elem())
+func (n namer) channel(t *types.Chan) string {
+	e := n.text(t.Elem())
 	switch t.Dir() {
 	case types.SendOnly:
 		return "chan<- " + e
@@ -62,11 +75,11 @@ func chanText(t *types.Chan) string {
 	return "chan " + e
 }
 
-func signatureText(t *types.Signature) string {
+func (n namer) signature(t *types.Signature) string {
 	list := func(u *types.Tuple, variadic bool) string {
 		var s []string
 		for i := 0; i < u.Len(); i++ {
-			x := typeText(u.At(i).Type())
+			x := n.text(u.At(i).Type())
 			if variadic && i == u.Len()-1 {
 				x = "..." + strings.TrimPrefix(x, "[]")
 			}
@@ -84,13 +97,16 @@ func signatureText(t *types.Signature) string {
 	return s + " (" + list(t.Results(), false) + ")"
 }
 
-func structText(t *types.Struct) string {
+func (n namer) structure(t *types.Struct) string {
 	var s []string
 	for i := 0; i < t.NumFields(); i++ {
 		f := t.Field(i)
-		x := typeText(f.Type())
-		if !f.Embedded() {
-			x = f.Name() + " " + x
+		x := n.text(f.Type())
+		if name := f.Name(); !f.Embedded() {
+			if bool(n) && !f.Exported() {
+				name = n.qualified(f.Pkg(), name)
+			}
+			x = name + " " + x
 		}
 		if tag := t.Tag(i); tag != "" {
 			x += fmt.Sprintf(" %q", tag)
@@ -103,15 +119,15 @@ func structText(t *types.Struct) string {
 	return "struct { " + strings.Join(s, "; ") + " }"
 }
 
-func interfaceText(t *types.Interface) string {
+func (n namer) iface(t *types.Interface) string {
 	var s []string
 	for i := 0; i < t.NumMethods(); i++ {
 		m := t.Method(i)
 		name := m.Name()
-		if !m.Exported() && m.Pkg() != nil {
-			name = m.Pkg().Name() + "." + name
+		if !m.Exported() {
+			name = n.qualified(m.Pkg(), name)
 		}
-		s = append(s, name+signatureText(m.Signature()))
+		s = append(s, name+n.signature(m.Signature()))
 	}
 	if s == nil {
 		return "interface {}"

@@ -27,6 +27,7 @@ var (
 	i struct{}
 	j chan<- struct{}
 	k func()
+	l G[struct{ X, y int }, []T]
 )`, 0)
 	if err != nil {
 		t.Fatal(err)
@@ -48,6 +49,7 @@ var (
 		"i": "struct {}",
 		"j": "chan<- struct {}",
 		"k": "func()",
+		"l": "p.G[struct { X int; p.y int },[]p.T]",
 	} {
 		if got := typeText(pkg.Scope().Lookup(name).Type()); got != want {
 			t.Errorf("%s: %s, want %s", name, got, want)

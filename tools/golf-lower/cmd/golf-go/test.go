@@ -130,6 +130,8 @@ type harness struct {
 	words  *testWords
 	known  *verdict.Baseline
 	stderr io.Writer
+
+	launched launched
 }
 
 // oneAtATime is a writer for packages that are tested at the same time.

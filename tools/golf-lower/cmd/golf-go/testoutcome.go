@@ -48,7 +48,9 @@ func (r *testRun) once(a attempt) *outcome {
 
 // golf runs a program of golf on a lowered test. It is not ok if the program could not be run to its end.
 func (r *testRun) golf(low *lower.Output, variable, name string, line ...string) (out, errs string, ok bool) {
-	cmd := command(r.ctx, program(variable, name), line...)
+	path := program(variable, name)
+	cmd := command(r.ctx, r.launched.of(path), line...)
+	cmd.Env = tuned()
 	cmd.Stdin = strings.NewReader(low.Text)
 	var o, e bytes.Buffer
 	cmd.Stdout, cmd.Stderr = &o, &e
@@ -63,6 +65,7 @@ func (r *testRun) golf(low *lower.Output, variable, name string, line ...string)
 		r.fail(&startError{strings.TrimSpace(e.String())})
 		return "", "", false
 	}
+	r.launched.note(path, name)
 	return o.String(), e.String(), true
 }
 

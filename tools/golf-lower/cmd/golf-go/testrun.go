@@ -28,6 +28,7 @@ type testRun struct {
 	loader    *load.Loader
 	test      *verdict.Test
 	lowerings map[lowering]*lower.Output
+	needs     lower.Needs
 	leftOut   bool // it is told that a run was refused
 }
 
@@ -117,7 +118,7 @@ func (r *testRun) output(own words) *lower.Output {
 	key := lowering{own.late, own.pause, own.loose}
 	low, known := r.lowerings[key]
 	if !known && r.ctx.Err() == nil {
-		low, _ = lower.Loaded(r.loader, r.options(own)) // why it is refused is told by refused
+		low, _ = r.needs.Loaded(r.loader, r.options(own)) // why it is refused is told by refused
 		r.lowerings[key] = low
 	}
 	if low == nil || own.hold {

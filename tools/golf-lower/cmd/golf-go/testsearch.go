@@ -123,8 +123,13 @@ func (a *answer) note(t *verdict.Tried, w *testWords) {
 // found keeps the leak of an answer. A leak of a run by the loose clock does not count if the test fails in it.
 func (r *testRun) found(low *lower.Output, own words, a *answer) bool {
 	said, ok := strings.CutPrefix(a.first, "leak: ")
-	if !ok || len(a.leaks) == 0 {
+	if !ok {
 		return false
+	}
+	if len(a.leaks) == 0 { // no run has so many turns, so nobody is named
+		r.test.Kind = max(r.test.Kind, verdict.Leak)
+		r.test.Reasons = append(r.test.Reasons, a.first)
+		return true
 	}
 	schedule := strings.Fields(said)
 	if !strings.HasPrefix(said, "--") { // the numbers are more than words may have

@@ -1,7 +1,7 @@
 use Rattle.std.proofs.Common.{ap, ◌∙◌}
 use Rattle.golf_explore_command.specs.Texts.{note_line}
 use Rattle.golf_explore_command.specs.Answers.{IsAnswer}
-use Rattle.golf_explore_command.specs.declared.full_answers.Answer.{Answer}
+use Rattle.golf_explore_command.specs.declared.found_runs.Answer.{Answer}
 use Rattle.golf_explore_command.proofs.Searching.{note-lacks, note-fails, line-fails, search-lacks, answer-whole}
 use Rattle.golf_explore_command.proofs.Searching.{answer-fails, cut, short}
 use Rattle.golf_explore_command.proofs.top.tell_answer.Goals as goal
